@@ -1,0 +1,5 @@
+pub mod Choice
+pub mod Run
+pub mod Cut
+pub mod Ranges
+pub mod Table

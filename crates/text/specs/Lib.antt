@@ -1,0 +1,5 @@
+pub mod Blank
+pub mod BlankLaws
+pub mod Text
+pub mod TextLaws
+pub mod Parts
