@@ -1,8 +1,11 @@
--- Choice by a test, and what a conjunction of tests says.
+-- Choice by a test, what a conjunction of tests says, and the two cases of an order.
 use mathlib.Core.Path.{_≡_, refl}
 use mathlib.Core.Bool.{Bool, true, false, _&&_}
-use Prim.Native.Nat.{ℕ}
+use mathlib.Core.Logic.{_⊎_, inl, inr}
+use Prim.Native.Nat.{ℕ, _<_, _≤_}
 use native.Mathlib.Omega.{arith}
+use borrow.Author.Tests.{ltb-true, ltb-false}
+use lib.Dec.{ltb}
 
 -- the first where the test holds, otherwise the second
 abbrev pub pick : {A : Type 0} → Bool → A → A → A
@@ -22,3 +25,15 @@ and-right false b h = false-not-true h
 
 pub and-both : (a b : Bool) → a ≡ true → b ≡ true → a && b ≡ true
 and-both a b p q = rw (p, q) refl
+
+pub pick-same : {A : Type 0} (b : Bool) (a : A) → pick b a a ≡ a
+pick-same true a = refl
+pick-same false a = refl
+
+-- of two numbers the first is below the second or not
+pub below-or-not : (a b : ℕ) → (a < b) ⊎ (b ≤ a)
+below-or-not a b = go (ltb a b) refl
+  where
+    go : (t : Bool) → ltb a b ≡ t → (a < b) ⊎ (b ≤ a)
+    go true e = inl (ltb-true a b e)
+    go false e = inr (ltb-false a b e)

@@ -1,15 +1,13 @@
+-- `text::text_len` meets its contract.
 use mathlib.Core.Path.{_≡_, refl, sym, _∙_, ap}
-use Prim.Native.Nat.{_≤_, _-_}
+use Prim.Native.Nat.{_≤_}
 use lib.ListN.{length, take}
 use lib.Seq.{take-length, length-take-le}
 use Rattle.text.specs.Text.{trimmed}
 use Rattle.text.specs.TextLaws.{trimmed-blank-last, trimmed-byte-last, trimmed-none}
 use borrow.Author.Needs.{needs}
-use native.Mathlib.Omega.{arith}
 use Rattle.text.proofs.text_len.Statement.{statement}
 use Rattle.text.proofs.text_len.Tie as tie
-use Rattle.text.proofs.text_len.Reads as reads
-use Rattle.text.proofs.text_len.Lts as lts
 
 abbrev Inv-loop : tie.InvT-loop
 Inv-loop s n₀ n = (n ≤ length s) × (trimmed (take n s) ≡ trimmed s)
@@ -17,31 +15,24 @@ Inv-loop s n₀ n = (n ≤ length s) × (trimmed (take n s) ≡ trimmed s)
 abbrev μ-loop : tie.MeasureT-loop
 μ-loop s n₀ n = n
 
--- src/lib.rt:34:5
 loop-holds : tie.Need-loop-holds Inv-loop μ-loop
 loop-holds c = (search needs, rw take-length refl)
 
--- src/lib.rt:35:20
 sub-last : tie.Need-sub-last Inv-loop μ-loop
 sub-last c = search needs
 
--- src/lib.rt:36:12
 shared-slice-read-if1 : tie.Need-shared-slice-read-if1 Inv-loop μ-loop
 shared-slice-read-if1 c = search needs
 
--- src/lib.rt:37:13
 returns : tie.Need-returns Inv-loop μ-loop
 returns c = sym (ap length (sym (c .before .before .before .loop .inv .1) ∙ trimmed-byte-last _ _ (c .before .before .loop-test .taken) (c .before .before .before .loop .inv .0) (c .if1 .taken)) ∙ length-take-le _ _ (c .before .before .before .loop .inv .0))
 
--- src/lib.rt:34:5
 loop-less : tie.Need-loop-less Inv-loop μ-loop
 loop-less c = search needs
 
--- src/lib.rt:34:5
 loop-again : tie.Need-loop-again Inv-loop μ-loop
 loop-again c = (search needs, sym (trimmed-blank-last _ _ (c .before .before .loop-test .taken) (c .before .before .before .loop .inv .0) (c .if1 .left)) ∙ c .before .before .before .loop .inv .1)
 
--- src/lib.rt:30:1
 returns-2 : tie.Need-returns-2 Inv-loop μ-loop
 returns-2 c = sym (ap length (sym (c .before .loop .inv .1) ∙ trimmed-none _ _ (c .loop-test .left)))
 

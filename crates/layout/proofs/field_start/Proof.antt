@@ -1,0 +1,60 @@
+-- `layout::field_start` meets its contract.
+use Rattle.layout.specs.LayoutLaws.{fieldStart-past, fieldPast-inside}
+use native.Mathlib.Numerals.{add-one}
+use mathlib.Core.Path.{_≡_, refl, ap, _∙_}
+use Prim.Native.Nat.{_≤_, _-_}
+use Rattle.layout.specs.Columns.{fieldStart, fieldPast}
+use Rattle.layout.specs.Layout.{layoutOf}
+use Rattle.layout.specs.ColumnsLaws.{fieldStart-next}
+use borrow.Author.Needs.{needs}
+use native.Mathlib.Omega.{arith}
+use Rattle.layout.proofs.field_start.Statement.{statement}
+use Rattle.layout.proofs.field_start.Tie as tie
+
+abbrev Inv-loop : tie.InvT-loop
+Inv-loop case field at₀ k₀ at k = (k ≤ field) × (at ≡ fieldStart (layoutOf case .widths) k)
+
+abbrev μ-loop : tie.MeasureT-loop
+μ-loop case field at₀ k₀ at k = field - k
+
+loop-holds : tie.Need-loop-holds Inv-loop μ-loop
+unfolding fieldStart
+loop-holds c = (search needs, refl)
+
+returns : tie.Need-returns Inv-loop μ-loop
+returns c = c .before .before .loop .inv .1 ∙ fieldStart-past _ _ _ (c .if1 .taken) (c .before .before .loop .inv .0)
+
+field-width-requires : tie.Need-field-width-requires Inv-loop μ-loop
+field-width-requires c κs = search needs
+
+add-at : tie.Need-add-at Inv-loop μ-loop
+unfolding fieldPast
+add-at c = omega (arith, fieldPast-inside (c .before .before .before .before .args .case) (c .before .before .before .loop .k), c .field-width .ensures)
+
+add-k : tie.Need-add-k Inv-loop μ-loop
+add-k c = search needs
+
+loop-less : tie.Need-loop-less Inv-loop μ-loop
+loop-less c = search needs
+
+loop-again : tie.Need-loop-again Inv-loop μ-loop
+unfolding fieldPast
+loop-again c = (search needs, rw (add-one, fieldStart-next) (rw (c .before .before .before .loop .inv .1, c .field-width .ensures) refl))
+
+returns-2 : tie.Need-returns-2 Inv-loop μ-loop
+returns-2 c = let e : c .before .loop .k ≡ c .before .before .args .field = omega arith in c .before .loop .inv .1 ∙ ap (fieldStart (layoutOf (c .before .before .args .case) .widths)) e
+
+pub field-start-spec : {M : Type 1} → statement M
+field-start-spec =
+    tie.close
+    (tie.spec
+    Inv-loop
+    μ-loop
+    loop-holds
+    returns
+    field-width-requires
+    add-at
+    add-k
+    loop-less
+    loop-again
+    returns-2)
