@@ -1,0 +1,12 @@
+-- `line::is_allowed` meets its contract.
+use mathlib.Core.Path.{refl}
+use Rattle.line.specs.Line.{isAllowed}
+use Rattle.line.proofs.is_allowed.Statement.{statement}
+use Rattle.line.proofs.is_allowed.Tie as tie
+
+returns : tie.Need-returns
+unfolding isAllowed
+returns c = refl
+
+pub is-allowed-spec : {M : Type 1} → statement M
+is-allowed-spec = tie.close (tie.spec returns)
