@@ -1,0 +1,61 @@
+-- `integer_field`: from the state on, the bytes that are left give what all the bytes give from the start.
+use mathlib.Core.Path.{_≡_, refl, sym, ap, _∙_}
+use Prim.Native.Nat.{_≤_, _-_}
+use borrow.Author.Needs.{needs}
+use lib.ListN.{length, drop}
+use Rattle.laws.specs.Run.{run, run-next, run-done}
+use Rattle.integer.specs.Integer.{stepInteger, endInteger, integerOf}
+use Rattle.integer.proofs.integer_field.Statement.{statement}
+use Rattle.integer.proofs.integer_field.Tie as tie
+
+abbrev Inv-loop : tie.InvT-loop
+Inv-loop s st₀ i₀ st i = (i ≤ length s) × (run stepInteger st (drop i s) ≡ run stepInteger st₀ s)
+
+abbrev μ-loop : tie.MeasureT-loop
+μ-loop s st₀ i₀ st i = length s - i
+
+loop-holds : tie.Need-loop-holds Inv-loop μ-loop
+loop-holds c = (search needs, refl)
+
+shared-slice-read-scan-step : tie.Need-shared-slice-read-scan-step Inv-loop μ-loop
+shared-slice-read-scan-step c = search needs
+
+scan-step-requires : tie.Need-scan-step-requires Inv-loop μ-loop
+scan-step-requires c κs = search needs
+
+add-i : tie.Need-add-i Inv-loop μ-loop
+add-i c = search needs
+
+loop-less : tie.Need-loop-less Inv-loop μ-loop
+loop-less c = search needs
+
+loop-again : tie.Need-loop-again Inv-loop μ-loop
+loop-again c = (
+  search needs,
+  rw (c .scan-step .ensures)
+      (sym (run-next stepInteger _ _ _ (c .before .before .loop-test .taken)) ∙ c .before .before .before .loop .inv .1),
+)
+
+finish-requires : tie.Need-finish-requires Inv-loop μ-loop
+finish-requires c κs = search needs
+
+returns : tie.Need-returns Inv-loop μ-loop
+unfolding integerOf
+returns c =
+    c .finish .ensures
+    ∙ ap endInteger (sym (run-done stepInteger _ _ _ (c .before .loop-test .left)) ∙ c .before .before .loop .inv .1)
+
+pub integer-field-spec : {M : Type 1} → statement M
+integer-field-spec =
+    tie.close
+    (tie.spec
+    Inv-loop
+    μ-loop
+    loop-holds
+    shared-slice-read-scan-step
+    scan-step-requires
+    add-i
+    loop-less
+    loop-again
+    finish-requires
+    returns)
