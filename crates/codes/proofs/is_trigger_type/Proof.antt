@@ -1,0 +1,25 @@
+-- `codes::is_trigger_type` meets its contract.
+use mathlib.Core.Path.{refl, sym}
+use mathlib.Core.Bool.{true}
+use native.Mathlib.Omega.{arith}
+use lib.IntN.{pos}
+use Rattle.laws.specs.Ranges.{in-range}
+use Rattle.codes.specs.Rule.{keeps}
+use Rattle.codes.specs.RuleLaws.{keeps-past}
+use Rattle.codes.specs.Form.{triggerType}
+use Rattle.codes.proofs.is_trigger_type.Statement.{statement}
+use Rattle.codes.proofs.is_trigger_type.Tie as tie
+
+returns : tie.Need-returns
+unfolding keeps
+returns c = sym (in-range (λ v. keeps triggerType (pos v)) true 0 4 (c .before .args .code) refl (omega arith) (omega arith))
+
+returns-2 : tie.Need-returns-2
+returns-2 c = sym (keeps-past triggerType 4 _ refl (omega arith))
+
+pub is-trigger-type-spec : {M : Type 1} → statement M
+is-trigger-type-spec =
+    tie.close
+    (tie.spec
+    returns
+    returns-2)

@@ -1,0 +1,11 @@
+pub mod Spelling
+pub mod Real
+pub mod RealLaws
+pub mod ByteLaws
+pub mod EndLaws
+pub mod StepLaws
+pub mod Rest
+pub mod RestLaws
+pub mod RestComplete
+pub mod RestSound
+pub mod BlanksSound

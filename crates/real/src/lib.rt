@@ -1,0 +1,306 @@
+// Real fields of any width.
+ghost use mathlib.Core.Path.{_≡_};
+ghost use Prim.Native.Nat.{_^_};
+ghost use Rattle.real.specs.Real.{malformed, push, next, onCoefficient, onExponent, onDigit, onSign, onPoint, onLetter, onBlank, isLetter, scanStep, scaled, realEnd, realOf};
+use laws::wide;
+use text::is_digit;
+
+// A number as its columns spell it: coefficient × 10^scale with its sign kept, on zero too.
+// The scale is given by whether it is below zero, and its size.
+pub struct Number {
+    pub minus: bool,
+    pub coefficient: u64,
+    pub below: bool,
+    pub scale: u16,
+}
+
+// What a real field holds.
+pub enum Real {
+    Blank,
+    Malformed,
+    Value(Number),
+}
+
+// What is read so far: the phase, the sign, the digits as a number, how many they are and how many of them stand after the
+// point, whether the exponent's sign is a minus, and its digits as a number.
+// Phases: 0 only blanks, 1 the sign, 2 digits before the point, 3 the point and digits after it, 4 the letter, 5 the exponent's
+// sign, 6 to 8 one to three exponent digits, 9 malformed.
+pub struct Scan {
+    pub phase: u8,
+    pub minus: bool,
+    pub coefficient: u64,
+    pub digits: u8,
+    pub after: u8,
+    pub down: bool,
+    pub exponent: u16,
+}
+
+// A malformed field, whatever follows.
+fn malformed() -> Scan
+    ensures { λ r. ⌜ r ≡ malformed ⌝ }
+{
+    Scan {
+        phase: 9,
+        minus: false,
+        coefficient: 0,
+        digits: 0,
+        after: 0,
+        down: false,
+        exponent: 0,
+    }
+}
+
+// The coefficient with one digit more; from 10^18 on it stays.
+fn push_coefficient(m: u64, d: u8) -> u64
+    ensures { λ r. ⌜ r ≡ push (10 ^ 18) m d ⌝ }
+{
+    if m < 1000000000000000000 {
+        return m * 10 + wide(d);
+    }
+    m
+}
+
+// The exponent with one digit more; from 1000 on it stays.
+fn push_exponent(x: u16, d: u8) -> u16
+    ensures { λ r. ⌜ r ≡ push (10 ^ 3) x d ⌝ }
+{
+    if x < 1000 {
+        return x * 10 + (d as u16);
+    }
+    x
+}
+
+// One digit more after the point; 18 stay 18.
+fn next(f: u8) -> u8
+    ensures { λ r. ⌜ r ≡ next f ⌝ }
+{
+    if f < 18 {
+        return f + 1;
+    }
+    f
+}
+
+// A digit of the coefficient, which leads to this phase with f digits after the point; the 19th is malformed.
+fn on_coefficient(s: Scan, d: u8, phase: u8, f: u8) -> Scan
+    ensures { λ r. ⌜ r ≡ onCoefficient s d phase f ⌝ }
+{
+    if s.digits < 18 {
+        let c = push_coefficient(s.coefficient, d);
+        return Scan {
+            phase,
+            minus: s.minus,
+            coefficient: c,
+            digits: s.digits + 1,
+            after: f,
+            down: false,
+            exponent: 0,
+        };
+    }
+    malformed()
+}
+
+// A digit of the exponent, which stands after the exponent's sign; the fourth is malformed.
+fn on_exponent(s: Scan, d: u8) -> Scan
+    ensures { λ r. ⌜ r ≡ onExponent s d ⌝ }
+{
+    if s.phase < 5 {
+        return malformed();
+    }
+    if s.phase < 8 {
+        let x = push_exponent(s.exponent, d);
+        return Scan {
+            phase: s.phase + 1,
+            minus: s.minus,
+            coefficient: s.coefficient,
+            digits: s.digits,
+            after: s.after,
+            down: s.down,
+            exponent: x,
+        };
+    }
+    malformed()
+}
+
+// A digit: before the point, after it, or of the exponent.
+fn on_digit(s: Scan, d: u8) -> Scan
+    ensures { λ r. ⌜ r ≡ onDigit s d ⌝ }
+{
+    if s.phase < 3 {
+        return on_coefficient(s, d, 2, 0);
+    }
+    if s.phase == 3 {
+        return on_coefficient(s, d, 3, next(s.after));
+    }
+    on_exponent(s, d)
+}
+
+// A sign: after blanks, or after the letter.
+fn on_sign(s: Scan, minus: bool) -> Scan
+    ensures { λ r. ⌜ r ≡ onSign s minus ⌝ }
+{
+    if s.phase == 0 {
+        return Scan {
+            phase: 1,
+            minus,
+            coefficient: 0,
+            digits: 0,
+            after: 0,
+            down: false,
+            exponent: 0,
+        };
+    }
+    if s.phase == 4 {
+        return Scan {
+            phase: 5,
+            minus: s.minus,
+            coefficient: s.coefficient,
+            digits: s.digits,
+            after: s.after,
+            down: minus,
+            exponent: 0,
+        };
+    }
+    malformed()
+}
+
+// The point: after blanks, the sign or digits.
+fn on_point(s: Scan) -> Scan
+    ensures { λ r. ⌜ r ≡ onPoint s ⌝ }
+{
+    if s.phase < 3 {
+        return Scan {
+            phase: 3,
+            minus: s.minus,
+            coefficient: s.coefficient,
+            digits: s.digits,
+            after: 0,
+            down: false,
+            exponent: 0,
+        };
+    }
+    malformed()
+}
+
+// The letter: after the point and at least one digit.
+fn on_letter(s: Scan) -> Scan
+    ensures { λ r. ⌜ r ≡ onLetter s ⌝ }
+{
+    if s.phase == 3 {
+        if 1 <= s.digits {
+            return Scan {
+                phase: 4,
+                minus: s.minus,
+                coefficient: s.coefficient,
+                digits: s.digits,
+                after: s.after,
+                down: false,
+                exponent: 0,
+            };
+        }
+        return malformed();
+    }
+    malformed()
+}
+
+// A blank: after blanks.
+fn on_blank(s: Scan) -> Scan
+    ensures { λ r. ⌜ r ≡ onBlank s ⌝ }
+{
+    if 0 < s.phase {
+        return malformed();
+    }
+    s
+}
+
+// Whether the byte is E, e, D or d.
+fn is_letter(b: u8) -> bool
+    ensures { λ r. ⌜ r ≡ isLetter b ⌝ }
+{
+    ((b == 69) | (b == 101)) | ((b == 68) | (b == 100))
+}
+
+// What is read with one byte more.
+pub fn scan_step(s: Scan, b: u8) -> Scan
+    ensures { λ r. ⌜ r ≡ scanStep s b ⌝ }
+{
+    if is_digit(b) {
+        return on_digit(s, b - 48);
+    }
+    if b == 43 {
+        return on_sign(s, false);
+    }
+    if b == 45 {
+        return on_sign(s, true);
+    }
+    if b == 46 {
+        return on_point(s);
+    }
+    if is_letter(b) {
+        return on_letter(s);
+    }
+    if b == 32 {
+        return on_blank(s);
+    }
+    malformed()
+}
+
+// The number read, with this scale.
+fn scaled(s: Scan, below: bool, size: u16) -> Real
+    ensures { λ r. ⌜ r ≡ scaled s below size ⌝ }
+{
+    Real::Value(Number {
+        minus: s.minus,
+        coefficient: s.coefficient,
+        below,
+        scale: size,
+    })
+}
+
+// What the field holds, once all its bytes are read. No field leads to an exponent above 999.
+pub fn finish(s: Scan) -> Real
+    ensures { λ r. ⌜ r ≡ realEnd s ⌝ }
+{
+    if s.phase == 0 {
+        return Real::Blank;
+    }
+    if s.phase < 7 {
+        return Real::Malformed;
+    }
+    if 8 < s.phase {
+        return Real::Malformed;
+    }
+    if 999 < s.exponent {
+        return Real::Malformed;
+    }
+    let x = s.exponent;
+    let f = s.after as u16;
+    if s.down {
+        let size = x + f;
+        return scaled(s, 0 < size, size);
+    }
+    if x < f {
+        return scaled(s, true, f - x);
+    }
+    scaled(s, false, x - f)
+}
+
+// The real in these columns.
+pub fn real_field(s: &[u8]) -> Real
+    ensures { λ r. ⌜ r ≡ realOf (now (s .entry)) ⌝ }
+{
+    let mut st = Scan {
+        phase: 0,
+        minus: false,
+        coefficient: 0,
+        digits: 0,
+        after: 0,
+        down: false,
+        exponent: 0,
+    };
+    let mut i = 0;
+    while i < s.len() {
+        st = scan_step(st, s[i]);
+        i += 1;
+    }
+    finish(st)
+}
