@@ -1,5 +1,5 @@
 -- A table given by a function of the index.
-use mathlib.Core.Path.{_≡_, refl, _∙_}
+use mathlib.Core.Path.{_≡_, refl, sym, _∙_}
 use mathlib.Core.List.{List, [], _∷_}
 use Prim.Native.Nat.{ℕ, zero, suc, _+_, _<_}
 use native.Mathlib.Nat.{add-zero, zero-add, add-suc, suc-add, le-of-suc-le-suc, not-suc-le-zero}
@@ -18,3 +18,7 @@ module _ {A : Type 0} (f : ℕ → A) where
 
   pub table-at : (l : List A) (n k : ℕ) (d : A) → l ≡ tabulate 0 n → k < n → getD l k d ≡ f k
   table-at l n k d e h = rw e (from 0 n k d h ∙ rw zero-add refl)
+
+-- two functions that give the same table agree below its length
+pub agree-below : {A : Type 0} (f g : ℕ → A) (n k : ℕ) → tabulate f 0 n ≡ tabulate g 0 n → k < n → f k ≡ g k
+agree-below f g n k e h = sym (table-at f (tabulate f 0 n) n k (f k) refl h) ∙ table-at g (tabulate f 0 n) n k (f k) e h

@@ -74,10 +74,13 @@ unfolding cellOf
 cellOf-place-past c k h = simp (le-ltb k 6 (omega arith), ne-eqb k 6 (λ e. omega arith), ne-eqb k 7 (λ e. omega arith))
 
 -- the code's table: a row a case, its numbers by their place
+pub table-row : (t : List (List ℕ)) (c : ℕ) (d : List ℕ) → t ≡ tabulate (λ (i : ℕ). tabulate (cellOf i) 0 8) 0 8 → c < 8
+    → getD t c d ≡ tabulate (cellOf c) 0 8
+table-row t c d e h = table-at (λ (i : ℕ). tabulate (cellOf i) 0 8) t 8 c d e h
+
 pub table-cell : (t : List (List ℕ)) (c k : ℕ) (d : List ℕ) → t ≡ tabulate (λ (i : ℕ). tabulate (cellOf i) 0 8) 0 8 → c < 8 → k < 8
     → getD (getD t c d) k 0 ≡ cellOf c k
-table-cell t c k d e h l =
-    table-at (cellOf c) (getD t c d) 8 k 0 (table-at (λ (i : ℕ). tabulate (cellOf i) 0 8) t 8 c d e h) l
+table-cell t c k d e h l = table-at (cellOf c) (getD t c d) 8 k 0 (table-row t c d e h) l
 
 -- a field past the sixth begins where all of them end
 pub fieldStart-past : (c j k : ℕ) → 6 ≤ j → j ≤ k → fieldStart (layoutOf c .widths) j ≡ fieldStart (layoutOf c .widths) k

@@ -1,0 +1,55 @@
+-- `record::first_byte` meets its contract.
+use mathlib.Core.Path.{_≡_, refl, sym, _∙_}
+use Prim.Native.Nat.{_≤_, _-_, _+_}
+use lib.ListN.{take, drop}
+use Rattle.record.specs.Check.{firstByte}
+use Rattle.record.specs.CheckLaws.{firstByte-next, firstByte-here, firstByte-end}
+use borrow.Author.Needs.{needs}
+use native.Mathlib.Omega.{arith}
+use Rattle.record.proofs.first_byte.Statement.{statement}
+use Rattle.record.proofs.first_byte.Tie as tie
+
+abbrev Inv-loop : tie.InvT-loop
+Inv-loop line at past columns i₀ i = (at ≤ i) × ((i ≤ past) × (firstByte (i + 1) (take (past - i) (drop i line)) ≡ firstByte (at + 1) (take (past - at) (drop at line))))
+
+abbrev μ-loop : tie.MeasureT-loop
+μ-loop line at past columns i₀ i = past - i
+
+loop-holds : tie.Need-loop-holds Inv-loop μ-loop
+loop-holds c = (search needs, (search needs, refl))
+
+shared-slice-read-if1 : tie.Need-shared-slice-read-if1 Inv-loop μ-loop
+shared-slice-read-if1 c = search needs
+
+add-result : tie.Need-add-result Inv-loop μ-loop
+add-result c = search needs
+
+returns : tie.Need-returns Inv-loop μ-loop
+returns c = sym (sym (c .before .before .before .loop .inv .1 .1) ∙ firstByte-here _ _ _ (c .before .before .loop-test .taken) (omega arith) (c .if1 .taken))
+
+add-i : tie.Need-add-i Inv-loop μ-loop
+add-i c = search needs
+
+loop-less : tie.Need-loop-less Inv-loop μ-loop
+loop-less c = search needs
+
+loop-again : tie.Need-loop-again Inv-loop μ-loop
+loop-again c = (search needs, (search needs, sym (firstByte-next _ _ _ (c .before .before .loop-test .taken) (omega arith) (c .if1 .left)) ∙ c .before .before .before .loop .inv .1 .1))
+
+returns-2 : tie.Need-returns-2 Inv-loop μ-loop
+returns-2 c = sym (sym (c .before .loop .inv .1 .1) ∙ firstByte-end _ _ _ (c .loop-test .left))
+
+pub first-byte-spec : {M : Type 1} → statement M
+first-byte-spec =
+    tie.close
+    (tie.spec
+    Inv-loop
+    μ-loop
+    loop-holds
+    shared-slice-read-if1
+    add-result
+    returns
+    add-i
+    loop-less
+    loop-again
+    returns-2)

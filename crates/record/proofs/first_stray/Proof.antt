@@ -1,0 +1,80 @@
+-- `record::first_stray` meets its contract.
+use mathlib.Core.Path.{_≡_, refl, sym, _∙_}
+use Prim.Native.Nat.{_≤_, _-_, _+_}
+use lib.ListN.{length, drop}
+use Rattle.layout.specs.Columns.{total}
+use Rattle.record.specs.Check.{fieldList, stray}
+use Rattle.record.specs.CheckLaws.{field-fits, fields-fit, stray-stop, stray-here, stray-on, stray-end}
+use borrow.Author.Needs.{needs}
+use native.Mathlib.Omega.{arith}
+use Rattle.record.proofs.first_stray.Statement.{statement}
+use Rattle.record.proofs.first_stray.Tie as tie
+
+abbrev Inv-loop : tie.InvT-loop
+Inv-loop line forms widths at₀ k₀ at k = (k ≤ length widths) × ((at + total (drop k widths) ≤ 80) × (stray (fieldList (drop k forms) (drop k widths)) at line ≡ stray (fieldList forms widths) 0 line))
+
+abbrev μ-loop : tie.MeasureT-loop
+μ-loop line forms widths at₀ k₀ at k = length widths - k
+
+loop-holds : tie.Need-loop-holds Inv-loop μ-loop
+loop-holds c = (search needs, (search needs, refl))
+
+shared-slice-read-index : tie.Need-shared-slice-read-index Inv-loop μ-loop
+shared-slice-read-index c = search needs
+
+index-requires : tie.Need-index-requires Inv-loop μ-loop
+index-requires c κs = search needs
+
+first-byte-requires : tie.Need-first-byte-requires Inv-loop μ-loop
+first-byte-requires c κs = (search needs, search needs)
+
+returns : tie.Need-returns Inv-loop μ-loop
+returns c = c .first-byte .ensures ∙ sym (sym (c .before .before .before .before .before .loop .inv .1 .1) ∙ stray-stop _ _ _ _ _ _ (c .before .before .before .before .loop-test .taken) (c .before .before .before .before .before .before .before .before .pre .0) (c .before .before .index .ensures) (c .before .if1 .taken))
+
+shared-slice-read-stray-at : tie.Need-shared-slice-read-stray-at Inv-loop μ-loop
+shared-slice-read-stray-at c = search needs
+
+stray-at-requires : tie.Need-stray-at-requires Inv-loop μ-loop
+stray-at-requires c κs = field-fits (c .before .before .before .before .before .before .before .before .args .forms .now) (c .before .before .before .before .before .before .before .before .args .widths .now) (c .before .before .before .before .before .before .before .before .args .line .now) _ _ _ (c .before .before .before .before .loop-test .taken) (c .before .before .before .before .before .before .before .before .pre .0) (c .before .before .index .ensures) (c .before .before .before .before .before .loop .inv .1 .0)
+
+returns-2 : tie.Need-returns-2 Inv-loop μ-loop
+returns-2 c = sym (sym (c .before .before .before .before .before .before .before .loop .inv .1 .1) ∙ stray-here _ _ _ _ _ _ (c .before .before .before .before .before .before .loop-test .taken) (c .before .before .before .before .before .before .before .before .before .before .pre .0) (c .before .before .before .before .index .ensures) (c .before .before .before .if1 .left) _ (c .before .stray-at .ensures) (c .if2 .taken))
+
+add-at : tie.Need-add-at Inv-loop μ-loop
+add-at c = let f = field-fits (c .before .before .before .before .before .before .before .before .before .before .args .forms .now) (c .before .before .before .before .before .before .before .before .before .before .args .widths .now) (c .before .before .before .before .before .before .before .before .before .before .args .line .now) _ _ _ (c .before .before .before .before .before .before .loop-test .taken) (c .before .before .before .before .before .before .before .before .before .before .pre .0) (c .before .before .before .before .index .ensures) (c .before .before .before .before .before .before .before .loop .inv .1 .0) in omega arith
+
+add-k : tie.Need-add-k Inv-loop μ-loop
+add-k c = search needs
+
+loop-less : tie.Need-loop-less Inv-loop μ-loop
+loop-less c = search needs
+
+loop-again : tie.Need-loop-again Inv-loop μ-loop
+loop-again c = (search needs, (fields-fit (c .before .before .before .before .before .before .before .before .before .before .args .forms .now) (c .before .before .before .before .before .before .before .before .before .before .args .widths .now) (c .before .before .before .before .before .before .before .before .before .before .args .line .now) _ _ _ (c .before .before .before .before .before .before .loop-test .taken) (c .before .before .before .before .before .before .before .before .before .before .pre .0) (c .before .before .before .before .index .ensures) (c .before .before .before .before .before .before .before .loop .inv .1 .0), sym (stray-on _ _ _ _ _ _ (c .before .before .before .before .before .before .loop-test .taken) (c .before .before .before .before .before .before .before .before .before .before .pre .0) (c .before .before .before .before .index .ensures) (c .before .before .before .if1 .left) _ (c .before .stray-at .ensures) (c .if2 .left)) ∙ c .before .before .before .before .before .before .before .loop .inv .1 .1))
+
+first-byte-requires-2 : tie.Need-first-byte-requires-2 Inv-loop μ-loop
+first-byte-requires-2 c κs = (search needs, search needs)
+
+returns-3 : tie.Need-returns-3 Inv-loop μ-loop
+returns-3 c = c .first-byte2 .ensures ∙ sym (sym (c .before .before .loop .inv .1 .1) ∙ stray-end _ _ _ _ _ (c .before .loop-test .left))
+
+pub first-stray-spec : {M : Type 1} → statement M
+first-stray-spec =
+    tie.close
+    (tie.spec
+    Inv-loop
+    μ-loop
+    loop-holds
+    shared-slice-read-index
+    index-requires
+    first-byte-requires
+    returns
+    shared-slice-read-stray-at
+    stray-at-requires
+    returns-2
+    add-at
+    add-k
+    loop-less
+    loop-again
+    first-byte-requires-2
+    returns-3)

@@ -1,0 +1,148 @@
+-- The table of records: its conditions by their columns, and the code's constants.
+use mathlib.Core.Path.{_≡_, refl}
+use mathlib.Core.Bool.{Bool, true, false, _&&_}
+use mathlib.Core.List.{List, []}
+use Prim.Native.Nat.{ℕ, suc, _≤_, _<_}
+use native.Mathlib.Omega.{arith}
+use borrow.Author.Tests.{leb-true, eqb-true}
+use mathlib.Core.Logic.{⊎-elim}
+use lib.Dec.{leb, eqb}
+use lib.ListN.{length, getD, take, replicate, List·getD-eq-default}
+use lib.Seq.{take-all}
+use Rattle.laws.specs.Choice.{pick, false-not-true, and-left, and-right, below-or-not}
+use Rattle.laws.specs.Ranges.{allAre, in-range}
+use Rattle.laws.specs.Table.{tabulate, agree-below}
+use Rattle.integer.specs.Integer.{integerOf}
+use Rattle.real.specs.Real.{realOf}
+use Rattle.line.specs.Line.{refusal, passed}
+use Rattle.layout.specs.Columns.{fieldStart, total}
+use Rattle.layout.specs.Layout.{layouts, layoutOf, fieldsOf, valuesOf, cellOf}
+use Rattle.codes.specs.Form.{forms, formOf}
+use Rattle.field.specs.Item.{Item, isNought, isZero, isAboveZero}
+use Rattle.field.specs.Field.{columnsOf, integerItem, realItem}
+use Rattle.record.specs.Row.{Condition, none, zeroIfUneven, aboveZero, firstNotAbove, breach}
+use Rattle.record.specs.Records.{plain, records, recordOf, dataRow}
+use Rattle.record.specs.Check.{breachFault, itemsOf, conditionFault, fieldList}
+use Rattle.record.specs.Tabled.{Tabled}
+
+-- what the columns from a to before e hold: the integer 0, a zero, a number above zero
+abbrev pub noughtIn : ℕ → ℕ → List ℕ → Bool
+noughtIn a e line = isNought (integerItem (integerOf (columnsOf a e line)))
+
+abbrev pub zeroIn : ℕ → ℕ → List ℕ → Bool
+zeroIn a e line = isZero (realItem (realOf (columnsOf a e line)))
+
+abbrev pub aboveIn : ℕ → ℕ → List ℕ → Bool
+aboveIn a e line = isAboveZero (realItem (realOf (columnsOf a e line)))
+
+dataForm-cases : (a b c : Bool) → breachFault (recordOf 3 .fields) (pick a (pick b (pick c 0 5) 4) 0)
+    ≡ pick a (pick b (pick c passed (refusal 14 44)) (refusal 14 31)) passed
+unfolding recordOf records fieldStart
+dataForm-cases true true true = refl
+dataForm-cases true true false = refl
+dataForm-cases true false c = refl
+dataForm-cases false b c = refl
+
+-- 58's line 7
+pub conditionFault-data-form : (line : List ℕ) → conditionFault (recordOf 3) line
+    ≡ pick (noughtIn 20 30 line) (pick (zeroIn 30 43 line) (pick (zeroIn 43 56 line) passed (refusal 14 44)) (refusal 14 31)) passed
+unfolding conditionFault breach itemsOf recordOf records
+conditionFault-data-form line = dataForm-cases (noughtIn 20 30 line) (zeroIn 30 43 line) (zeroIn 43 56 line)
+
+factors-cases : (a b c : Bool) → breachFault (recordOf 10 .fields) (pick a (pick b (pick c 0 3) 2) 1)
+    ≡ pick a (pick b (pick c passed (refusal 14 51)) (refusal 14 26)) (refusal 14 1)
+unfolding recordOf records fieldStart
+factors-cases true true true = refl
+factors-cases true true false = refl
+factors-cases true false c = refl
+factors-cases false b c = refl
+
+-- 164's factors
+pub conditionFault-factors : (line : List ℕ) → conditionFault (recordOf 10) line
+    ≡ pick (aboveIn 0 25 line) (pick (aboveIn 25 50 line) (pick (aboveIn 50 75 line) passed (refusal 14 51)) (refusal 14 26)) (refusal 14 1)
+unfolding conditionFault breach firstNotAbove itemsOf recordOf records
+conditionFault-factors line = factors-cases (aboveIn 0 25 line) (aboveIn 25 50 line) (aboveIn 50 75 line)
+
+-- every other record asks nothing of its fields together
+abbrev isNone : Condition → Bool
+isNone none = true
+isNone zeroIfUneven = false
+isNone aboveZero = false
+
+isNone-breach : (d : Condition) (is : List Item) → isNone d ≡ true → breach d is ≡ 0
+unfolding breach
+isNone-breach none is t = refl
+isNone-breach zeroIfUneven is t = false-not-true t
+isNone-breach aboveZero is t = false-not-true t
+
+abbrev unbound : ℕ → Bool
+unbound k = isNone (recordOf k .condition)
+
+recordOf-past : (k : ℕ) → 30 ≤ k → recordOf k ≡ plain []
+unfolding recordOf records
+recordOf-past k h = List·getD-eq-default records (plain []) h
+
+-- the records by number but 3 and 10: two ranges, and those past the last
+unbound-others : (k : ℕ) → (k ≡ 3 → ⊥) → (k ≡ 10 → ⊥) → unbound k ≡ true
+unfolding recordOf records
+unbound-others k a b =
+    ⊎-elim (λ h. in-range unbound true 0 3 k refl (omega arith) h)
+    (λ h. ⊎-elim (λ l. in-range unbound true 4 6 k refl (above h a) l)
+    (λ h′. ⊎-elim (λ l. in-range unbound true 11 19 k refl (above h′ b) l) (λ m. rw (recordOf-past k m) refl) (below-or-not k 30))
+    (below-or-not k 10))
+    (below-or-not k 3)
+  where
+    above : {m : ℕ} → m ≤ k → (k ≡ m → ⊥) → suc m ≤ k
+    above h n = omega arith
+
+pub conditionFault-none : (k : ℕ) (line : List ℕ) → (k ≡ 3 → ⊥) → (k ≡ 10 → ⊥) → conditionFault (recordOf k) line ≡ passed
+unfolding conditionFault
+conditionFault-none k line a b = rw (isNone-breach (recordOf k .condition) (itemsOf (recordOf k .fields) 0 line) (unbound-others k a b)) refl
+
+-- the code's two tables give the records' fields, which fit the line
+module _ (fss wss : List (List ℕ)) (d e : List ℕ) (k : ℕ) (h : k < 30) where
+  abbrev wide : ℕ → Bool
+  wide i = leb (total (getD wss i e)) 80 && (eqb (length (getD fss i d)) 12 && eqb (length (getD wss i e)) 12)
+
+  pub tabled : tabulate (λ (i : ℕ). fieldList (getD fss i d) (getD wss i e)) 0 30 ≡ tabulate (λ (i : ℕ). recordOf i .fields) 0 30
+      → allAre wide true 0 30 ≡ true → Tabled k (getD fss k d) (getD wss k e)
+  tabled t u =
+      let w : wide k ≡ true = in-range wide true 0 30 k u (omega arith) (omega arith) in
+      record {
+        listed = agree-below (λ (i : ℕ). fieldList (getD fss i d) (getD wss i e)) (λ (i : ℕ). recordOf i .fields) 30 k t h;
+        fits = leb-true _ _ (and-left (leb (total (getD wss k e)) 80) _ w);
+        forms-all = eqb-true _ _ (and-left (eqb (length (getD fss k d)) 12) _ (and-right (leb (total (getD wss k e)) 80) _ w));
+        widths-all = eqb-true _ _ (and-right (eqb (length (getD fss k d)) 12) _ (and-right (leb (total (getD wss k e)) 80) _ w));
+      }
+
+-- a data line's six widths, all reals
+module _ (c : ℕ) (ws : List ℕ) (h : c < 8) (e : ws ≡ tabulate (cellOf c) 0 6) where
+  pub data-fields : fieldList (replicate 6 3) ws ≡ dataRow c .fields
+  unfolding fieldList formOf forms dataRow cellOf layoutOf layouts fieldsOf valuesOf
+  data-fields = rw e (agree-below (λ (i : ℕ). fieldList (replicate 6 3) (tabulate (cellOf i) 0 6)) (λ (i : ℕ). dataRow i .fields) 8 c refl h)
+
+  pub data-fits : total ws ≤ 80
+  unfolding total cellOf layoutOf layouts fieldsOf valuesOf
+  data-fits = rw e (leb-true _ _ (in-range (λ (i : ℕ). leb (total (tabulate (cellOf i) 0 6)) 80) true 0 8 c refl (omega arith) (omega arith)))
+
+  pub data-six : length ws ≡ 6
+  data-six = rw e refl
+
+-- no record has more than twelve fields, no data line more than six
+abbrev twelve : ℕ → Bool
+twelve k = leb (length (recordOf k .fields)) 12
+
+pub fields-all : (k n : ℕ) → k < 30 → 12 ≤ n → take n (recordOf k .fields) ≡ recordOf k .fields
+unfolding recordOf records
+fields-all k n h m =
+    let l : length (recordOf k .fields) ≤ 12 = leb-true _ _ (in-range twelve true 0 30 k refl (omega arith) (omega arith)) in
+    take-all n (recordOf k .fields) (omega arith)
+
+abbrev six : ℕ → Bool
+six c = leb (length (dataRow c .fields)) 6
+
+pub data-all : (c n : ℕ) → c < 8 → 6 ≤ n → take n (dataRow c .fields) ≡ dataRow c .fields
+unfolding dataRow layoutOf layouts
+data-all c n h m =
+    let l : length (dataRow c .fields) ≤ 6 = leb-true _ _ (in-range six true 0 8 c refl (omega arith) (omega arith)) in
+    take-all n (dataRow c .fields) (omega arith)

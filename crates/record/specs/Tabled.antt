@@ -1,0 +1,14 @@
+-- What a row of the code's two tables is: forms by number and widths, twelve of each, that give a record's fields and fit the line.
+use mathlib.Core.Path.{_≡_}
+use mathlib.Core.List.{List}
+use Prim.Native.Nat.{ℕ, _≤_}
+use lib.ListN.{length}
+use Rattle.layout.specs.Columns.{total}
+use Rattle.record.specs.Records.{recordOf}
+use Rattle.record.specs.Check.{fieldList}
+
+pub record Tabled (k : ℕ) (fs ws : List ℕ) : Type 0 where
+  pub listed : fieldList fs ws ≡ recordOf k .fields
+  pub fits : total ws ≤ 80
+  pub forms-all : length fs ≡ 12
+  pub widths-all : length ws ≡ 12

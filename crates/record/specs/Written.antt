@@ -1,0 +1,44 @@
+-- How a typed set's line is written (01, "Lines and sets": "A typed set's line, filled with blanks to column 80, has each due
+-- field's item in its columns and blanks elsewhere: a text from the first column, an integer or real in any spelling above that
+-- means it (a real with just its sign, coefficient and scale), a blank one as blanks").
+use mathlib.Core.Path.{_≡_}
+use mathlib.Core.Bool.{Bool, true}
+use mathlib.Core.List.{List, [], _∷_, _++_}
+use Prim.Native.Nat.{ℕ, _≤_}
+use lib.IntN.{ℤ}
+use lib.ListN.{length}
+use Rattle.text.specs.Blank.{Blanks}
+use Rattle.text.specs.Text.{TextIn}
+use Rattle.text.specs.Parts.{signed}
+use Rattle.integer.specs.Spelling.{IntegerSpelling, limit}
+use Rattle.real.specs.Spelling.{RealSpelling}
+use Rattle.codes.specs.Rule.{Rule, keeps}
+use Rattle.codes.specs.Form.{Form, Optional, skip, text, title, real, integer, within}
+use Rattle.field.specs.Item.{Item}
+use Rattle.record.specs.Row.{Field, Row, breach}
+use Rattle.field.specs.Field.{columnsOf}
+
+module _ (line : List ℕ) where
+  -- the item stands in a field's columns, and keeps the field's rule
+  pub data Stands : Form → Item → List ℕ → Type 0 where
+    a-text : {t cols : List ℕ} → TextIn t cols → Stands text (Item.text t) cols
+    a-title : {t cols : List ℕ} → TextIn t cols → (t ≡ [] → ⊥) → Stands title (Item.text t) cols
+    an-integer : {r : Rule} {o : Optional} {n : Bool} {v : ℕ} {cols : List ℕ}
+        → IntegerSpelling n v cols → v ≤ limit n → keeps r (signed n v) ≡ true → Stands (integer r o) (Item.integer (signed n v)) cols
+    -- an integer may be left blank only where it is named, with all the columns named
+    a-blank : {r : Rule} {a e : ℕ} {cols : List ℕ}
+        → Blanks cols → Blanks (columnsOf a e line) → Stands (integer r (within a e)) Item.blank cols
+    a-real : {n : Bool} {c : ℕ} {s : ℤ} {cols : List ℕ} → RealSpelling n c s cols → Stands real (Item.real n c s) cols
+
+  -- the items stand in the columns of the fields, one after the other, with blanks elsewhere
+  pub data FieldsIn : List Field → List Item → List ℕ → Type 0 where
+    rest : {cols : List ℕ} → Blanks cols → FieldsIn [] [] cols
+    skipped : {w : ℕ} {fs : List Field} {is : List Item} (bl cols : List ℕ)
+        → length bl ≡ w → Blanks bl → FieldsIn fs is cols → FieldsIn (record { form = skip; width = w } ∷ fs) is (bl ++ cols)
+    stands : {form : Form} {w : ℕ} {fs : List Field} {i : Item} {is : List Item} (own cols : List ℕ)
+        → length own ≡ w → Stands form i own → FieldsIn fs is cols → FieldsIn (record { form = form; width = w } ∷ fs) (i ∷ is) (own ++ cols)
+
+-- the line's 80 columns are a writing of the items by the row
+pub record Written (r : Row) (is : List Item) (line : List ℕ) : Type 0 where
+  pub in-columns : FieldsIn line (r .fields) is line
+  pub condition : breach (r .condition) is ≡ 0

@@ -1,0 +1,437 @@
+// The records of 58, 82, 151, 164 and 1815 as one table, and a line checked against its row.
+ghost use mathlib.Core.Path.{_≡_};
+ghost use Prim.Native.Nat.{_≤_, _<_, _+_, _-_};
+ghost use lib.ListN.{length, take, drop};
+ghost use Rattle.codes.specs.Form.{formOf};
+ghost use Rattle.layout.specs.Columns.{total};
+ghost use Rattle.field.specs.Field.{mayBlank, fieldNumber};
+ghost use Rattle.record.specs.Records.{recordOf, dataRow};
+ghost use Rattle.record.specs.Tabled.{Tabled};
+ghost use Rattle.record.specs.Check.{fieldList, fieldsFault, firstByte, strayIn, stray, fieldsRefusal, conditionFault, rowRefusal};
+use codes::ACQUISITION_MONITOR;
+use codes::ACQUISITION_RESULTS;
+use codes::AMPLITUDE_UNITS;
+use codes::AUTORANGE_METHOD;
+use codes::BACKGROUND_GRID;
+use codes::COUNT;
+use codes::DATA_TYPE;
+use codes::DELAY_TYPE;
+use codes::DIRECTION;
+use codes::DISPLAY_UNITS;
+use codes::DUPLICATE_OPTION;
+use codes::ENTRIES;
+use codes::FILE_TYPE;
+use codes::FROM_ONE;
+use codes::FROM_ZERO;
+use codes::FUNCTION_TYPE;
+use codes::ORDERS;
+use codes::ORDINATE_TYPE;
+use codes::POWER_ACCUMULATION;
+use codes::SLOPE;
+use codes::SPACING;
+use codes::TEMPERATURE_MODE;
+use codes::TRIGGER_TYPE;
+use codes::UNITS_CODE;
+use codes::VERSION;
+use codes::WINDOW;
+use laws::index;
+use line::Refusal;
+
+// The forms that need no rule, by their letter in a FORMAT; T is a text that may not be blank.
+const A: u8 = codes::TEXT;
+
+const E: u8 = codes::REAL;
+
+const I: u8 = codes::INTEGER;
+
+const T: u8 = codes::TITLE;
+
+const X: u8 = codes::SKIP;
+
+// The records, by number; specs/Records.antt has their meaning in the same order.
+pub const TEXT_LINE: usize = 0;
+
+pub const TITLE_LINE: usize = 1;
+
+pub const DEGREES_OF_FREEDOM: usize = 2;
+
+pub const DATA_FORM: usize = 3;
+
+pub const AXIS: usize = 4;
+
+pub const TRACE: usize = 5;
+
+pub const TRACE_ENTRIES: usize = 6;
+
+pub const CREATED: usize = 7;
+
+pub const SAVED: usize = 8;
+
+pub const UNITS: usize = 9;
+
+pub const FACTORS: usize = 10;
+
+pub const OFFSET: usize = 11;
+
+pub const ORDER_RECORD_1: usize = 12;
+
+pub const ORDER_COUNTS: usize = 28;
+
+pub const ORDER_LIST: usize = 29;
+
+// The forms of each record's fields.
+const FORMS: [[u8; 12]; 30] = [
+    [A, X, X, X, X, X, X, X, X, X, X, X],
+    [T, X, X, X, X, X, X, X, X, X, X, X],
+    [
+        FUNCTION_TYPE,
+        I,
+        I,
+        I,
+        X,
+        A,
+        I,
+        DIRECTION,
+        X,
+        A,
+        I,
+        DIRECTION,
+    ],
+    [ORDINATE_TYPE, COUNT, SPACING, E, E, E, X, X, X, X, X, X],
+    [DATA_TYPE, I, I, I, X, A, X, A, X, X, X, X],
+    [FROM_ONE, ENTRIES, FROM_ZERO, X, X, X, X, X, X, X, X, X],
+    [
+        FROM_ZERO,
+        FROM_ZERO,
+        FROM_ZERO,
+        FROM_ZERO,
+        FROM_ZERO,
+        FROM_ZERO,
+        FROM_ZERO,
+        FROM_ZERO,
+        X,
+        X,
+        X,
+        X,
+    ],
+    [A, A, VERSION, VERSION, FILE_TYPE, X, X, X, X, X, X, X],
+    [A, A, X, X, X, X, X, X, X, X, X, X],
+    [UNITS_CODE, A, TEMPERATURE_MODE, X, X, X, X, X, X, X, X, X],
+    [E, E, E, X, X, X, X, X, X, X, X, X],
+    [E, X, X, X, X, X, X, X, X, X, X, X],
+    [I, A, X, X, X, X, X, X, X, X, X, X],
+    [E, E, X, X, X, X, X, X, X, X, X, X],
+    [I, TRIGGER_TYPE, I, DUPLICATE_OPTION, I, X, X, X, X, X, X, X],
+    [E, E, E, I, I, X, X, X, X, X, X, X],
+    [E, I, I, WINDOW, X, X, X, X, X, X, X, X],
+    [I, X, X, X, X, X, X, X, X, X, X, X],
+    [SLOPE, E, X, X, X, X, X, X, X, X, X, X],
+    [I, DELAY_TYPE, I, E, E, X, X, X, X, X, X, X],
+    [I, AUTORANGE_METHOD, E, E, E, X, X, X, X, X, X, X],
+    [
+        ACQUISITION_RESULTS,
+        POWER_ACCUMULATION,
+        AMPLITUDE_UNITS,
+        I,
+        I,
+        I,
+        I,
+        I,
+        I,
+        I,
+        I,
+        X,
+    ],
+    [A, X, X, X, X, X, X, X, X, X, X, X],
+    [
+        I,
+        DISPLAY_UNITS,
+        BACKGROUND_GRID,
+        ACQUISITION_MONITOR,
+        I,
+        X,
+        X,
+        X,
+        X,
+        X,
+        X,
+        X,
+    ],
+    [I, E, E, X, X, X, X, X, X, X, X, X],
+    [I, I, E, X, X, X, X, X, X, X, X, X],
+    [I, X, X, X, X, X, X, X, X, X, X, X],
+    [I, I, I, X, X, X, X, X, X, X, X, X],
+    [ORDERS, ORDERS, X, X, X, X, X, X, X, X, X, X],
+    [E, E, E, E, E, X, X, X, X, X, X, X],
+];
+
+// The widths of each record's fields; a width of 0 ends the record.
+const WIDTHS: [[u8; 12]; 30] = [
+    [80, 0, 0, 0, 0, 0, 0, 0, 0, 0, 0, 0],
+    [80, 0, 0, 0, 0, 0, 0, 0, 0, 0, 0, 0],
+    [5, 10, 5, 10, 1, 10, 10, 4, 1, 10, 10, 4],
+    [10, 10, 10, 13, 13, 13, 0, 0, 0, 0, 0, 0],
+    [10, 5, 5, 5, 1, 20, 1, 20, 0, 0, 0, 0],
+    [10, 10, 10, 0, 0, 0, 0, 0, 0, 0, 0, 0],
+    [10, 10, 10, 10, 10, 10, 10, 10, 0, 0, 0, 0],
+    [10, 10, 10, 10, 10, 0, 0, 0, 0, 0, 0, 0],
+    [10, 10, 0, 0, 0, 0, 0, 0, 0, 0, 0, 0],
+    [10, 20, 10, 0, 0, 0, 0, 0, 0, 0, 0, 0],
+    [25, 25, 25, 0, 0, 0, 0, 0, 0, 0, 0, 0],
+    [25, 0, 0, 0, 0, 0, 0, 0, 0, 0, 0, 0],
+    [12, 20, 0, 0, 0, 0, 0, 0, 0, 0, 0, 0],
+    [15, 15, 0, 0, 0, 0, 0, 0, 0, 0, 0, 0],
+    [2, 6, 2, 6, 12, 0, 0, 0, 0, 0, 0, 0],
+    [15, 15, 15, 12, 2, 0, 0, 0, 0, 0, 0, 0],
+    [15, 2, 12, 6, 0, 0, 0, 0, 0, 0, 0, 0],
+    [12, 0, 0, 0, 0, 0, 0, 0, 0, 0, 0, 0],
+    [6, 15, 0, 0, 0, 0, 0, 0, 0, 0, 0, 0],
+    [2, 6, 12, 15, 15, 0, 0, 0, 0, 0, 0, 0],
+    [2, 6, 15, 15, 15, 0, 0, 0, 0, 0, 0, 0],
+    [6, 6, 6, 2, 2, 2, 2, 2, 2, 2, 2, 0],
+    [20, 0, 0, 0, 0, 0, 0, 0, 0, 0, 0, 0],
+    [12, 6, 6, 6, 2, 0, 0, 0, 0, 0, 0, 0],
+    [6, 15, 15, 0, 0, 0, 0, 0, 0, 0, 0, 0],
+    [2, 12, 15, 0, 0, 0, 0, 0, 0, 0, 0, 0],
+    [2, 0, 0, 0, 0, 0, 0, 0, 0, 0, 0, 0],
+    [2, 2, 12, 0, 0, 0, 0, 0, 0, 0, 0, 0],
+    [12, 12, 0, 0, 0, 0, 0, 0, 0, 0, 0, 0],
+    [15, 15, 15, 15, 15, 0, 0, 0, 0, 0, 0, 0],
+];
+
+// Nothing is wrong.
+const PASSED: Refusal = Refusal {
+    number: 0,
+    column: 0,
+};
+
+// The number of the refusal of a field of this form in the columns from `at` on; 0 where it passes.
+fn number_at(line: &[u8; 80], form: u8, at: usize, width: usize) -> u8
+    requires { ⌜ at + width ≤ 80 ⌝ }
+    ensures { λ r. ⌜ r ≡ fieldNumber (formOf form) (mayBlank (formOf form) (now (line .entry))) (take width (drop at (now (line .entry)))) ⌝ }
+{
+    let columns: &[u8] = line;
+    let past = at + width;
+    field::field_number(form, field::may_blank(form, line), &columns[at..past])
+}
+
+// The first refusal of the fields, left to right; number 0 where they pass.
+fn check_fields(line: &[u8; 80], forms: &[u8], widths: &[u8]) -> Refusal
+    requires { ⌜ (length (now widths) ≤ length (now forms)) × (total (now widths) ≤ 80) ⌝ }
+    ensures { λ r. ⌜ r ≡ fieldsFault (fieldList (now (forms .entry)) (now (widths .entry))) 0 (now (line .entry)) ⌝ }
+{
+    let mut at = 0;
+    let mut k = 0;
+    while k < widths.len() {
+        let width = index(widths[k]);
+        if width == 0 {
+            return PASSED;
+        }
+        let number = number_at(line, forms[k], at, width);
+        if 0 < number {
+            return Refusal {
+                number,
+                column: at + 1,
+            };
+        }
+        at += width;
+        k += 1;
+    }
+    PASSED
+}
+
+// The column, from 1, of the first byte of the columns from `at` to before `past` that is no blank; 0 where all are.
+fn first_byte(line: &[u8; 80], at: usize, past: usize) -> usize
+    requires { ⌜ (at ≤ past) × (past ≤ 80) ⌝ }
+    ensures { λ r. ⌜ r ≡ firstByte (at + 1) (take (past - at) (drop at (now (line .entry)))) ⌝ }
+{
+    let columns: &[u8] = line;
+    let mut i = at;
+    while i < past {
+        if columns[i] != 32 {
+            return i + 1;
+        }
+        i += 1;
+    }
+    0
+}
+
+// The same in the columns of a field of this form; only skipped columns lie outside the fields.
+fn stray_at(line: &[u8; 80], form: u8, at: usize, width: usize) -> usize
+    requires { ⌜ at + width ≤ 80 ⌝ }
+    ensures { λ r. ⌜ r ≡ strayIn (formOf form) (at + 1) (take width (drop at (now (line .entry)))) ⌝ }
+{
+    if form == X {
+        return first_byte(line, at, at + width);
+    }
+    if ORDERS < form {
+        return first_byte(line, at, at + width);
+    }
+    0
+}
+
+// The column of the first byte outside the fields that is no blank; 0 where there is none.
+fn first_stray(line: &[u8; 80], forms: &[u8], widths: &[u8]) -> usize
+    requires { ⌜ (length (now widths) ≤ length (now forms)) × (total (now widths) ≤ 80) ⌝ }
+    ensures { λ r. ⌜ r ≡ stray (fieldList (now (forms .entry)) (now (widths .entry))) 0 (now (line .entry)) ⌝ }
+{
+    let mut at = 0;
+    let mut k = 0;
+    while k < widths.len() {
+        let width = index(widths[k]);
+        if width == 0 {
+            return first_byte(line, at, 80);
+        }
+        let column = stray_at(line, forms[k], at, width);
+        if 0 < column {
+            return column;
+        }
+        at += width;
+        k += 1;
+    }
+    first_byte(line, at, 80)
+}
+
+// The first refusal of a line by its fields: their own, then 13; number 0 where it passes.
+pub fn check_columns(line: &[u8; 80], forms: &[u8], widths: &[u8]) -> Refusal
+    requires { ⌜ (length (now widths) ≤ length (now forms)) × (total (now widths) ≤ 80) ⌝ }
+    ensures { λ r. ⌜ r ≡ fieldsRefusal (fieldList (now (forms .entry)) (now (widths .entry))) (now (line .entry)) ⌝ }
+{
+    let found = check_fields(line, forms, widths);
+    if 0 < found.number {
+        return found;
+    }
+    let column = first_stray(line, forms, widths);
+    if 0 < column {
+        return Refusal { number: 13, column };
+    }
+    PASSED
+}
+
+// 58's line 7: with spacing 0 the minimum and the increment must be zero, or 14 at the earlier of them that is not.
+fn check_data_form(line: &[u8; 80]) -> Refusal
+    ensures { λ r. ⌜ r ≡ conditionFault (recordOf 3) (now (line .entry)) ⌝ }
+{
+    let columns: &[u8] = line;
+    if field::is_nought(&columns[20..30]) {
+        if field::is_zero(&columns[30..43]) {
+            if field::is_zero(&columns[43..56]) {
+                return PASSED;
+            }
+            return Refusal {
+                number: 14,
+                column: 44,
+            };
+        }
+        return Refusal {
+            number: 14,
+            column: 31,
+        };
+    }
+    PASSED
+}
+
+// 164's factors: each must be above zero, or 14 at the first that is not.
+fn check_factors(line: &[u8; 80]) -> Refusal
+    ensures { λ r. ⌜ r ≡ conditionFault (recordOf 10) (now (line .entry)) ⌝ }
+{
+    let columns: &[u8] = line;
+    if field::is_above_zero(&columns[0..25]) {
+        if field::is_above_zero(&columns[25..50]) {
+            if field::is_above_zero(&columns[50..75]) {
+                return PASSED;
+            }
+            return Refusal {
+                number: 14,
+                column: 51,
+            };
+        }
+        return Refusal {
+            number: 14,
+            column: 26,
+        };
+    }
+    Refusal {
+        number: 14,
+        column: 1,
+    }
+}
+
+// The refusal of a record's fields together; only 58's line 7 and 164's factors have one.
+fn check_condition(line: &[u8; 80], row: usize) -> Refusal
+    ensures { λ r. ⌜ r ≡ conditionFault (recordOf row) (now (line .entry)) ⌝ }
+{
+    if row == DATA_FORM {
+        return check_data_form(line);
+    }
+    if row == FACTORS {
+        return check_factors(line);
+    }
+    PASSED
+}
+
+// A record's row of the two tables.
+pub struct RowNumbers {
+    pub forms: [u8; 12],
+    pub widths: [u8; 12],
+}
+
+// The row of a record.
+fn row_numbers(row: usize) -> RowNumbers
+    requires { ⌜ row < 30 ⌝ }
+    ensures { λ r. ⌜ Tabled row (r .forms) (r .widths) ⌝ }
+{
+    let forms = FORMS[row];
+    let widths = WIDTHS[row];
+    RowNumbers { forms, widths }
+}
+
+// The first refusal of a line by a record's fields: their own, then 13.
+fn check_whole(line: &[u8; 80], row: usize) -> Refusal
+    requires { ⌜ row < 30 ⌝ }
+    ensures { λ r. ⌜ r ≡ fieldsRefusal (recordOf row .fields) (now (line .entry)) ⌝ }
+{
+    let numbers = row_numbers(row);
+    let forms = numbers.forms;
+    let widths = numbers.widths;
+    check_columns(line, &forms, &widths)
+}
+
+// The first refusal of a line by a record.
+pub fn check_record(line: &[u8; 80], row: usize) -> Refusal
+    requires { ⌜ row < 30 ⌝ }
+    ensures { λ r. ⌜ r ≡ rowRefusal (recordOf row) (now (line .entry)) ⌝ }
+{
+    let found = check_whole(line, row);
+    if 0 < found.number {
+        return found;
+    }
+    check_condition(line, row)
+}
+
+// The first refusal of a line by the first fields of a record, as in the last line of a list.
+pub fn check_list(line: &[u8; 80], row: usize, fields: usize) -> Refusal
+    requires { ⌜ row < 30 ⌝ }
+    ensures { λ r. ⌜ r ≡ fieldsRefusal (take fields (recordOf row .fields)) (now (line .entry)) ⌝ }
+{
+    if 12 <= fields {
+        return check_whole(line, row);
+    }
+    let numbers = row_numbers(row);
+    let forms = numbers.forms;
+    let widths = numbers.widths;
+    check_columns(line, &forms, &widths[..fields])
+}
+
+// The first refusal of a data line of 58 on which this many numbers are due, by its case.
+pub fn check_data(line: &[u8; 80], case: usize, fields: usize) -> Refusal
+    requires { ⌜ case < 8 ⌝ }
+    ensures { λ r. ⌜ r ≡ fieldsRefusal (take fields (dataRow case .fields)) (now (line .entry)) ⌝ }
+{
+    let forms = [E; 6];
+    let widths = layout::line_widths(case);
+    if 6 <= fields {
+        return check_columns(line, &forms, &widths);
+    }
+    check_columns(line, &forms, &widths[..fields])
+}
