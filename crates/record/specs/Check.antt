@@ -7,11 +7,11 @@ use lib.ListN.{take, drop}
 use Rattle.laws.specs.Choice.{pick}
 use Rattle.line.specs.Line.{refusal, passed}
 use Rattle.line.specs.declared.Refusal.{Refusal}
-use Rattle.codes.specs.Form.{Form, skip, text, title, real, integer, formOf}
+use Rattle.codes.specs.Form.{Form, skip, text, title, real, integer}
 use Rattle.layout.specs.Columns.{fieldStart}
 use Rattle.field.specs.Item.{Item}
 use Rattle.field.specs.Field.{columnsOf, mayBlank, fieldNumber, withItem}
-use Rattle.record.specs.Row.{Field, Row, breach}
+use Rattle.records.specs.Row.{Field, Row, breach}
 
 -- a refusal of this number, or what follows where there is none
 abbrev pub orElse : ℕ → ℕ → Refusal → Refusal
@@ -77,9 +77,3 @@ fieldsRefusal fs line = otherwise (fieldsFault fs 0 line) (strayFault (stray fs 
 -- the first refusal of a line by a row: its fields', then 14
 unfoldable pub rowRefusal : Row → List ℕ → Refusal
 rowRefusal r line = otherwise (fieldsRefusal (r .fields) line) (conditionFault r line)
-
--- a row as the code's tables give it: forms by number, and widths, which a width of 0 ends
-unfoldable pub fieldList : List ℕ → List ℕ → List Field
-fieldList [] ws = []
-fieldList (k ∷ ks) [] = []
-fieldList (k ∷ ks) (w ∷ ws) = pick (eqb w 0) [] (record { form = formOf k; width = w } ∷ fieldList ks ws)

@@ -1,7 +1,4 @@
-pub mod Row
-pub mod Records
 pub mod Check
 pub mod CheckLaws
-pub mod Tabled
-pub mod RecordsLaws
+pub mod ConditionLaws
 pub mod Written

@@ -15,7 +15,7 @@ use Rattle.real.specs.Spelling.{RealSpelling}
 use Rattle.codes.specs.Rule.{Rule, keeps}
 use Rattle.codes.specs.Form.{Form, Optional, skip, text, title, real, integer, within}
 use Rattle.field.specs.Item.{Item}
-use Rattle.record.specs.Row.{Field, Row, breach}
+use Rattle.records.specs.Row.{Field, Row, breach}
 use Rattle.field.specs.Field.{columnsOf}
 
 module _ (line : List ℕ) where

@@ -1,5 +1,5 @@
 -- `record::check_data` meets its contract.
-use Rattle.record.specs.RecordsLaws.{data-six, data-fields, data-fits, data-all}
+use Rattle.record.specs.ConditionLaws.{data-six, data-fields, data-fits, data-all}
 use lib.Seq.{length-take-le}
 use mathlib.Core.Path.{refl, sym, _∙_}
 use native.Mathlib.Nat.{le-trans}

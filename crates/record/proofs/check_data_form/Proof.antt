@@ -1,6 +1,6 @@
 -- `record::check_data_form` meets its contract.
 use mathlib.Core.Path.{sym, _∙_}
-use Rattle.record.specs.RecordsLaws.{conditionFault-data-form}
+use Rattle.record.specs.ConditionLaws.{conditionFault-data-form}
 use borrow.Author.Needs.{needs}
 use Rattle.record.proofs.check_data_form.Statement.{statement}
 use Rattle.record.proofs.check_data_form.Tie as tie

@@ -1,6 +1,6 @@
 -- `record::check_factors` meets its contract.
 use mathlib.Core.Path.{sym, _∙_}
-use Rattle.record.specs.RecordsLaws.{conditionFault-factors}
+use Rattle.record.specs.ConditionLaws.{conditionFault-factors}
 use borrow.Author.Needs.{needs}
 use Rattle.record.proofs.check_factors.Statement.{statement}
 use Rattle.record.proofs.check_factors.Tie as tie

@@ -4,7 +4,7 @@ use native.Mathlib.Nat.{le-trans}
 use lib.ListN.{length-take}
 use lib.Seq.{length-take-le}
 use Rattle.record.specs.CheckLaws.{fieldList-take, total-take}
-use Rattle.record.specs.RecordsLaws.{fields-all}
+use Rattle.record.specs.ConditionLaws.{fields-all}
 use native.Mathlib.Omega.{arith}
 use borrow.Author.Needs.{needs}
 use Rattle.record.proofs.check_list.Statement.{statement}

@@ -1,11 +1,13 @@
 -- The records of 58, 82, 151, 164 and 1815 as one table (01, "Records"; 001, 000 and 004 print their FORMATs).
 use mathlib.Core.List.{List, [], _∷_, map}
+use lib.Dec.{eqb}
+use Rattle.laws.specs.Choice.{pick}
 use Prim.Native.Nat.{ℕ}
 use lib.ListN.{getD}
 use Rattle.codes.specs.Rule.{any, from, Rule}
-use Rattle.codes.specs.Form.{skip, text, title, real, integer, never, within, functionType, direction, ordinateType, count, spacing, dataType, entries, fileType, unitsCode, temperatureMode, triggerType, duplicateOption, window, slope, delayType, autorangeMethod, acquisitionResults, powerAccumulation, amplitudeUnits, displayUnits, backgroundGrid, acquisitionMonitor, orders}
+use Rattle.codes.specs.Form.{skip, text, title, real, integer, never, within, functionType, direction, ordinateType, count, spacing, dataType, entries, fileType, unitsCode, temperatureMode, triggerType, duplicateOption, window, slope, delayType, autorangeMethod, acquisitionResults, powerAccumulation, amplitudeUnits, displayUnits, backgroundGrid, acquisitionMonitor, orders, formOf}
 use Rattle.layout.specs.Layout.{layoutOf}
-use Rattle.record.specs.Row.{Field, Row, none, zeroIfUneven, aboveZero}
+use Rattle.records.specs.Row.{Field, Row, none, zeroIfUneven, aboveZero}
 
 -- a field of each form, by its width: Aw, a text that may not be blank, wX, Ew.d or Dw.d, Iw
 abbrev pub A : ℕ → Field
@@ -101,3 +103,9 @@ recordOf k = getD records k (plain [])
 -- a data line of 58, full, by its case from 0
 unfoldable pub dataRow : ℕ → Row
 dataRow c = plain (map E (layoutOf c .widths))
+
+-- a row as the code's tables give it: forms by number, and widths, which a width of 0 ends
+unfoldable pub fieldList : List ℕ → List ℕ → List Field
+fieldList [] ws = []
+fieldList (k ∷ ks) [] = []
+fieldList (k ∷ ks) (w ∷ ws) = pick (eqb w 0) [] (record { form = formOf k; width = w } ∷ fieldList ks ws)

@@ -1,16 +1,16 @@
--- The table of records: its conditions by their columns, and the code's constants.
+-- The conditions of records by their columns, and the rows of data lines.
 use mathlib.Core.Path.{_≡_, refl}
-use mathlib.Core.Bool.{Bool, true, false, _&&_}
+use mathlib.Core.Bool.{Bool, true, false}
 use mathlib.Core.List.{List, []}
 use Prim.Native.Nat.{ℕ, suc, _≤_, _<_}
 use native.Mathlib.Omega.{arith}
-use borrow.Author.Tests.{leb-true, eqb-true}
+use borrow.Author.Tests.{leb-true}
 use mathlib.Core.Logic.{⊎-elim}
-use lib.Dec.{leb, eqb}
-use lib.ListN.{length, getD, take, replicate, List·getD-eq-default}
+use lib.Dec.{leb}
+use lib.ListN.{length, take, replicate, List·getD-eq-default}
 use lib.Seq.{take-all}
-use Rattle.laws.specs.Choice.{pick, false-not-true, and-left, and-right, below-or-not}
-use Rattle.laws.specs.Ranges.{allAre, in-range}
+use Rattle.laws.specs.Choice.{pick, false-not-true, below-or-not}
+use Rattle.laws.specs.Ranges.{in-range}
 use Rattle.laws.specs.Table.{tabulate, agree-below}
 use Rattle.integer.specs.Integer.{integerOf}
 use Rattle.real.specs.Real.{realOf}
@@ -20,10 +20,9 @@ use Rattle.layout.specs.Layout.{layouts, layoutOf, fieldsOf, valuesOf, cellOf}
 use Rattle.codes.specs.Form.{forms, formOf}
 use Rattle.field.specs.Item.{Item, isNought, isZero, isAboveZero}
 use Rattle.field.specs.Field.{columnsOf, integerItem, realItem}
-use Rattle.record.specs.Row.{Condition, none, zeroIfUneven, aboveZero, firstNotAbove, breach}
-use Rattle.record.specs.Records.{plain, records, recordOf, dataRow}
-use Rattle.record.specs.Check.{breachFault, itemsOf, conditionFault, fieldList}
-use Rattle.record.specs.Tabled.{Tabled}
+use Rattle.records.specs.Row.{Condition, none, zeroIfUneven, aboveZero, firstNotAbove, breach}
+use Rattle.records.specs.Records.{plain, records, recordOf, dataRow, fieldList}
+use Rattle.record.specs.Check.{breachFault, itemsOf, conditionFault}
 
 -- what the columns from a to before e hold: the integer 0, a zero, a number above zero
 abbrev pub noughtIn : ℕ → ℕ → List ℕ → Bool
@@ -98,22 +97,6 @@ unbound-others k a b =
 pub conditionFault-none : (k : ℕ) (line : List ℕ) → (k ≡ 3 → ⊥) → (k ≡ 10 → ⊥) → conditionFault (recordOf k) line ≡ passed
 unfolding conditionFault
 conditionFault-none k line a b = rw (isNone-breach (recordOf k .condition) (itemsOf (recordOf k .fields) 0 line) (unbound-others k a b)) refl
-
--- the code's two tables give the records' fields, which fit the line
-module _ (fss wss : List (List ℕ)) (d e : List ℕ) (k : ℕ) (h : k < 30) where
-  abbrev wide : ℕ → Bool
-  wide i = leb (total (getD wss i e)) 80 && (eqb (length (getD fss i d)) 12 && eqb (length (getD wss i e)) 12)
-
-  pub tabled : tabulate (λ (i : ℕ). fieldList (getD fss i d) (getD wss i e)) 0 30 ≡ tabulate (λ (i : ℕ). recordOf i .fields) 0 30
-      → allAre wide true 0 30 ≡ true → Tabled k (getD fss k d) (getD wss k e)
-  tabled t u =
-      let w : wide k ≡ true = in-range wide true 0 30 k u (omega arith) (omega arith) in
-      record {
-        listed = agree-below (λ (i : ℕ). fieldList (getD fss i d) (getD wss i e)) (λ (i : ℕ). recordOf i .fields) 30 k t h;
-        fits = leb-true _ _ (and-left (leb (total (getD wss k e)) 80) _ w);
-        forms-all = eqb-true _ _ (and-left (eqb (length (getD fss k d)) 12) _ (and-right (leb (total (getD wss k e)) 80) _ w));
-        widths-all = eqb-true _ _ (and-right (eqb (length (getD fss k d)) 12) _ (and-right (leb (total (getD wss k e)) 80) _ w));
-      }
 
 -- a data line's six widths, all reals
 module _ (c : ℕ) (ws : List ℕ) (h : c < 8) (e : ws ≡ tabulate (cellOf c) 0 6) where

@@ -4,8 +4,7 @@ use mathlib.Core.List.{List}
 use Prim.Native.Nat.{ℕ, _≤_}
 use lib.ListN.{length}
 use Rattle.layout.specs.Columns.{total}
-use Rattle.record.specs.Records.{recordOf}
-use Rattle.record.specs.Check.{fieldList}
+use Rattle.records.specs.Records.{recordOf, fieldList}
 
 pub record Tabled (k : ℕ) (fs ws : List ℕ) : Type 0 where
   pub listed : fieldList fs ws ≡ recordOf k .fields

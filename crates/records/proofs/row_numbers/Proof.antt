@@ -1,15 +1,14 @@
--- `record::row_numbers` meets its contract.
+-- `records::row_numbers` meets its contract.
 use mathlib.Core.Path.{refl}
 use mathlib.Core.List.{List, [], _∷_}
 use Prim.Native.Nat.{ℕ}
 use Rattle.layout.specs.Columns.{total}
 use Rattle.codes.specs.Form.{forms, formOf}
-use Rattle.record.specs.Records.{records, recordOf}
-use Rattle.record.specs.Check.{fieldList}
-use Rattle.record.specs.RecordsLaws.{tabled}
+use Rattle.records.specs.Records.{records, recordOf, fieldList}
+use Rattle.records.specs.TabledLaws.{tabled}
 use borrow.Author.Needs.{needs}
-use Rattle.record.proofs.row_numbers.Statement.{statement}
-use Rattle.record.proofs.row_numbers.Tie as tie
+use Rattle.records.proofs.row_numbers.Statement.{statement}
+use Rattle.records.proofs.row_numbers.Tie as tie
 
 mul-forms : tie.Need-mul-forms
 mul-forms c = search needs

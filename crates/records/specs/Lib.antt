@@ -1,0 +1,4 @@
+pub mod Row
+pub mod Records
+pub mod Tabled
+pub mod TabledLaws

@@ -1,0 +1,31 @@
+-- The code's two tables hold the records.
+use mathlib.Core.Path.{_≡_}
+use mathlib.Core.Bool.{Bool, true, _&&_}
+use mathlib.Core.List.{List}
+use Prim.Native.Nat.{ℕ, _<_}
+use native.Mathlib.Omega.{arith}
+use borrow.Author.Tests.{leb-true, eqb-true}
+use lib.Dec.{leb, eqb}
+use lib.ListN.{length, getD}
+use Rattle.laws.specs.Choice.{and-left, and-right}
+use Rattle.laws.specs.Ranges.{allAre, in-range}
+use Rattle.laws.specs.Table.{tabulate, agree-below}
+use Rattle.layout.specs.Columns.{total}
+use Rattle.records.specs.Records.{recordOf, fieldList}
+use Rattle.records.specs.Tabled.{Tabled}
+
+-- the code's two tables give the records' fields, which fit the line
+module _ (fss wss : List (List ℕ)) (d e : List ℕ) (k : ℕ) (h : k < 30) where
+  abbrev wide : ℕ → Bool
+  wide i = leb (total (getD wss i e)) 80 && (eqb (length (getD fss i d)) 12 && eqb (length (getD wss i e)) 12)
+
+  pub tabled : tabulate (λ (i : ℕ). fieldList (getD fss i d) (getD wss i e)) 0 30 ≡ tabulate (λ (i : ℕ). recordOf i .fields) 0 30
+      → allAre wide true 0 30 ≡ true → Tabled k (getD fss k d) (getD wss k e)
+  tabled t u =
+      let w : wide k ≡ true = in-range wide true 0 30 k u (omega arith) (omega arith) in
+      record {
+        listed = agree-below (λ (i : ℕ). fieldList (getD fss i d) (getD wss i e)) (λ (i : ℕ). recordOf i .fields) 30 k t h;
+        fits = leb-true _ _ (and-left (leb (total (getD wss k e)) 80) _ w);
+        forms-all = eqb-true _ _ (and-left (eqb (length (getD fss k d)) 12) _ (and-right (leb (total (getD wss k e)) 80) _ w));
+        widths-all = eqb-true _ _ (and-right (eqb (length (getD fss k d)) 12) _ (and-right (leb (total (getD wss k e)) 80) _ w));
+      }

@@ -1,0 +1,4 @@
+pub mod Sets
+pub mod Due
+pub mod DueLaws
+pub mod Proper

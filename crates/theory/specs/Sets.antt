@@ -1,0 +1,33 @@
+-- Lists of sets (01, "Lines and sets": "A list of sets holds each set's number, and a typed set's texts, integers (or that they
+-- are blank) and reals (sign, coefficient, scale) or a plain set's lines").
+use mathlib.Core.Bool.{Bool, _||_}
+use mathlib.Core.List.{List, []}
+use Prim.Native.Nat.{ℕ}
+use lib.Dec.{eqb}
+use lib.IntN.{pos, negsuc}
+use lib.ListN.{getD}
+use Rattle.field.specs.Item.{Item, text, integer, blank, real}
+
+-- a set: its number, and the items of its lines; a plain set's line is one text
+pub record Set : Type 0 where
+  pub number : ℕ
+  pub lines : List (List Item)
+
+abbrev pub set : ℕ → List (List Item) → Set
+set n ls = record { number = n; lines = ls }
+
+-- "Typed sets are 58, 82, 151, 164 and 1815. A set of any other number is kept as plain lines."
+unfoldable pub isTyped : ℕ → Bool
+isTyped n = eqb n 58 || (eqb n 82 || (eqb n 151 || (eqb n 164 || eqb n 1815)))
+
+-- the number of an integer item that is not below zero; 0 for any other item
+abbrev pub natural : Item → ℕ
+natural (text t) = 0
+natural (integer (pos v)) = v
+natural (integer (negsuc v)) = 0
+natural blank = 0
+natural (real n c s) = 0
+
+-- the number at a place of a line, both from 0
+unfoldable pub numberAt : List (List Item) → ℕ → ℕ → ℕ
+numberAt ls line place = natural (getD (getD ls line []) place blank)
