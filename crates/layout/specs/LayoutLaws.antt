@@ -8,7 +8,7 @@ use native.Mathlib.Nat.{le-trans}
 use native.Mathlib.Omega.{arith}
 use borrow.Author.Tests.{leb-true, eqb-true, le-ltb, ne-eqb}
 use lib.Dec.{leb, ltb, eqb}
-use lib.ListN.{length, getD, List·getD-eq-default}
+use lib.ListN.{length, getD, List·getD-eq-default, replicate}
 use Rattle.laws.specs.Choice.{pick-same, and-left, and-right, below-or-not}
 use Rattle.laws.specs.Ranges.{in-range}
 use Rattle.laws.specs.Table.{tabulate, table-at}
@@ -37,7 +37,7 @@ fieldsOf-values c h =
     eqb-true _ _ (and-right (ltb 0 (fieldsOf c)) _ (and-right (leb (total (layoutOf c .widths)) 80) _ (tested c h)))
 
 -- there is no case past the eight
-layoutOf-past : (c : ℕ) → 8 ≤ c → layoutOf c ≡ layout [] 0
+pub layoutOf-past : (c : ℕ) → 8 ≤ c → layoutOf c ≡ layout [] 0
 unfolding layoutOf layouts
 layoutOf-past c h = List·getD-eq-default layouts (layout [] 0) h
 
@@ -68,6 +68,9 @@ width-past c k h = let w : length (layoutOf c .widths) ≤ 6 = widths-six c in L
 pub cellOf-case-past : (c k : ℕ) → 8 ≤ c → cellOf c k ≡ 0
 unfolding cellOf fieldsOf valuesOf layoutOf layouts
 cellOf-case-past c k h = rw (layoutOf-past c h) (simp pick-same)
+
+pub cells-past : (c : ℕ) → 8 ≤ c → replicate 6 0 ≡ tabulate (cellOf c) 0 6
+cells-past c h = simp (cellOf-case-past c)
 
 pub cellOf-place-past : (c k : ℕ) → 8 ≤ k → cellOf c k ≡ 0
 unfolding cellOf

@@ -1,6 +1,5 @@
 // The layout of 58's data lines: the eight cases as one table, and the columns computed from it.
 ghost use mathlib.Core.Path.{_≡_};
-ghost use Prim.Native.Nat.{_<_};
 ghost use lib.ListN.{getD};
 ghost use Rattle.laws.specs.Table.{tabulate};
 ghost use Rattle.layout.specs.Columns.{fieldStart};
@@ -74,11 +73,13 @@ pub fn field_width(case: usize, field: usize) -> usize
     cell(case, field)
 }
 
-// The widths of the six fields that a full line has at most; 0 past the case's last.
+// The widths of the six fields that a full line has at most; 0 past the case's last, and where there is no such case.
 pub fn line_widths(case: usize) -> [u8; 6]
-    requires { ⌜ case < 8 ⌝ }
     ensures { λ r. ⌜ r ≡ tabulate (cellOf case) 0 6 ⌝ }
 {
+    if 8 <= case {
+        return [0; 6];
+    }
     let row = LAYOUTS[case];
     [row[0], row[1], row[2], row[3], row[4], row[5]]
 }

@@ -1,14 +1,14 @@
 -- The conditions of records by their columns, and the rows of data lines.
-use mathlib.Core.Path.{_≡_, refl}
+use mathlib.Core.Path.{_≡_, refl, sym, _∙_, ap}
 use mathlib.Core.Bool.{Bool, true, false}
-use mathlib.Core.List.{List, []}
+use mathlib.Core.List.{List}
 use Prim.Native.Nat.{ℕ, suc, _≤_, _<_}
 use native.Mathlib.Omega.{arith}
 use borrow.Author.Tests.{leb-true}
 use mathlib.Core.Logic.{⊎-elim}
 use lib.Dec.{leb}
-use lib.ListN.{length, take, replicate, List·getD-eq-default}
-use lib.Seq.{take-all}
+use lib.ListN.{length, take, replicate, length-map}
+use lib.Seq.{take-all, take-nil}
 use Rattle.laws.specs.Choice.{pick, false-not-true, below-or-not}
 use Rattle.laws.specs.Ranges.{in-range}
 use Rattle.laws.specs.Table.{tabulate, agree-below}
@@ -16,12 +16,14 @@ use Rattle.integer.specs.Integer.{integerOf}
 use Rattle.real.specs.Real.{realOf}
 use Rattle.line.specs.Line.{refusal, passed}
 use Rattle.layout.specs.Columns.{fieldStart, total}
+use Rattle.layout.specs.LayoutLaws.{layoutOf-past, cells-past, widths-six}
 use Rattle.layout.specs.Layout.{layouts, layoutOf, fieldsOf, valuesOf, cellOf}
 use Rattle.codes.specs.Form.{forms, formOf}
 use Rattle.field.specs.Item.{Item, isNought, isZero, isAboveZero}
 use Rattle.field.specs.Field.{columnsOf, integerItem, realItem}
-use Rattle.records.specs.Row.{Condition, none, zeroIfUneven, aboveZero, firstNotAbove, breach}
-use Rattle.records.specs.Records.{plain, records, recordOf, dataRow, fieldList}
+use Rattle.records.specs.Row.{Field, Condition, none, zeroIfUneven, aboveZero, firstNotAbove, breach}
+use Rattle.records.specs.TabledLaws.{recordOf-past}
+use Rattle.records.specs.Records.{records, recordOf, dataRow, fieldList}
 use Rattle.record.specs.Check.{breachFault, itemsOf, conditionFault}
 
 -- what the columns from a to before e hold: the integer 0, a zero, a number above zero
@@ -77,10 +79,6 @@ isNone-breach aboveZero is t = false-not-true t
 abbrev unbound : ℕ → Bool
 unbound k = isNone (recordOf k .condition)
 
-recordOf-past : (k : ℕ) → 30 ≤ k → recordOf k ≡ plain []
-unfolding recordOf records
-recordOf-past k h = List·getD-eq-default records (plain []) h
-
 -- the records by number but 3 and 10: two ranges, and those past the last
 unbound-others : (k : ℕ) → (k ≡ 3 → ⊥) → (k ≡ 10 → ⊥) → unbound k ≡ true
 unfolding recordOf records
@@ -98,15 +96,35 @@ pub conditionFault-none : (k : ℕ) (line : List ℕ) → (k ≡ 3 → ⊥) → 
 unfolding conditionFault
 conditionFault-none k line a b = rw (isNone-breach (recordOf k .condition) (itemsOf (recordOf k .fields) 0 line) (unbound-others k a b)) refl
 
--- a data line's six widths, all reals
-module _ (c : ℕ) (ws : List ℕ) (h : c < 8) (e : ws ≡ tabulate (cellOf c) 0 6) where
-  pub data-fields : fieldList (replicate 6 3) ws ≡ dataRow c .fields
-  unfolding fieldList formOf forms dataRow cellOf layoutOf layouts fieldsOf valuesOf
-  data-fields = rw e (agree-below (λ (i : ℕ). fieldList (replicate 6 3) (tabulate (cellOf i) 0 6)) (λ (i : ℕ). dataRow i .fields) 8 c refl h)
+-- a data line's fields, by the six widths of its case; none past the eight cases
+abbrev sixReals : List ℕ → List Field
+sixReals ws = fieldList (replicate 6 3) ws
+
+data-below : (c : ℕ) → c < 8 → sixReals (tabulate (cellOf c) 0 6) ≡ dataRow c .fields
+unfolding fieldList formOf forms dataRow cellOf layoutOf layouts fieldsOf valuesOf
+data-below c h = agree-below (λ (i : ℕ). sixReals (tabulate (cellOf i) 0 6)) (λ (i : ℕ). dataRow i .fields) 8 c refl h
+
+data-past : (c : ℕ) → 8 ≤ c → sixReals (replicate 6 0) ≡ dataRow c .fields
+unfolding fieldList dataRow
+data-past c h = rw (layoutOf-past c h) refl
+
+abbrev narrow : ℕ → Bool
+narrow c = leb (total (tabulate (cellOf c) 0 6)) 80
+
+narrow-below : (c : ℕ) → c < 8 → narrow c ≡ true
+unfolding total cellOf layoutOf layouts fieldsOf valuesOf
+narrow-below c h = in-range narrow true 0 8 c refl (omega arith) (omega arith)
+
+module _ (c : ℕ) (ws : List ℕ) (e : ws ≡ tabulate (cellOf c) 0 6) where
+  pub data-fields : sixReals ws ≡ dataRow c .fields
+  data-fields =
+      ap sixReals e
+      ∙ ⊎-elim (data-below c) (λ h. ap sixReals (sym (cells-past c h)) ∙ data-past c h) (below-or-not c 8)
 
   pub data-fits : total ws ≤ 80
-  unfolding total cellOf layoutOf layouts fieldsOf valuesOf
-  data-fits = rw e (leb-true _ _ (in-range (λ (i : ℕ). leb (total (tabulate (cellOf i) 0 6)) 80) true 0 8 c refl (omega arith) (omega arith)))
+  unfolding total
+  data-fits =
+      ⊎-elim (λ h. rw e (leb-true _ _ (narrow-below c h))) (λ h. rw (e ∙ sym (cells-past c h)) (omega arith)) (below-or-not c 8)
 
   pub data-six : length ws ≡ 6
   data-six = rw e refl
@@ -115,17 +133,17 @@ module _ (c : ℕ) (ws : List ℕ) (h : c < 8) (e : ws ≡ tabulate (cellOf c) 0
 abbrev twelve : ℕ → Bool
 twelve k = leb (length (recordOf k .fields)) 12
 
-pub fields-all : (k n : ℕ) → k < 30 → 12 ≤ n → take n (recordOf k .fields) ≡ recordOf k .fields
+pub fields-all : (k n : ℕ) → 12 ≤ n → take n (recordOf k .fields) ≡ recordOf k .fields
 unfolding recordOf records
-fields-all k n h m =
-    let l : length (recordOf k .fields) ≤ 12 = leb-true _ _ (in-range twelve true 0 30 k refl (omega arith) (omega arith)) in
-    take-all n (recordOf k .fields) (omega arith)
+fields-all k n m =
+    ⊎-elim
+    (λ h. let l : length (recordOf k .fields) ≤ 12 = leb-true _ _ (in-range twelve true 0 30 k refl (omega arith) (omega arith)) in
+    take-all n (recordOf k .fields) (omega arith))
+    (λ h. rw (recordOf-past k h) (take-nil n))
+    (below-or-not k 30)
 
-abbrev six : ℕ → Bool
-six c = leb (length (dataRow c .fields)) 6
-
-pub data-all : (c n : ℕ) → c < 8 → 6 ≤ n → take n (dataRow c .fields) ≡ dataRow c .fields
-unfolding dataRow layoutOf layouts
-data-all c n h m =
-    let l : length (dataRow c .fields) ≤ 6 = leb-true _ _ (in-range six true 0 8 c refl (omega arith) (omega arith)) in
-    take-all n (dataRow c .fields) (omega arith)
+pub data-all : (c n : ℕ) → 6 ≤ n → take n (dataRow c .fields) ≡ dataRow c .fields
+unfolding dataRow
+data-all c n m =
+    let l : length (layoutOf c .widths) ≤ 6 = widths-six c in
+    take-all n (dataRow c .fields) (simp length-map (omega arith))

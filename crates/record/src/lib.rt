@@ -189,7 +189,6 @@ fn check_condition(line: &[u8; 80], row: usize) -> Refusal
 
 // The first refusal of a line by a record's fields: their own, then 13.
 fn check_whole(line: &[u8; 80], row: usize) -> Refusal
-    requires { ⌜ row < 30 ⌝ }
     ensures { λ r. ⌜ r ≡ fieldsRefusal (recordOf row .fields) (now (line .entry)) ⌝ }
 {
     let numbers = row_numbers(row);
@@ -200,7 +199,6 @@ fn check_whole(line: &[u8; 80], row: usize) -> Refusal
 
 // The first refusal of a line by a record.
 pub fn check_record(line: &[u8; 80], row: usize) -> Refusal
-    requires { ⌜ row < 30 ⌝ }
     ensures { λ r. ⌜ r ≡ rowRefusal (recordOf row) (now (line .entry)) ⌝ }
 {
     let found = check_whole(line, row);
@@ -212,7 +210,6 @@ pub fn check_record(line: &[u8; 80], row: usize) -> Refusal
 
 // The first refusal of a line by the first fields of a record, as in the last line of a list.
 pub fn check_list(line: &[u8; 80], row: usize, fields: usize) -> Refusal
-    requires { ⌜ row < 30 ⌝ }
     ensures { λ r. ⌜ r ≡ fieldsRefusal (take fields (recordOf row .fields)) (now (line .entry)) ⌝ }
 {
     if 12 <= fields {
@@ -226,7 +223,6 @@ pub fn check_list(line: &[u8; 80], row: usize, fields: usize) -> Refusal
 
 // The first refusal of a data line of 58 on which this many numbers are due, by its case.
 pub fn check_data(line: &[u8; 80], case: usize, fields: usize) -> Refusal
-    requires { ⌜ case < 8 ⌝ }
     ensures { λ r. ⌜ r ≡ fieldsRefusal (take fields (dataRow case .fields)) (now (line .entry)) ⌝ }
 {
     let forms = [REAL; 6];

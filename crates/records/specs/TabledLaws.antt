@@ -1,17 +1,17 @@
 -- The code's two tables hold the records.
-use mathlib.Core.Path.{_≡_}
+use mathlib.Core.Path.{_≡_, refl}
 use mathlib.Core.Bool.{Bool, true, _&&_}
-use mathlib.Core.List.{List}
-use Prim.Native.Nat.{ℕ, _<_}
+use mathlib.Core.List.{List, []}
+use Prim.Native.Nat.{ℕ, _≤_, _<_}
 use native.Mathlib.Omega.{arith}
 use borrow.Author.Tests.{leb-true, eqb-true}
 use lib.Dec.{leb, eqb}
-use lib.ListN.{length, getD}
+use lib.ListN.{length, getD, replicate, List·getD-eq-default}
 use Rattle.laws.specs.Choice.{and-left, and-right}
 use Rattle.laws.specs.Ranges.{allAre, in-range}
 use Rattle.laws.specs.Table.{tabulate, agree-below}
 use Rattle.layout.specs.Columns.{total}
-use Rattle.records.specs.Records.{recordOf, fieldList}
+use Rattle.records.specs.Records.{plain, records, recordOf, fieldList}
 use Rattle.records.specs.Tabled.{Tabled}
 
 -- the code's two tables give the records' fields, which fit the line
@@ -29,3 +29,17 @@ module _ (fss wss : List (List ℕ)) (d e : List ℕ) (k : ℕ) (h : k < 30) whe
         forms-all = eqb-true _ _ (and-left (eqb (length (getD fss k d)) 12) _ (and-right (leb (total (getD wss k e)) 80) _ w));
         widths-all = eqb-true _ _ (and-right (eqb (length (getD fss k d)) 12) _ (and-right (leb (total (getD wss k e)) 80) _ w));
       }
+
+-- there is no record past the table
+pub recordOf-past : (k : ℕ) → 30 ≤ k → recordOf k ≡ plain []
+unfolding recordOf records
+recordOf-past k h = List·getD-eq-default records (plain []) h
+
+pub tabled-past : (k : ℕ) → 30 ≤ k → Tabled k (replicate 12 0) (replicate 12 0)
+unfolding fieldList total
+tabled-past k h = record {
+  listed = rw (recordOf-past k h) refl;
+  fits = omega arith;
+  forms-all = refl;
+  widths-all = refl;
+}

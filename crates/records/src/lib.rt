@@ -1,5 +1,4 @@
 // The records of 58, 82, 151, 164 and 1815 as one table.
-ghost use Prim.Native.Nat.{_<_};
 ghost use Rattle.records.specs.Tabled.{Tabled};
 use codes::ACQUISITION_MONITOR;
 use codes::ACQUISITION_RESULTS;
@@ -196,11 +195,16 @@ pub struct RowNumbers {
     pub widths: [u8; 12],
 }
 
-// The row of a record.
+// The row of a record; a row without fields where there is none.
 pub fn row_numbers(row: usize) -> RowNumbers
-    requires { ⌜ row < 30 ⌝ }
     ensures { λ r. ⌜ Tabled row (r .forms) (r .widths) ⌝ }
 {
+    if 30 <= row {
+        return RowNumbers {
+            forms: [0; 12],
+            widths: [0; 12],
+        };
+    }
     let forms = FORMS[row];
     let widths = WIDTHS[row];
     RowNumbers { forms, widths }

@@ -1,9 +1,7 @@
 -- Lists of sets (01, "Lines and sets": "A list of sets holds each set's number, and a typed set's texts, integers (or that they
 -- are blank) and reals (sign, coefficient, scale) or a plain set's lines").
-use mathlib.Core.Bool.{Bool, _||_}
 use mathlib.Core.List.{List, []}
 use Prim.Native.Nat.{ℕ}
-use lib.Dec.{eqb}
 use lib.IntN.{pos, negsuc}
 use lib.ListN.{getD}
 use Rattle.field.specs.Item.{Item, text, integer, blank, real}
@@ -15,10 +13,6 @@ pub record Set : Type 0 where
 
 abbrev pub set : ℕ → List (List Item) → Set
 set n ls = record { number = n; lines = ls }
-
--- "Typed sets are 58, 82, 151, 164 and 1815. A set of any other number is kept as plain lines."
-unfoldable pub isTyped : ℕ → Bool
-isTyped n = eqb n 58 || (eqb n 82 || (eqb n 151 || (eqb n 164 || eqb n 1815)))
 
 -- the number of an integer item that is not below zero; 0 for any other item
 abbrev pub natural : Item → ℕ

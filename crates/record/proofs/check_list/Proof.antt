@@ -14,7 +14,7 @@ check-whole-requires : tie.Need-check-whole-requires
 check-whole-requires c κs = search needs
 
 returns : tie.Need-returns
-returns c = c .check-whole .ensures ∙ rw (fields-all _ _ (c .before .before .pre) (c .before .if1 .taken)) refl
+returns c = c .check-whole .ensures ∙ rw (fields-all _ _ (c .before .if1 .taken)) refl
 
 row-numbers-requires : tie.Need-row-numbers-requires
 row-numbers-requires c κs = search needs

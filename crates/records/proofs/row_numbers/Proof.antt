@@ -5,10 +5,13 @@ use Prim.Native.Nat.{ℕ}
 use Rattle.layout.specs.Columns.{total}
 use Rattle.codes.specs.Form.{forms, formOf}
 use Rattle.records.specs.Records.{records, recordOf, fieldList}
-use Rattle.records.specs.TabledLaws.{tabled}
+use Rattle.records.specs.TabledLaws.{tabled, tabled-past}
 use borrow.Author.Needs.{needs}
 use Rattle.records.proofs.row_numbers.Statement.{statement}
 use Rattle.records.proofs.row_numbers.Tie as tie
+
+returns : tie.Need-returns
+returns c = tabled-past _ (c .if1 .taken)
 
 mul-forms : tie.Need-mul-forms
 mul-forms c = search needs
@@ -91,10 +94,11 @@ widths-table =
     ∷ (15 ∷ 15 ∷ 15 ∷ 15 ∷ 15 ∷ 0 ∷ 0 ∷ 0 ∷ 0 ∷ 0 ∷ 0 ∷ 0 ∷ [])
     ∷ []
 
-returns : tie.Need-returns
+returns-2 : tie.Need-returns-2
 unfolding fieldList formOf forms recordOf records total
-returns c = tabled forms-table widths-table [] [] _ (c .before .before .pre) refl refl
+returns-2 c = tabled forms-table widths-table [] [] _ (c .before .before .if1 .left) refl refl
 
 pub row-numbers-spec : {M : Type 1} → statement M
 row-numbers-spec =
-    tie.close (tie.spec mul-forms array-copy-out-forms mul-widths array-copy-out-widths returns)
+    tie.close
+    (tie.spec returns mul-forms array-copy-out-forms mul-widths array-copy-out-widths returns-2)
