@@ -17,7 +17,7 @@ pub data Form : Type 0 where
   -- a text
   text : Form
   -- a text that may not be blank
-  title : Form
+  identification : Form
   real : Form
   integer : Rule → Optional → Form
 
@@ -39,6 +39,7 @@ count = span 1 65536
 abbrev pub spacing : Rule
 spacing = span 0 1
 
+-- 01's list: 001 goes on to 23
 abbrev pub dataType : Rule
 dataType = codes (0 ∷ 1 ∷ 2 ∷ 3 ∷ 5 ∷ 6 ∷ 8 ∷ 9 ∷ 11 ∷ 12 ∷ 13 ∷ 15 ∷ 16 ∷ 17 ∷ 18 ∷ 19 ∷ [])
 
@@ -101,7 +102,7 @@ orders = span 0 256
 -- the forms by number, from 0; those past the end are skipped columns
 unfoldable pub forms : List Form
 forms =
-    skip ∷ text ∷ title ∷ real
+    skip ∷ text ∷ identification ∷ real
     ∷ integer any never ∷ integer (from 0) never ∷ integer (from 1) never
     ∷ integer functionType never ∷ integer direction never ∷ integer ordinateType never ∷ integer count never ∷ integer spacing never
     ∷ integer dataType never ∷ integer entries never
@@ -118,7 +119,7 @@ formOf k = getD forms k skip
 abbrev pub ruleOf : Form → Rule
 ruleOf skip = any
 ruleOf text = any
-ruleOf title = any
+ruleOf identification = any
 ruleOf real = any
 ruleOf (integer r o) = r
 
@@ -130,7 +131,7 @@ allowedOf k n v = keeps (ruleOf (formOf k)) (signed n v)
 abbrev pub optionalOf : Form → Optional
 optionalOf skip = never
 optionalOf text = never
-optionalOf title = never
+optionalOf identification = never
 optionalOf real = never
 optionalOf (integer r o) = o
 

@@ -14,7 +14,7 @@ pub const SKIP: u8 = 0;
 
 pub const TEXT: u8 = 1;
 
-pub const TITLE: u8 = 2;
+pub const IDENTIFICATION: u8 = 2;
 
 pub const REAL: u8 = 3;
 

@@ -14,7 +14,7 @@ use Rattle.real.specs.Real.{realOf}
 use Rattle.real.specs.declared.Real.{Real}
 use Rattle.real.specs.declared.Real.the-variants as R
 use Rattle.codes.specs.Rule.{Rule, keeps}
-use Rattle.codes.specs.Form.{Form, Optional, skip, text, title, real, integer, never, within, optionalOf}
+use Rattle.codes.specs.Form.{Form, Optional, skip, text, identification, real, integer, never, within, optionalOf}
 use Rattle.field.specs.Item.{Item}
 
 -- the columns from a to before e
@@ -47,7 +47,7 @@ realNumber (R.Value v) = 0
 unfoldable pub fieldNumber : Form → Bool → List ℕ → ℕ
 fieldNumber skip may cols = 0
 fieldNumber text may cols = 0
-fieldNumber title may cols = pick (allBlank cols) 9 0
+fieldNumber identification may cols = pick (allBlank cols) 9 0
 fieldNumber real may cols = realNumber (realOf cols)
 fieldNumber (integer r o) may cols = integerNumber r may (integerOf cols)
 
@@ -67,6 +67,6 @@ realItem (R.Value v) = Item.real (v .minus) (v .coefficient) (signed (v .below) 
 abbrev pub withItem : Form → List ℕ → List Item → List Item
 withItem skip cols is = is
 withItem text cols is = Item.text (trimmed cols) ∷ is
-withItem title cols is = Item.text (trimmed cols) ∷ is
+withItem identification cols is = Item.text (trimmed cols) ∷ is
 withItem real cols is = realItem (realOf cols) ∷ is
 withItem (integer r o) cols is = integerItem (integerOf cols) ∷ is

@@ -11,11 +11,11 @@ use Rattle.laws.specs.Choice.{pick, and-left, and-right, false-not-true, below-
 use Rattle.laws.specs.Ranges.{in-range}
 use Rattle.text.specs.Blank.{allBlank}
 use Rattle.integer.specs.Integer.{integerOf}
-use Rattle.codes.specs.Form.{Form, Optional, skip, text, title, real, integer, never, within, forms, formOf, optionalOf, ruleOf, allowedOf, blankFrom, blankPast}
+use Rattle.codes.specs.Form.{Form, Optional, skip, text, identification, real, integer, never, within, forms, formOf, optionalOf, ruleOf, allowedOf, blankFrom, blankPast}
 use Rattle.codes.specs.Rule.{Rule}
 use Rattle.codes.specs.FormLaws.{formOf-past}
 use Rattle.field.specs.Field.{columnsOf, blankIn, mayBlank, integerNumber, fieldNumber, integerItem}
-use Rattle.field.specs.Item.{isNought}
+use Rattle.field.specs.Item.{isZeroInteger}
 use Rattle.integer.specs.declared.Integer.{Integer}
 use Rattle.integer.specs.declared.Integer.the-variants.{Blank, Value}
 
@@ -60,7 +60,7 @@ module _ (k : ℕ) (line : List ℕ) where
 abbrev isInteger : Form → Bool
 isInteger skip = false
 isInteger text = false
-isInteger title = false
+isInteger identification = false
 isInteger real = false
 isInteger (integer r o) = true
 
@@ -68,7 +68,7 @@ fieldNumber-of : (f : Form) (may : Bool) (cols : List ℕ) → isInteger f ≡ t
 unfolding fieldNumber
 fieldNumber-of skip may cols t = false-not-true t
 fieldNumber-of text may cols t = false-not-true t
-fieldNumber-of title may cols t = false-not-true t
+fieldNumber-of identification may cols t = false-not-true t
 fieldNumber-of real may cols t = false-not-true t
 fieldNumber-of (integer r o) may cols t = refl
 
@@ -91,10 +91,10 @@ unfolding fieldNumber
 fieldNumber-past k may cols h = rw (formOf-past k h) refl
 
 -- an integer that is 0, by its size
-pub isNought-value : (n : Bool) (v : ℕ) → isNought (integerItem (Value n v)) ≡ eqb v 0
-isNought-value true zero = refl
-isNought-value true (suc v) = sym (ne-eqb (suc v) 0 (λ e. omega arith))
-isNought-value false v = refl
+pub isZeroInteger-value : (n : Bool) (v : ℕ) → isZeroInteger (integerItem (Value n v)) ≡ eqb v 0
+isZeroInteger-value true zero = refl
+isZeroInteger-value true (suc v) = sym (ne-eqb (suc v) 0 (λ e. omega arith))
+isZeroInteger-value false v = refl
 
 -- the number of an integer field, by what it holds and the test that decides
 pub integerNumber-blank : (r : Rule) (may t : Bool) {i : Integer} → i ≡ Blank → may ≡ t → integerNumber r may i ≡ pick t 0 10

@@ -3,12 +3,12 @@ ghost use mathlib.Core.Path.{_≡_};
 ghost use Rattle.codes.specs.Form.{formOf, ruleOf};
 ghost use Rattle.integer.specs.Integer.{integerOf};
 ghost use Rattle.real.specs.Real.{realOf};
-ghost use Rattle.field.specs.Item.{isNought, isZero, isAboveZero};
+ghost use Rattle.field.specs.Item.{isZeroInteger, isZeroReal, isAboveZero};
 ghost use Rattle.field.specs.Field.{mayBlank, integerNumber, realNumber, fieldNumber, integerItem, realItem};
+use codes::IDENTIFICATION;
 use codes::INTEGER;
 use codes::ORDERS;
 use codes::REAL;
-use codes::TITLE;
 use integer::Integer;
 use integer::integer_field;
 use real::Real;
@@ -67,7 +67,7 @@ pub fn field_number(form: u8, may: bool, field: &[u8]) -> u8
     if form == REAL {
         return real_number(field);
     }
-    if form == TITLE {
+    if form == IDENTIFICATION {
         if text::is_blank(field) {
             return 9;
         }
@@ -83,8 +83,8 @@ pub fn field_number(form: u8, may: bool, field: &[u8]) -> u8
 }
 
 // Whether an integer field holds 0.
-pub fn is_nought(field: &[u8]) -> bool
-    ensures { λ r. ⌜ r ≡ isNought (integerItem (integerOf (now (field .entry)))) ⌝ }
+pub fn is_zero_integer(field: &[u8]) -> bool
+    ensures { λ r. ⌜ r ≡ isZeroInteger (integerItem (integerOf (now (field .entry)))) ⌝ }
 {
     match integer_field(field) {
         Integer::Blank => false,
@@ -95,8 +95,8 @@ pub fn is_nought(field: &[u8]) -> bool
 }
 
 // Whether a real field holds zero, of either sign.
-pub fn is_zero(field: &[u8]) -> bool
-    ensures { λ r. ⌜ r ≡ isZero (realItem (realOf (now (field .entry)))) ⌝ }
+pub fn is_zero_real(field: &[u8]) -> bool
+    ensures { λ r. ⌜ r ≡ isZeroReal (realItem (realOf (now (field .entry)))) ⌝ }
 {
     match real_field(field) {
         Real::Blank => false,

@@ -19,7 +19,7 @@ pub enum Integer {
     Value(bool, u32),
 }
 
-// The size with one digit more; past the range it stays at 2^32.
+// The size with one digit more; at 2^32, which is past the range, it stays.
 pub fn pushed(m: u64, d: u8) -> u64
     ensures { λ r. ⌜ r ≡ push m d ⌝ }
 {

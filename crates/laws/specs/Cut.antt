@@ -23,6 +23,7 @@ abbrev pub onto : ℕ → List (List ℕ) → List ℕ → Text
 onto b [] r = text [] (b ∷ r)
 onto b (l ∷ ls) r = text ((b ∷ l) ∷ ls) r
 
+-- a line is the bytes up to an LF; bytes after the last LF are the rest
 unfoldable pub cut : List ℕ → Text
 cut [] = text [] []
 cut (b ∷ bs) = pick (eqb b 10) (text ([] ∷ cut bs .lines) (cut bs .rest)) (onto b (cut bs .lines) (cut bs .rest))

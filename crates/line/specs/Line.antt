@@ -41,8 +41,8 @@ unfoldable pub firstBad : ℕ → List ℕ → ℕ
 firstBad k [] = 0
 firstBad k (b ∷ bs) = pick (isAllowed b) (firstBad (k + 1) bs) k
 
--- what a line's columns are refused for by themselves: "On one line, 2, 3, 4 come first in that order". A line that has lost
--- its LF (false) is 4. The column is the first such byte's for 2, otherwise 1.
+-- what a line's columns are refused for by themselves: "On one line, 2, 3, 4 come first in that order". A byte not
+-- allowed is 2 wherever it stands, past column 80 too. A line that has lost its LF (false) is 4. The column is the first such byte's for 2, otherwise 1.
 unfoldable pub lineFault : Bool → List ℕ → Refusal
 lineFault ended cs =
     pick (ltb 0 (firstBad 1 cs)) (refusal 2 (firstBad 1 cs))

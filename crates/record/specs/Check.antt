@@ -7,11 +7,11 @@ use lib.ListN.{take, drop}
 use Rattle.laws.specs.Choice.{pick}
 use Rattle.line.specs.Line.{refusal, passed}
 use Rattle.line.specs.declared.Refusal.{Refusal}
-use Rattle.codes.specs.Form.{Form, skip, text, title, real, integer}
+use Rattle.codes.specs.Form.{Form, skip, text, identification, real, integer}
 use Rattle.layout.specs.Columns.{fieldStart}
 use Rattle.field.specs.Item.{Item}
 use Rattle.field.specs.Field.{columnsOf, mayBlank, fieldNumber, withItem}
-use Rattle.records.specs.Row.{Field, Row, breach}
+use Rattle.rows.specs.Row.{Field, Row, breach}
 
 -- a refusal of this number, or what follows where there is none
 abbrev pub orElse : ℕ → ℕ → Refusal → Refusal
@@ -39,7 +39,7 @@ orColumn (suc c) rest = suc c
 abbrev pub strayIn : Form → ℕ → List ℕ → ℕ
 strayIn skip k cols = firstByte k cols
 strayIn text k cols = 0
-strayIn title k cols = 0
+strayIn identification k cols = 0
 strayIn real k cols = 0
 strayIn (integer r o) k cols = 0
 

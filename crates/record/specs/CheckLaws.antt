@@ -13,13 +13,13 @@ use Rattle.laws.specs.Choice.{pick, false-not-true}
 use Rattle.laws.specs.Ranges.{allAre, in-range}
 use Rattle.line.specs.Line.{refusal, passed}
 use Rattle.line.specs.declared.Refusal.{Refusal}
-use Rattle.codes.specs.Form.{Form, skip, text, title, real, integer, forms, formOf}
+use Rattle.codes.specs.Form.{Form, skip, text, identification, real, integer, forms, formOf}
 use Rattle.codes.specs.FormLaws.{formOf-past}
 use Rattle.layout.specs.Columns.{total}
 use Rattle.field.specs.Field.{columnsOf, mayBlank, fieldNumber}
-use Rattle.records.specs.Row.{Field, Row}
+use Rattle.rows.specs.Row.{Field, Row}
 use Rattle.record.specs.Check.{orElse, orColumn, otherwise, strayIn, strayFault, fieldsFault, firstByte, stray, fieldsRefusal, conditionFault, rowRefusal}
-use Rattle.records.specs.Records.{fieldList}
+use Rattle.rows.specs.Records.{fieldList}
 
 -- a number above 0 is the refusal; 0 is none
 pub orElse-here : (n c : ℕ) (rest : Refusal) → 0 < n → orElse n c rest ≡ refusal n c
@@ -94,7 +94,7 @@ module _ (ks ws : List ℕ) (k : ℕ) where
 abbrev owns : Form → Bool
 owns skip = false
 owns text = true
-owns title = true
+owns identification = true
 owns real = true
 owns (integer r o) = true
 
@@ -108,7 +108,7 @@ owned = refl
 strayIn-of : (f : Form) (c : ℕ) (cols : List ℕ) → owns f ≡ true → strayIn f c cols ≡ 0
 strayIn-of skip c cols t = false-not-true t
 strayIn-of text c cols t = refl
-strayIn-of title c cols t = refl
+strayIn-of identification c cols t = refl
 strayIn-of real c cols t = refl
 strayIn-of (integer r o) c cols t = refl
 

@@ -19,19 +19,19 @@ use Rattle.layout.specs.Columns.{fieldStart, total}
 use Rattle.layout.specs.LayoutLaws.{layoutOf-past, cells-past, widths-six}
 use Rattle.layout.specs.Layout.{layouts, layoutOf, fieldsOf, valuesOf, cellOf}
 use Rattle.codes.specs.Form.{forms, formOf}
-use Rattle.field.specs.Item.{Item, isNought, isZero, isAboveZero}
+use Rattle.field.specs.Item.{Item, isZeroInteger, isZeroReal, isAboveZero}
 use Rattle.field.specs.Field.{columnsOf, integerItem, realItem}
-use Rattle.records.specs.Row.{Field, Condition, none, zeroIfUneven, aboveZero, firstNotAbove, breach}
-use Rattle.records.specs.TabledLaws.{recordOf-past}
-use Rattle.records.specs.Records.{records, recordOf, dataRow, fieldList}
+use Rattle.rows.specs.Row.{Field, Condition, none, zeroIfUneven, aboveZero, firstNotAbove, breach}
+use Rattle.rows.specs.TabledLaws.{recordOf-past}
+use Rattle.rows.specs.Records.{records, recordOf, dataRow, fieldList}
 use Rattle.record.specs.Check.{breachFault, itemsOf, conditionFault}
 
 -- what the columns from a to before e hold: the integer 0, a zero, a number above zero
-abbrev pub noughtIn : ℕ → ℕ → List ℕ → Bool
-noughtIn a e line = isNought (integerItem (integerOf (columnsOf a e line)))
+abbrev pub zeroIntegerIn : ℕ → ℕ → List ℕ → Bool
+zeroIntegerIn a e line = isZeroInteger (integerItem (integerOf (columnsOf a e line)))
 
-abbrev pub zeroIn : ℕ → ℕ → List ℕ → Bool
-zeroIn a e line = isZero (realItem (realOf (columnsOf a e line)))
+abbrev pub zeroRealIn : ℕ → ℕ → List ℕ → Bool
+zeroRealIn a e line = isZeroReal (realItem (realOf (columnsOf a e line)))
 
 abbrev pub aboveIn : ℕ → ℕ → List ℕ → Bool
 aboveIn a e line = isAboveZero (realItem (realOf (columnsOf a e line)))
@@ -46,9 +46,9 @@ dataForm-cases false b c = refl
 
 -- 58's line 7
 pub conditionFault-data-form : (line : List ℕ) → conditionFault (recordOf 3) line
-    ≡ pick (noughtIn 20 30 line) (pick (zeroIn 30 43 line) (pick (zeroIn 43 56 line) passed (refusal 14 44)) (refusal 14 31)) passed
+    ≡ pick (zeroIntegerIn 20 30 line) (pick (zeroRealIn 30 43 line) (pick (zeroRealIn 43 56 line) passed (refusal 14 44)) (refusal 14 31)) passed
 unfolding conditionFault breach itemsOf recordOf records
-conditionFault-data-form line = dataForm-cases (noughtIn 20 30 line) (zeroIn 30 43 line) (zeroIn 43 56 line)
+conditionFault-data-form line = dataForm-cases (zeroIntegerIn 20 30 line) (zeroRealIn 30 43 line) (zeroRealIn 43 56 line)
 
 factors-cases : (a b c : Bool) → breachFault (recordOf 10 .fields) (pick a (pick b (pick c 0 3) 2) 1)
     ≡ pick a (pick b (pick c passed (refusal 14 51)) (refusal 14 26)) (refusal 14 1)

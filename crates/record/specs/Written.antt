@@ -13,16 +13,16 @@ use Rattle.text.specs.Parts.{signed}
 use Rattle.integer.specs.Spelling.{IntegerSpelling, limit}
 use Rattle.real.specs.Spelling.{RealSpelling}
 use Rattle.codes.specs.Rule.{Rule, keeps}
-use Rattle.codes.specs.Form.{Form, Optional, skip, text, title, real, integer, within}
+use Rattle.codes.specs.Form.{Form, Optional, skip, text, identification, real, integer, within}
 use Rattle.field.specs.Item.{Item}
-use Rattle.records.specs.Row.{Field, Row, breach}
+use Rattle.rows.specs.Row.{Field, Row, breach}
 use Rattle.field.specs.Field.{columnsOf}
 
 module _ (line : List ℕ) where
   -- the item stands in a field's columns, and keeps the field's rule
   pub data Stands : Form → Item → List ℕ → Type 0 where
     a-text : {t cols : List ℕ} → TextIn t cols → Stands text (Item.text t) cols
-    a-title : {t cols : List ℕ} → TextIn t cols → (t ≡ [] → ⊥) → Stands title (Item.text t) cols
+    a-identification : {t cols : List ℕ} → TextIn t cols → (t ≡ [] → ⊥) → Stands identification (Item.text t) cols
     an-integer : {r : Rule} {o : Optional} {n : Bool} {v : ℕ} {cols : List ℕ}
         → IntegerSpelling n v cols → v ≤ limit n → keeps r (signed n v) ≡ true → Stands (integer r o) (Item.integer (signed n v)) cols
     -- an integer may be left blank only where it is named, with all the columns named

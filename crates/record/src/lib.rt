@@ -5,16 +5,16 @@ ghost use lib.ListN.{length, take, drop};
 ghost use Rattle.codes.specs.Form.{formOf};
 ghost use Rattle.layout.specs.Columns.{total};
 ghost use Rattle.field.specs.Field.{mayBlank, fieldNumber};
-ghost use Rattle.records.specs.Records.{recordOf, dataRow, fieldList};
+ghost use Rattle.rows.specs.Records.{recordOf, dataRow, fieldList};
 ghost use Rattle.record.specs.Check.{fieldsFault, firstByte, strayIn, stray, fieldsRefusal, conditionFault, rowRefusal};
 use codes::ORDERS;
 use codes::REAL;
 use codes::SKIP;
 use laws::index;
 use line::Refusal;
-use records::DATA_FORM;
-use records::FACTORS;
-use records::row_numbers;
+use rows::DATA_FORM;
+use rows::FACTORS;
+use rows::row_numbers;
 
 // Nothing is wrong.
 const PASSED: Refusal = Refusal {
@@ -110,7 +110,7 @@ fn first_stray(line: &[u8; 80], forms: &[u8], widths: &[u8]) -> usize
 }
 
 // The first refusal of a line by its fields: their own, then 13; number 0 where it passes.
-pub fn check_columns(line: &[u8; 80], forms: &[u8], widths: &[u8]) -> Refusal
+fn check_columns(line: &[u8; 80], forms: &[u8], widths: &[u8]) -> Refusal
     requires { ⌜ (length (now widths) ≤ length (now forms)) × (total (now widths) ≤ 80) ⌝ }
     ensures { λ r. ⌜ r ≡ fieldsRefusal (fieldList (now (forms .entry)) (now (widths .entry))) (now (line .entry)) ⌝ }
 {
@@ -130,9 +130,9 @@ fn check_data_form(line: &[u8; 80]) -> Refusal
     ensures { λ r. ⌜ r ≡ conditionFault (recordOf 3) (now (line .entry)) ⌝ }
 {
     let columns: &[u8] = line;
-    if field::is_nought(&columns[20..30]) {
-        if field::is_zero(&columns[30..43]) {
-            if field::is_zero(&columns[43..56]) {
+    if field::is_zero_integer(&columns[20..30]) {
+        if field::is_zero_real(&columns[30..43]) {
+            if field::is_zero_real(&columns[43..56]) {
                 return PASSED;
             }
             return Refusal {

@@ -12,7 +12,7 @@ pub fn is_digit(b: u8) -> bool
     (48 <= b) & (b <= 57)
 }
 
-// Whether all the columns are blank; none at all are.
+// Whether all the columns are blank, as they are where there are none.
 pub fn is_blank(s: &[u8]) -> bool
     ensures { λ r. ⌜ r ≡ allBlank (now (s .entry)) ⌝ }
 {

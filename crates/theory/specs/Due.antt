@@ -6,9 +6,9 @@ use lib.ListN.{length}
 use Rattle.laws.specs.Choice.{pick}
 use Rattle.layout.specs.Layout.{caseOf, numbersOf}
 use Rattle.field.specs.Item.{Item}
-use Rattle.records.specs.Row.{Row, cut}
-use Rattle.records.specs.Sequence.{kindOf, sequence}
-use Rattle.records.specs.Records.{recordOf, dataRow}
+use Rattle.rows.specs.Row.{Row, cut}
+use Rattle.rows.specs.Sequence.{kindOf, sequence}
+use Rattle.rows.specs.Records.{recordOf, dataRow}
 use Rattle.theory.specs.Sets.{numberAt}
 
 -- how many lines hold this many numbers, of n in a full line

@@ -3,7 +3,7 @@ use mathlib.Core.Path.{_≡_, refl}
 use Prim.Native.Nat.{_*_}
 use lib.ListN.{length}
 use Rattle.layout.specs.Layout.{layouts, layoutOf, numbersOf}
-use Rattle.records.specs.Records.{records, recordOf, dataRow}
+use Rattle.rows.specs.Records.{records, recordOf, dataRow}
 use Rattle.theory.specs.Due.{linesFor, numberRows, listRows}
 
 -- "A count of 7 in case 1 takes two lines, in case 8 seven"

@@ -12,10 +12,10 @@ use Rattle.text.specs.Text.{TextIn}
 use Rattle.line.specs.Line.{Allowed, filled}
 use Rattle.kind.specs.Kind.{Delimiter, NumberLine}
 use Rattle.field.specs.Item.{Item, text}
-use Rattle.records.specs.Row.{Row}
+use Rattle.rows.specs.Row.{Row}
 use Rattle.record.specs.Written.{Written}
 use Rattle.theory.specs.Sets.{Set, set}
-use Rattle.records.specs.Sequence.{isTyped}
+use Rattle.rows.specs.Sequence.{isTyped}
 use Rattle.theory.specs.Due.{rowsOf}
 
 -- "No line between a set's number line and its closing delimiter is a delimiter"

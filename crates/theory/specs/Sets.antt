@@ -2,9 +2,8 @@
 -- are blank) and reals (sign, coefficient, scale) or a plain set's lines").
 use mathlib.Core.List.{List, []}
 use Prim.Native.Nat.{ℕ}
-use lib.IntN.{pos, negsuc}
 use lib.ListN.{getD}
-use Rattle.field.specs.Item.{Item, text, integer, blank, real}
+use Rattle.field.specs.Item.{Item, blank, natural}
 
 -- a set: its number, and the items of its lines; a plain set's line is one text
 pub record Set : Type 0 where
@@ -13,14 +12,6 @@ pub record Set : Type 0 where
 
 abbrev pub set : ℕ → List (List Item) → Set
 set n ls = record { number = n; lines = ls }
-
--- the number of an integer item that is not below zero; 0 for any other item
-abbrev pub natural : Item → ℕ
-natural (text t) = 0
-natural (integer (pos v)) = v
-natural (integer (negsuc v)) = 0
-natural blank = 0
-natural (real n c s) = 0
 
 -- the number at a place of a line, both from 0
 unfoldable pub numberAt : List (List Item) → ℕ → ℕ → ℕ

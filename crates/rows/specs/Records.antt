@@ -1,20 +1,20 @@
--- The records of 58, 82, 151, 164 and 1815 as one table (01, "Records"; 001, 000 and 004 print their FORMATs).
+-- The records of 58, 82, 151, 164 and 1815 as one table (01, "Records"; 001, 000 and 004 print their FORMATs, 002 that of 164's third line).
 use mathlib.Core.List.{List, [], _∷_, map}
 use lib.Dec.{eqb}
 use Rattle.laws.specs.Choice.{pick}
 use Prim.Native.Nat.{ℕ}
 use lib.ListN.{getD}
 use Rattle.codes.specs.Rule.{any, from, Rule}
-use Rattle.codes.specs.Form.{skip, text, title, real, integer, never, within, functionType, direction, ordinateType, count, spacing, dataType, entries, fileType, unitsCode, temperatureMode, triggerType, duplicateOption, window, slope, delayType, autorangeMethod, acquisitionResults, powerAccumulation, amplitudeUnits, displayUnits, backgroundGrid, acquisitionMonitor, orders, formOf}
+use Rattle.codes.specs.Form.{skip, text, identification, real, integer, never, within, functionType, direction, ordinateType, count, spacing, dataType, entries, fileType, unitsCode, temperatureMode, triggerType, duplicateOption, window, slope, delayType, autorangeMethod, acquisitionResults, powerAccumulation, amplitudeUnits, displayUnits, backgroundGrid, acquisitionMonitor, orders, formOf}
 use Rattle.layout.specs.Layout.{layoutOf}
-use Rattle.records.specs.Row.{Field, Row, none, zeroIfUneven, aboveZero}
+use Rattle.rows.specs.Row.{Field, Row, none, zeroIfUneven, aboveZero}
 
 -- a field of each form, by its width: Aw, a text that may not be blank, wX, Ew.d or Dw.d, Iw
 abbrev pub A : ℕ → Field
 A w = record { form = text; width = w }
 
 abbrev pub T : ℕ → Field
-T w = record { form = title; width = w }
+T w = record { form = identification; width = w }
 
 abbrev pub X : ℕ → Field
 X w = record { form = skip; width = w }
@@ -35,7 +35,7 @@ plain fs = record { fields = fs; condition = none }
 -- the records by number, from 0; the code's constants name them
 unfoldable pub records : List Row
 records =
-    -- 0, 80 columns of text: 151's lines 1, 2, 3 and 6; 1815's records 14 and 20 to 23
+    -- 0, 80 columns of text: 151's lines 1, 2, 3 and 6; 1815's record 14, and records 20 to 23, which 01 takes as any text
     plain (A 80 ∷ [])
     -- 1, a text that may not be blank: 58's lines 1 to 5, 82's line 2
     ∷ plain (T 80 ∷ [])
@@ -49,7 +49,7 @@ records =
     ∷ plain (I 10 (from 1) ∷ I 10 entries ∷ I 10 (from 0) ∷ [])
     -- 6, 82's entries: 8I10
     ∷ plain (I 10 (from 0) ∷ I 10 (from 0) ∷ I 10 (from 0) ∷ I 10 (from 0) ∷ I 10 (from 0) ∷ I 10 (from 0) ∷ I 10 (from 0) ∷ I 10 (from 0) ∷ [])
-    -- 7, 151's line 4: two texts of 10, 3I10, "all three blank or all present"
+    -- 7, 151's line 4: two texts of 10, 3I10, "all three blank or all present"; in a mixture each blank one is refused
     ∷ plain (A 10 ∷ A 10 ∷ I? 10 any 20 50 ∷ I? 10 any 20 50 ∷ I? 10 fileType 20 50 ∷ [])
     -- 8, 151's lines 5 and 7: two texts of 10
     ∷ plain (A 10 ∷ A 10 ∷ [])
@@ -57,7 +57,7 @@ records =
     ∷ plain (I 10 unitsCode ∷ A 20 ∷ I? 10 temperatureMode 30 40 ∷ [])
     -- 10, 164's factors: 3D25.17
     ∷ record { fields = E 25 ∷ E 25 ∷ E 25 ∷ []; condition = aboveZero }
-    -- 11, 164's offset: D25.17
+    -- 11, 164's offset, on a line of its own: D25.17
     ∷ plain (E 25 ∷ [])
     -- 12, 1815's record 1: I12,10A2
     ∷ plain (I 12 any ∷ A 20 ∷ [])

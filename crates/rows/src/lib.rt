@@ -1,5 +1,5 @@
 // The records of 58, 82, 151, 164 and 1815 as one table.
-ghost use Rattle.records.specs.Tabled.{Tabled};
+ghost use Rattle.rows.specs.Tabled.{Tabled};
 use codes::ACQUISITION_MONITOR;
 use codes::ACQUISITION_RESULTS;
 use codes::AMPLITUDE_UNITS;
@@ -34,40 +34,14 @@ const E: u8 = codes::REAL;
 
 const I: u8 = codes::INTEGER;
 
-const T: u8 = codes::TITLE;
+const T: u8 = codes::IDENTIFICATION;
 
 const X: u8 = codes::SKIP;
 
-// The records, by number; specs/Records.antt has their meaning in the same order.
-pub const TEXT_LINE: usize = 0;
-
-pub const TITLE_LINE: usize = 1;
-
-pub const DEGREES_OF_FREEDOM: usize = 2;
-
+// The records that ask something of their fields together, by number; specs/Records.antt has all records in order.
 pub const DATA_FORM: usize = 3;
 
-pub const AXIS: usize = 4;
-
-pub const TRACE: usize = 5;
-
-pub const TRACE_ENTRIES: usize = 6;
-
-pub const CREATED: usize = 7;
-
-pub const SAVED: usize = 8;
-
-pub const UNITS: usize = 9;
-
 pub const FACTORS: usize = 10;
-
-pub const OFFSET: usize = 11;
-
-pub const ORDER_RECORD_1: usize = 12;
-
-pub const ORDER_COUNTS: usize = 28;
-
-pub const ORDER_LIST: usize = 29;
 
 // The forms of each record's fields.
 const FORMS: [[u8; 12]; 30] = [

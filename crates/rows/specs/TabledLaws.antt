@@ -11,8 +11,8 @@ use Rattle.laws.specs.Choice.{and-left, and-right}
 use Rattle.laws.specs.Ranges.{allAre, in-range}
 use Rattle.laws.specs.Table.{tabulate, agree-below}
 use Rattle.layout.specs.Columns.{total}
-use Rattle.records.specs.Records.{plain, records, recordOf, fieldList}
-use Rattle.records.specs.Tabled.{Tabled}
+use Rattle.rows.specs.Records.{plain, records, recordOf, fieldList}
+use Rattle.rows.specs.Tabled.{Tabled}
 
 -- the code's two tables give the records' fields, which fit the line
 module _ (fss wss : List (List ℕ)) (d e : List ℕ) (k : ℕ) (h : k < 30) where

@@ -1,10 +1,11 @@
--- What a row of the code's two tables is: forms by number and widths, twelve of each, that give a record's fields and fit the line.
+-- What a row of the code's two tables is: forms by number and widths, twelve of each, that give a record's
+-- fields and fit the line. Forms past the width that ends a row are free: nothing reads them.
 use mathlib.Core.Path.{_≡_}
 use mathlib.Core.List.{List}
 use Prim.Native.Nat.{ℕ, _≤_}
 use lib.ListN.{length}
 use Rattle.layout.specs.Columns.{total}
-use Rattle.records.specs.Records.{recordOf, fieldList}
+use Rattle.rows.specs.Records.{recordOf, fieldList}
 
 pub record Tabled (k : ℕ) (fs ws : List ℕ) : Type 0 where
   pub listed : fieldList fs ws ≡ recordOf k .fields

@@ -1,14 +1,14 @@
--- `records::row_numbers` meets its contract.
+-- `rows::row_numbers` meets its contract.
 use mathlib.Core.Path.{refl}
 use mathlib.Core.List.{List, [], _∷_}
 use Prim.Native.Nat.{ℕ}
 use Rattle.layout.specs.Columns.{total}
 use Rattle.codes.specs.Form.{forms, formOf}
-use Rattle.records.specs.Records.{records, recordOf, fieldList}
-use Rattle.records.specs.TabledLaws.{tabled, tabled-past}
+use Rattle.rows.specs.Records.{records, recordOf, fieldList}
+use Rattle.rows.specs.TabledLaws.{tabled, tabled-past}
 use borrow.Author.Needs.{needs}
-use Rattle.records.proofs.row_numbers.Statement.{statement}
-use Rattle.records.proofs.row_numbers.Tie as tie
+use Rattle.rows.proofs.row_numbers.Statement.{statement}
+use Rattle.rows.proofs.row_numbers.Tie as tie
 
 returns : tie.Need-returns
 returns c = tabled-past _ (c .if1 .taken)

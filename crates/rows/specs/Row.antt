@@ -4,7 +4,7 @@ use Prim.Native.Nat.{ℕ, _+_}
 use lib.ListN.{getD, take}
 use Rattle.laws.specs.Choice.{pick}
 use Rattle.codes.specs.Form.{Form}
-use Rattle.field.specs.Item.{Item, isNought, isZero, isAboveZero}
+use Rattle.field.specs.Item.{Item, isZeroInteger, isZeroReal, isAboveZero}
 
 pub record Field : Type 0 where
   pub form : Form
@@ -13,7 +13,7 @@ pub record Field : Type 0 where
 pub data Condition : Type 0 where
   -- nothing more
   none : Condition
-  -- 58, line 7: "With spacing 0 minimum and increment are zero"
+  -- 58, line 7: "With spacing 0 minimum and increment are zero", by value: of any sign and scale
   zeroIfUneven : Condition
   -- 164: "factors for length, force, temperature, each above zero"
   aboveZero : Condition
@@ -35,6 +35,6 @@ firstNotAbove k (i ∷ is) = pick (isAboveZero i) (firstNotAbove (k + 1) is) k
 unfoldable pub breach : Condition → List Item → ℕ
 breach none is = 0
 breach zeroIfUneven is =
-    pick (isNought (getD is 2 Item.blank))
-    (pick (isZero (getD is 3 Item.blank)) (pick (isZero (getD is 4 Item.blank)) 0 5) 4) 0
+    pick (isZeroInteger (getD is 2 Item.blank))
+    (pick (isZeroReal (getD is 3 Item.blank)) (pick (isZeroReal (getD is 4 Item.blank)) 0 5) 4) 0
 breach aboveZero is = firstNotAbove 1 is

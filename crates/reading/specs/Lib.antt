@@ -1,0 +1,2 @@
+pub mod FieldReading
+pub mod LineReading
