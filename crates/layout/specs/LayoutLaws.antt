@@ -1,8 +1,8 @@
 -- The table of the eight cases: it is the published FORMATs', its fields lie inside 80 columns, and the code's constant holds it.
-use mathlib.Core.Path.{_≡_, refl, sym, _∙_}
+use mathlib.Core.Path.{_≡_, refl, sym, _∙_, ap}
 use mathlib.Core.Bool.{Bool, true, _&&_}
 use mathlib.Core.List.{List, [], map}
-use Prim.Native.Nat.{ℕ, _*_, _≤_, _<_}
+use Prim.Native.Nat.{ℕ, _*_, _≤_, _<_, _/_}
 use mathlib.Core.Logic.{⊎-elim}
 use native.Mathlib.Nat.{le-trans}
 use native.Mathlib.Omega.{arith}
@@ -14,12 +14,26 @@ use Rattle.laws.specs.Ranges.{in-range}
 use Rattle.laws.specs.Table.{tabulate, table-at}
 use Rattle.layout.specs.Columns.{fieldStart, fieldPast, total}
 use Rattle.layout.specs.ColumnsLaws.{fieldPast-total, fieldStart-total}
-use Rattle.layout.specs.Layout.{Layout, Edit, layouts, layoutOf, fieldsOf, valuesOf, numbersOf, printed, cellOf, layout}
+use Rattle.layout.specs.Layout.{Layout, Edit, layouts, layoutOf, fieldsOf, valuesOf, numbersOf, printed, cellOf, layout, Printed, caseOf}
 
--- the table's rows are the published FORMATs
-pub layouts-printed : map (λ (l : Layout). l .widths) layouts ≡ map (map (λ (e : Edit). e .width)) printed
+-- the table's rows are the published FORMATs, by ordinate type and spacing
+abbrev pub shape : Layout → ℕ × (ℕ × List ℕ)
+shape l = (l .ordinate, (l .spacing, l .widths))
+
+abbrev pub shape-printed : Printed → ℕ × (ℕ × List ℕ)
+shape-printed p = (p .ordinate, (p .spacing, map (λ (e : Edit). e .width) (p .format)))
+
+pub layouts-printed : map shape layouts ≡ map shape-printed printed
 unfolding layouts printed
 layouts-printed = refl
+
+-- a case is found by its ordinate type and its spacing
+abbrev found : ℕ → Bool
+found c = eqb (caseOf (layoutOf c .ordinate) (layoutOf c .spacing)) c
+
+pub caseOf-layout : (c : ℕ) → c < 8 → caseOf (layoutOf c .ordinate) (layoutOf c .spacing) ≡ c
+unfolding caseOf layoutOf layouts
+caseOf-layout c h = eqb-true _ _ (in-range found true 0 8 c refl (omega arith) (omega arith))
 
 -- a case's fields fill no more than 80 columns, there is one at least, and they are the numbers of its values
 abbrev sound : ℕ → Bool
@@ -37,9 +51,9 @@ fieldsOf-values c h =
     eqb-true _ _ (and-right (ltb 0 (fieldsOf c)) _ (and-right (leb (total (layoutOf c .widths)) 80) _ (tested c h)))
 
 -- there is no case past the eight
-pub layoutOf-past : (c : ℕ) → 8 ≤ c → layoutOf c ≡ layout [] 0
+pub layoutOf-past : (c : ℕ) → 8 ≤ c → layoutOf c ≡ layout 0 0 [] 0
 unfolding layoutOf layouts
-layoutOf-past c h = List·getD-eq-default layouts (layout [] 0) h
+layoutOf-past c h = List·getD-eq-default layouts (layout 0 0 [] 0) h
 
 abbrev narrow : ℕ → Bool
 narrow c = leb (length (layoutOf c .widths)) 6
@@ -90,3 +104,33 @@ pub fieldStart-past : (c j k : ℕ) → 6 ≤ j → j ≤ k → fieldStart (layo
 fieldStart-past c j k h l =
     let w : length (layoutOf c .widths) ≤ 6 = widths-six c in
     fieldStart-total (layoutOf c .widths) j (omega arith) ∙ sym (fieldStart-total (layoutOf c .widths) k (omega arith))
+
+-- the numbers in a value are the fields of a line by its values
+abbrev quotient : ℕ → Bool
+quotient c = ltb 0 (valuesOf c) && eqb (fieldsOf c / valuesOf c) (numbersOf c)
+
+quotient-below : (c : ℕ) → c < 8 → quotient c ≡ true
+unfolding fieldsOf valuesOf numbersOf layoutOf layouts
+quotient-below c h = in-range quotient true 0 8 c refl (omega arith) (omega arith)
+
+valuesOf-past : (c : ℕ) → 8 ≤ c → valuesOf c ≡ 0
+unfolding valuesOf
+valuesOf-past c h = ap (λ (l : Layout). l .values) (layoutOf-past c h)
+
+numbersOf-past : (c : ℕ) → 8 ≤ c → numbersOf c ≡ 0
+unfolding numbersOf
+numbersOf-past c h = simp (le-ltb c 8 h)
+
+pub numbersOf-quotient : (c : ℕ) → (valuesOf c ≡ 0 → ⊥) → fieldsOf c / valuesOf c ≡ numbersOf c
+numbersOf-quotient c n =
+    ⊎-elim
+    (λ h. eqb-true _ _ (and-right (ltb 0 (valuesOf c)) _ (quotient-below c h)))
+    (λ h. absurd (n (valuesOf-past c h)))
+    (below-or-not c 8)
+
+pub numbersOf-none : (c : ℕ) → valuesOf c ≡ 0 → numbersOf c ≡ 0
+numbersOf-none c e =
+    ⊎-elim
+    (λ h. let p : 0 < valuesOf c = leb-true 1 _ (and-left (ltb 0 (valuesOf c)) _ (quotient-below c h)) in absurd (omega arith))
+    (numbersOf-past c)
+    (below-or-not c 8)

@@ -3,7 +3,7 @@ ghost use mathlib.Core.Path.{_≡_};
 ghost use lib.ListN.{getD};
 ghost use Rattle.laws.specs.Table.{tabulate};
 ghost use Rattle.layout.specs.Columns.{fieldStart};
-ghost use Rattle.layout.specs.Layout.{layoutOf, fieldsOf, valuesOf, caseOf, cellOf};
+ghost use Rattle.layout.specs.Layout.{layoutOf, fieldsOf, valuesOf, caseOf, numbersOf, cellOf};
 use laws::index;
 
 // A row a case: the widths of a full line's fields (0 past the last), how many fields, how many values.
@@ -18,7 +18,7 @@ pub const LAYOUTS: [[u8; 8]; 8] = [
     [13, 20, 20, 0, 0, 0, 3, 1],
 ];
 
-// The case, counted from 0, of an ordinate type and a spacing (1 even, otherwise uneven); 8 where there is none.
+// The case, counted from 0, of an ordinate type and a spacing (1 even, 0 uneven); 8 where there is none.
 pub fn case_of(ordinate_type: u32, spacing: u32) -> usize
     ensures { λ r. ⌜ r ≡ caseOf «ordinate_type» spacing ⌝ }
 {
@@ -26,25 +26,37 @@ pub fn case_of(ordinate_type: u32, spacing: u32) -> usize
         if spacing == 1 {
             return 0;
         }
-        return 1;
+        if spacing == 0 {
+            return 1;
+        }
+        return 8;
     }
     if ordinate_type == 5 {
         if spacing == 1 {
             return 2;
         }
-        return 3;
+        if spacing == 0 {
+            return 3;
+        }
+        return 8;
     }
     if ordinate_type == 4 {
         if spacing == 1 {
             return 4;
         }
-        return 5;
+        if spacing == 0 {
+            return 5;
+        }
+        return 8;
     }
     if ordinate_type == 6 {
         if spacing == 1 {
             return 6;
         }
-        return 7;
+        if spacing == 0 {
+            return 7;
+        }
+        return 8;
     }
     8
 }
@@ -96,6 +108,17 @@ pub fn values_of(case: usize) -> usize
     ensures { λ r. ⌜ r ≡ valuesOf case ⌝ }
 {
     cell(case, 7)
+}
+
+// How many numbers a value of a case stores; 0 where there is no such case.
+pub fn numbers_of(case: usize) -> usize
+    ensures { λ r. ⌜ r ≡ numbersOf case ⌝ }
+{
+    let values = values_of(case);
+    if values == 0 {
+        return 0;
+    }
+    fields_of(case) / values
 }
 
 // The first column, from 0, of a field of a case; past the last field the column past them all.
