@@ -1,2 +1,3 @@
 pub mod FieldReading
+pub mod KeptReading
 pub mod LineReading

@@ -14,6 +14,7 @@ use Rattle.layout.specs.Columns.{total}
 use Rattle.field.specs.Item.{Item}
 use Rattle.field.specs.Field.{columnsOf, mayBlank, fieldNumber, withItem}
 use Rattle.rows.specs.Row.{Field, Row}
+use Rattle.reading.specs.KeptReading.{kept-complete, kept-sound}
 use Rattle.record.specs.Check.{orElse, fieldsFault, orColumn, strayIn, stray, itemsOf, breachFault, conditionFault, strayFault, fieldsRefusal, rowRefusal}
 use Rattle.record.specs.Written.{a-text, FieldsIn, rest, skipped, stands, Written}
 use Rattle.reading.specs.FieldReading.{firstByte-complete, firstByte-sound, Reads, skip-complete, stands-complete, identification-sound, integer-sound, real-sound}
@@ -86,7 +87,7 @@ module _ (line : List ℕ) (eighty : length line ≡ 80) where
   unfolding rowRefusal fieldsRefusal conditionFault
   written-complete r is w =
       let t : ReadsFrom 0 (r .fields) is = fieldsIn-complete (w .in-columns) 0 refl in
-      (rw (t .faultless, t .clear, t .items, w .condition) refl, t .items)
+      (rw (t .faultless, t .clear, t .items, kept-complete (w .kept)) refl, t .items)
 
   -- From check to writing.
 
@@ -121,5 +122,5 @@ module _ (line : List ℕ) (eighty : length line ≡ 80) where
       let f = orElse-passed _ _ _ (c .0) in
       record {
         in-columns = fieldsIn-sound (r .fields) 0 (omega arith) (f .0) (strayFault-passed _ (f .1));
-        condition = breachFault-passed (r .fields) _ (c .1);
+        kept = kept-sound (r .condition) _ (breachFault-passed (r .fields) _ (c .1));
       }

@@ -2,11 +2,11 @@
 -- field's item in its columns and blanks elsewhere: a text from the first column, an integer or real in any spelling above that
 -- means it (a real with just its sign, coefficient and scale), a blank one as blanks").
 use mathlib.Core.Path.{_≡_}
-use mathlib.Core.Bool.{Bool, true}
+use mathlib.Core.Bool.{Bool, true, false}
 use mathlib.Core.List.{List, [], _∷_, _++_}
 use Prim.Native.Nat.{ℕ, _≤_}
-use lib.IntN.{ℤ}
-use lib.ListN.{length}
+use lib.IntN.{ℤ, pos}
+use lib.ListN.{length, getD}
 use Rattle.text.specs.Blank.{Blanks}
 use Rattle.text.specs.Text.{TextIn}
 use Rattle.text.specs.Parts.{signed}
@@ -15,7 +15,7 @@ use Rattle.real.specs.Spelling.{RealSpelling}
 use Rattle.codes.specs.Rule.{Rule, keeps}
 use Rattle.codes.specs.Form.{Form, Optional, skip, text, identification, real, integer, within}
 use Rattle.field.specs.Item.{Item}
-use Rattle.rows.specs.Row.{Field, Row, breach}
+use Rattle.rows.specs.Row.{Field, Row, Condition, none, zeroIfUneven, aboveZero}
 use Rattle.field.specs.Field.{columnsOf}
 
 module _ (line : List ℕ) where
@@ -38,7 +38,25 @@ module _ (line : List ℕ) where
     stands : {form : Form} {w : ℕ} {fs : List Field} {i : Item} {is : List Item} (own cols : List ℕ)
         → length own ≡ w → Stands form i own → FieldsIn fs is cols → FieldsIn (record { form = form; width = w } ∷ fs) (i ∷ is) (own ++ cols)
 
+-- every item is a real above zero: no minus, and a coefficient that is not 0
+pub data AllAbove : List Item → Type 0 where
+  nil : AllAbove []
+  cons : {c : ℕ} {s : ℤ} {is : List Item} → (c ≡ 0 → ⊥) → AllAbove is → AllAbove (Item.real false c s ∷ is)
+
+-- a real that is zero, of any sign and scale
+pub data Zero : Item → Type 0 where
+  zero : {n : Bool} {s : ℤ} → Zero (Item.real n 0 s)
+
+-- "The listed items keep the rules of their records": what a record asks of its items together
+pub data Kept : Condition → List Item → Type 0 where
+  nothing : {is : List Item} → Kept none is
+  -- 58, line 7, by its spacing, the third item: minimum and increment, the fourth and fifth, are zero where it is 0
+  spaced : {is : List Item} → (getD is 2 Item.blank ≡ Item.integer (pos 0) → Zero (getD is 3 Item.blank) × Zero (getD is 4 Item.blank))
+      → Kept zeroIfUneven is
+  -- 164: "factors .., each above zero"
+  factors : {is : List Item} → AllAbove is → Kept aboveZero is
+
 -- the line's 80 columns are a writing of the items by the row
 pub record Written (r : Row) (is : List Item) (line : List ℕ) : Type 0 where
   pub in-columns : FieldsIn line (r .fields) is line
-  pub condition : breach (r .condition) is ≡ 0
+  pub kept : Kept (r .condition) is
