@@ -1,0 +1,71 @@
+-- `judge::finish` meets its contract.
+use mathlib.Core.Path.{_∙_}
+use Rattle.judge.specs.JudgeLaws.{runEnd-rest, runEnd-end, runEnd-no-set, runEnd-accepted}
+use borrow.Author.Needs.{needs}
+use Rattle.judge.proofs.finish.Statement.{statement}
+use Rattle.judge.proofs.finish.Tie as tie
+
+line-fault-requires : tie.Need-line-fault-requires
+line-fault-requires c κs = search needs
+
+add-t8 : tie.Need-add-t8
+add-t8 c = search needs
+
+returns : tie.Need-returns
+returns c = rw (c .line-fault .ensures) (runEnd-rest (c .before .before .before .args .s) (c .before .before .before .args .lines) (c .before .before .before .args .rest .now) (c .before .if1 .taken))
+
+enum-told : tie.Need-enum-told
+enum-told c = search needs
+
+returns-2 : tie.Need-returns-2
+returns-2 c = runEnd-no-set (c .before .before .before .before .before .before .args .s) (c .before .before .before .before .before .before .args .lines) (c .before .before .before .before .before .before .args .rest .now) (c .before .before .before .before .if1 .left) (c .before .before .enum-told .given .1) (c .if2 .taken)
+
+enum-told-2 : tie.Need-enum-told-2
+enum-told-2 c = search needs
+
+ends-inside-requires : tie.Need-ends-inside-requires
+ends-inside-requires c κs = search needs
+
+enum-told-3 : tie.Need-enum-told-3
+enum-told-3 c = search needs
+
+ends-inside-requires-2 : tie.Need-ends-inside-requires-2
+ends-inside-requires-2 c κs = search needs
+
+enum-told-4 : tie.Need-enum-told-4
+enum-told-4 c = search needs
+
+ends-inside-requires-3 : tie.Need-ends-inside-requires-3
+ends-inside-requires-3 c κs = search needs
+
+returns-3 : tie.Need-returns-3
+returns-3 c = runEnd-accepted (c .before .before .before .before .before .before .args .s) (c .before .before .before .before .before .before .args .lines) (c .before .before .before .before .before .before .args .rest .now) (c .before .before .before .before .if1 .left) (c .before .before .enum-told .given .1) (c .if2 .left)
+
+returns-4 : tie.Need-returns-4
+returns-4 c = c .ends-inside .ensures ∙ runEnd-end (c .before .before .before .before .before .args .s) (c .before .before .before .before .before .args .lines) (c .before .before .before .before .before .args .rest .now) _ (c .before .before .before .if1 .left) (c .before .enum-told2 .given .1)
+
+returns-5 : tie.Need-returns-5
+returns-5 c = c .ends-inside2 .ensures ∙ runEnd-end (c .before .before .before .before .before .args .s) (c .before .before .before .before .before .args .lines) (c .before .before .before .before .before .args .rest .now) _ (c .before .before .before .if1 .left) (c .before .enum-told3 .given .1)
+
+returns-6 : tie.Need-returns-6
+returns-6 c = c .ends-inside3 .ensures ∙ runEnd-end (c .before .before .before .before .before .args .s) (c .before .before .before .before .before .args .lines) (c .before .before .before .before .before .args .rest .now) _ (c .before .before .before .if1 .left) (c .before .enum-told4 .given .1)
+
+pub finish-spec : {M : Type 1} → statement M
+finish-spec =
+    tie.close
+    (tie.spec
+    line-fault-requires
+    add-t8
+    returns
+    enum-told
+    returns-2
+    enum-told-2
+    ends-inside-requires
+    enum-told-3
+    ends-inside-requires-2
+    enum-told-4
+    ends-inside-requires-3
+    returns-3
+    returns-4
+    returns-5
+    returns-6)

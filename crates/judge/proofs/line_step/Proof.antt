@@ -1,0 +1,41 @@
+-- `judge::line_step` meets its contract.
+use mathlib.Core.Path.{sym, _∙_}
+use lib.Seq.{length-take-le}
+use Rattle.line.specs.LineLaws.{columns-within}
+use Rattle.judge.specs.JudgeLaws.{lineStep-own, lineStep-place}
+use borrow.Author.Needs.{needs}
+use Rattle.judge.proofs.line_step.Statement.{statement}
+use Rattle.judge.proofs.line_step.Tie as tie
+
+columns-len-requires : tie.Need-columns-len-requires
+columns-len-requires c κs = search needs
+
+slice-aggregate-columns : tie.Need-slice-aggregate-columns
+slice-aggregate-columns c = sym (length-take-le _ _ (rw (c .before .columns-len .ensures) (columns-within _ _)))
+
+line-fault-requires : tie.Need-line-fault-requires
+line-fault-requires c κs = search needs
+
+returns : tie.Need-returns
+returns c = lineStep-own _ _ _ (c .before .before .before .before .columns-len .ensures) _ (c .before .before .line-fault .ensures) (c .if1 .taken)
+
+filled-line-requires : tie.Need-filled-line-requires
+filled-line-requires c κs = search needs
+
+step-requires : tie.Need-step-requires
+step-requires c κs = search needs
+
+returns-2 : tie.Need-returns-2
+returns-2 c = c .step .ensures ∙ rw (c .before .before .filled-line .ensures) (lineStep-place _ _ _ (c .before .before .before .before .before .before .before .columns-len .ensures) _ (c .before .before .before .before .before .line-fault .ensures) (c .before .before .before .if1 .left))
+
+pub line-step-spec : {M : Type 1} → statement M
+line-step-spec =
+    tie.close
+    (tie.spec
+    columns-len-requires
+    slice-aggregate-columns
+    line-fault-requires
+    returns
+    filled-line-requires
+    step-requires
+    returns-2)

@@ -1,0 +1,85 @@
+-- The laws that the judge's loop needs.
+use mathlib.Core.Path.{_≡_, refl, sym, _∙_, ap}
+use mathlib.Core.Bool.{true, false}
+use mathlib.Core.List.{List, [], _∷_}
+use Prim.Native.Nat.{ℕ, zero, suc, _+_, _-_, _≤_, _<_}
+use native.Mathlib.Omega.{arith}
+use borrow.Author.Tests.{ne-eqb}
+use lib.ListN.{length, take, drop}
+use Rattle.laws.specs.Cut.{lineLen, cut, over, judge, judge-at}
+use Rattle.line.specs.Line.{columns, lineFault, filled}
+use Rattle.line.specs.LineLaws.{columns-take}
+use Rattle.line.specs.declared.Refusal.{Refusal}
+use Rattle.walk.specs.declared.Place.{Place}
+use Rattle.walk.specs.declared.Place.the-variants.{Outside}
+use Rattle.walk.specs.declared.State.{State}
+use Rattle.walk.specs.declared.Outcome.{Outcome}
+use Rattle.walk.specs.declared.Outcome.the-variants.{Next, Refused}
+use Rattle.walk.specs.Step.{stepOf}
+use Rattle.judge.specs.declared.Reply.{Reply}
+use Rattle.judge.specs.Judge.{reply, lineOutcome, lineStep, Run, going, refused, onOutcome, runStep, atEnd, runEnd}
+
+own-first : (s : State) (f : Refusal) (cs : List ℕ) → 0 < f .number → lineOutcome s f cs ≡ Refused f
+own-first s f cs p = go (f .number) refl p
+  where
+    go : (n : ℕ) → f .number ≡ n → 0 < n → lineOutcome s f cs ≡ Refused f
+    go zero e p = absurd (omega arith)
+    go (suc n) e p = rw e refl
+
+place-next : (s : State) (f : Refusal) (cs : List ℕ) → f .number ≤ 0 → lineOutcome s f cs ≡ stepOf s (filled cs)
+place-next s f cs p = let e : f .number ≡ 0 = omega arith in rw e refl
+
+-- a line's columns, as the first bytes before its LF
+module _ (s : State) (l : List ℕ) (n : ℕ) (e : n ≡ length (columns true l)) where
+  columns-first : take n l ≡ columns true l
+  columns-first = rw e (sym (columns-take true l))
+
+  module _ (f : Refusal) (q : f ≡ lineFault true (take n l)) where
+    pub lineStep-own : 0 < f .number → Refused f ≡ lineStep s l
+    unfolding lineStep
+    lineStep-own p = rw (← columns-first, ← q) (sym (own-first s f (take n l) p))
+
+    pub lineStep-place : f .number ≤ 0 → stepOf s (filled (take n l)) ≡ lineStep s l
+    unfolding lineStep
+    lineStep-place p = rw (← columns-first, ← q) (sym (place-next s f (take n l) p))
+
+-- the end of a file, by whether bytes stand after its last LF
+module _ (s : State) (n : ℕ) where
+  pub runEnd-rest : (rest : List ℕ) → 0 < length rest → reply (lineFault false rest .number) (n + 1) ≡ runEnd (going s n) rest
+  runEnd-rest [] p = absurd (omega arith)
+  runEnd-rest (b ∷ bs) p = refl
+
+  pub runEnd-end : (rest : List ℕ) (p : Place) → length rest ≤ 0 → s .place ≡ p → atEnd p (s .sets) n ≡ runEnd (going s n) rest
+  runEnd-end [] p h e = rw (← e) refl
+  runEnd-end (b ∷ bs) p h e = absurd (omega arith)
+
+  pub runEnd-no-set : (rest : List ℕ) → length rest ≤ 0 → s .place ≡ Outside → s .sets ≡ 0 → reply 16 0 ≡ runEnd (going s n) rest
+  runEnd-no-set rest h e z = sym (rw z refl) ∙ runEnd-end rest Outside h e
+
+  pub runEnd-accepted : (rest : List ℕ) → length rest ≤ 0 → s .place ≡ Outside → (s .sets ≡ 0 → ⊥) → reply 0 n ≡ runEnd (going s n) rest
+  runEnd-accepted rest h e z = sym (rw (ne-eqb (s .sets) 0 z) refl) ∙ runEnd-end rest Outside h e
+
+-- a refused run stays refused
+over-refused : (r : Reply) (ls : List (List ℕ)) → over runStep runEnd (refused r) ls ≡ refused r
+unfolding over
+over-refused r [] = refl
+over-refused r (l ∷ ls) = over-refused r ls
+
+judge-refused : (r : Reply) (bytes : List ℕ) → judge runStep runEnd (refused r) bytes ≡ r
+unfolding judge
+judge-refused r bytes = ap (λ (x : Run). runEnd x (cut bytes .rest)) (over-refused r (cut bytes .lines))
+
+-- one turn of the loop over lines: from the place at on, the line that ends at e
+module _ (s : State) (n : ℕ) (l : List ℕ) (at e : ℕ) (a : at ≤ length l) (q : e ≡ at + lineLen (drop at l)) (h : e < length l) where
+  turn : judge runStep runEnd (going s n) (drop at l)
+      ≡ judge runStep runEnd (onOutcome n (lineStep s (take (e - at) (drop at l)))) (drop (e + 1) l)
+  turn = judge-at runStep runEnd (going s n) l at e a q h
+
+  pub judge-next : (o : Outcome) (t : State) → o ≡ lineStep s (take (e - at) (drop at l)) → o ≡ Next t
+      → judge runStep runEnd (going s n) (drop at l) ≡ judge runStep runEnd (going t (n + 1)) (drop (e + 1) l)
+  judge-next o t p u = turn ∙ ap (λ (x : Outcome). judge runStep runEnd (onOutcome n x) (drop (e + 1) l)) (sym p ∙ u)
+
+  pub judge-stops : (o : Outcome) (f : Refusal) → o ≡ lineStep s (take (e - at) (drop at l)) → o ≡ Refused f
+      → judge runStep runEnd (going s n) (drop at l) ≡ reply (f .number) (n + 1)
+  judge-stops o f p u =
+      turn ∙ ap (λ (x : Outcome). judge runStep runEnd (onOutcome n x) (drop (e + 1) l)) (sym p ∙ u) ∙ judge-refused _ _

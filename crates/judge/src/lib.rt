@@ -1,0 +1,107 @@
+// The judge: a whole file, number and place.
+ghost use mathlib.Core.Path.{_≡_};
+ghost use Prim.Native.Nat.{_+_, _≤_};
+ghost use Rattle.judge.specs.Judge.{judged, reply, lineStep, going, runEnd};
+use line::Refusal;
+use walk::Outcome;
+use walk::Place;
+use walk::State;
+
+// Document 01's number and place; for an accepted file 0 and the number of its lines.
+pub struct Reply {
+    pub number: u8,
+    pub place: usize,
+}
+
+// The step of a line that has its LF, by the bytes before it: its own refusals first, then those of its place.
+fn line_step(s: State, line: &[u8]) -> Outcome
+    ensures { λ r. ⌜ r ≡ lineStep s (now (line .entry)) ⌝ }
+{
+    let n = line::columns_len(line, true);
+    let columns = &line[..n];
+    let fault = line::line_fault(columns, true);
+    if 0 < fault.number {
+        return Outcome::Refused(fault);
+    }
+    let filled = line::filled_line(columns);
+    walk::step(s, &filled)
+}
+
+// A file that ends inside a set: 7, past its lines.
+fn ends_inside(lines: usize) -> Reply
+    requires { ⌜ lines ≤ 16777216 ⌝ }
+    ensures { λ r. ⌜ r ≡ reply 7 (lines + 1) ⌝ }
+{
+    Reply {
+        number: 7,
+        place: lines + 1,
+    }
+}
+
+// The reply at the end of a file that was not refused before, with the bytes after its last LF.
+fn finish(s: State, lines: usize, rest: &[u8]) -> Reply
+    requires { ⌜ lines ≤ 16777216 ⌝ }
+    ensures { λ r. ⌜ r ≡ runEnd (going s lines) (now (rest .entry)) ⌝ }
+{
+    if 0 < rest.len() {
+        let fault = line::line_fault(rest, false);
+        return Reply {
+            number: fault.number,
+            place: lines + 1,
+        };
+    }
+    let place = s.place;
+    match place {
+        Place::Outside => {
+            if s.sets == 0 {
+                return Reply {
+                    number: 16,
+                    place: 0,
+                };
+            }
+            Reply {
+                number: 0,
+                place: lines,
+            }
+        }
+        Place::Number => ends_inside(lines),
+        Place::Plain => ends_inside(lines),
+        Place::Typed(_) => ends_inside(lines),
+    }
+}
+
+// Document 01's judge.
+pub fn judge(file: &[u8]) -> Reply
+    ensures { λ r. ⌜ r ≡ judged (now (file .entry)) ⌝ }
+{
+    if 16777216 < file.len() {
+        return Reply {
+            number: 1,
+            place: 0,
+        };
+    }
+    let mut s = State {
+        place: Place::Outside,
+        sets: 0,
+    };
+    let mut lines = 0;
+    let mut at = 0;
+    let mut end = line::find_end(file, at);
+    while end < file.len() {
+        match line_step(s, &file[at..end]) {
+            Outcome::Next(next) => {
+                s = next;
+            }
+            Outcome::Refused(fault) => {
+                return Reply {
+                    number: fault.number,
+                    place: lines + 1,
+                };
+            }
+        }
+        lines += 1;
+        at = end + 1;
+        end = line::find_end(file, at);
+    }
+    finish(s, lines, &file[at..])
+}

@@ -1,0 +1,15 @@
+pub mod Reader
+pub mod Short
+pub mod TypedRun
+pub mod RowFits
+pub mod LineTests
+pub mod TypedRunLaws
+pub mod ReaderComplete
+pub mod ReaderSound
+pub mod Image
+pub mod ImageLaws
+pub mod Ran
+pub mod RanLaws
+pub mod Accepted
+pub mod AcceptedLaws
+pub mod Theorems

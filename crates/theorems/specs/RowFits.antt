@@ -1,0 +1,79 @@
+-- The row that is due in a typed set fits the line's 80 columns.
+use mathlib.Core.Path.{_≡_, refl, ap}
+use mathlib.Core.Bool.{Bool, true, false}
+use mathlib.Core.List.{List, [], _∷_, map}
+use mathlib.Core.Logic.{⊎-elim}
+use Prim.Native.Nat.{ℕ, zero, suc, _≤_}
+use native.Mathlib.Nat.{le-trans}
+use native.Mathlib.Omega.{arith}
+use borrow.Author.Tests.{leb-true}
+use lib.Dec.{leb, ltb, eqb}
+use lib.ListN.{take}
+use Rattle.laws.specs.Choice.{pick, below-or-not}
+use Rattle.laws.specs.Ranges.{in-range}
+use Rattle.layout.specs.Columns.{total}
+use Rattle.layout.specs.Layout.{layoutOf}
+use Rattle.layout.specs.LayoutLaws.{total-inside}
+use Rattle.rows.specs.Row.{Field, Row, cut}
+use Rattle.rows.specs.Records.{E, records, recordOf, dataRow}
+use Rattle.rows.specs.TabledLaws.{recordOf-past}
+use Rattle.record.specs.CheckLaws.{total-take}
+use Rattle.walk.specs.Due.{recordDue, listRow, rowDue}
+use Rattle.walk.specs.declared.Due.{Due}
+
+-- the widths of a row's fields
+abbrev widths : List Field → List ℕ
+widths fs = map (λ (f : Field). f .width) fs
+
+-- a row's fields lie in 80 columns
+abbrev Fits : Row → Type 0
+Fits r = total (widths (r .fields)) ≤ 80
+
+-- the records, by one test of all thirty
+abbrev narrow : ℕ → Bool
+narrow k = leb (total (widths (recordOf k .fields))) 80
+
+recordOf-fits : (k : ℕ) → Fits (recordOf k)
+unfolding recordOf records total
+recordOf-fits k =
+    ⊎-elim
+    (λ h. leb-true _ _ (in-range narrow true 0 30 k refl (omega arith) (omega arith)))
+    (λ h. rw (recordOf-past k h) (omega arith))
+    (below-or-not k 30)
+
+-- the fields of a data line have its layout's widths
+widths-data : (ws : List ℕ) → widths (map E ws) ≡ ws
+widths-data [] = refl
+widths-data (w ∷ ws) = ap (_∷_ w) (widths-data ws)
+
+dataRow-fits : (c : ℕ) → Fits (dataRow c)
+unfolding dataRow
+dataRow-fits c = rw (widths-data (layoutOf c .widths)) (total-inside c)
+
+-- one of two rows that fit
+pick-fits : (t : Bool) (r s : Row) → Fits r → Fits s → Fits (pick t r s)
+pick-fits true r s p q = p
+pick-fits false r s p q = q
+
+-- a row that is cut
+widths-take : (n : ℕ) (fs : List Field) → widths (take n fs) ≡ take n (widths fs)
+widths-take zero fs = refl
+widths-take (suc n) [] = refl
+widths-take (suc n) (f ∷ fs) = ap (_∷_ (f .width)) (widths-take n fs)
+
+cut-fits : (n : ℕ) (r : Row) → Fits r → Fits (cut n r)
+cut-fits n r h = rw (widths-take n (r .fields)) (le-trans (total-take (widths (r .fields)) n) h)
+
+-- a full line of the list that follows the records
+listRow-fits : (d : Due) → Fits (listRow d)
+unfolding listRow
+listRow-fits d =
+    pick-fits (eqb (d .kind) 0) (dataRow (d .case)) _ (dataRow-fits (d .case))
+    (pick-fits (eqb (d .kind) 1) (recordOf 6) (recordOf 29) (recordOf-fits 6) (recordOf-fits 29))
+
+-- the row of the next line, a record or what is left of a list
+pub rowDue-fits : (d : Due) → total (map (λ (f : Field). f .width) (rowDue d .fields)) ≤ 80
+unfolding rowDue
+rowDue-fits d =
+    pick-fits (ltb (recordDue d) 30) (recordOf (recordDue d)) (cut (d .left) (listRow d)) (recordOf-fits (recordDue d))
+    (cut-fits (d .left) (listRow d) (listRow-fits d))

@@ -1,0 +1,1 @@
+// The theorems, in specs/Theorems.antt. It has no code.

@@ -1,0 +1,69 @@
+-- `walk::typed_step` meets its contract.
+use mathlib.Core.Path.{sym, _∙_}
+use Rattle.walk.specs.Step.{typedStep}
+use Rattle.walk.specs.StepLaws.{unless-here, unless-on}
+use borrow.Author.Needs.{needs}
+use Rattle.walk.proofs.typed_step.Statement.{statement}
+use Rattle.walk.proofs.typed_step.Tie as tie
+
+is-closed-requires : tie.Need-is-closed-requires
+is-closed-requires c κs = search needs
+
+is-delimiter-requires : tie.Need-is-delimiter-requires
+is-delimiter-requires c κs = search needs
+
+goes-on-requires : tie.Need-goes-on-requires
+goes-on-requires c κs = search needs
+
+returns : tie.Need-returns
+unfolding typedStep
+returns c = c .goes-on .ensures ∙ simp (sym (c .before .before .before .is-delimiter .ensures) ∙ c .before .before .if1 .taken, sym (c .before .before .before .before .is-closed .ensures) ∙ c .before .if2 .taken)
+
+refused-requires : tie.Need-refused-requires
+refused-requires c κs = search needs
+
+returns-2 : tie.Need-returns-2
+unfolding typedStep
+returns-2 c = c .refused .ensures ∙ simp (sym (c .before .before .before .is-delimiter .ensures) ∙ c .before .before .if1 .taken, sym (c .before .before .before .before .is-closed .ensures) ∙ c .before .if2 .left)
+
+refused-requires-2 : tie.Need-refused-requires-2
+refused-requires-2 c κs = search needs
+
+returns-3 : tie.Need-returns-3
+unfolding typedStep
+returns-3 c = c .refused2 .ensures ∙ simp (sym (c .before .before .before .is-delimiter .ensures) ∙ c .before .before .if1 .left, sym (c .before .before .before .before .is-closed .ensures) ∙ c .before .if3 .taken)
+
+check-due-requires : tie.Need-check-due-requires
+check-due-requires c κs = search needs
+
+returns-4 : tie.Need-returns-4
+unfolding typedStep
+returns-4 c = simp (sym (c .before .before .before .before .before .is-delimiter .ensures) ∙ c .before .before .before .before .if1 .left, sym (c .before .before .before .before .before .before .is-closed .ensures) ∙ c .before .before .before .if3 .left) (rw (← c .before .before .check-due .ensures) (sym (unless-here _ _ (c .if4 .taken))))
+
+after-requires : tie.Need-after-requires
+after-requires c κs = search needs
+
+goes-on-requires-2 : tie.Need-goes-on-requires-2
+goes-on-requires-2 c κs = search needs
+
+returns-5 : tie.Need-returns-5
+unfolding typedStep
+returns-5 c = c .goes-on2 .ensures ∙ simp (sym (c .before .before .before .before .before .before .before .is-delimiter .ensures) ∙ c .before .before .before .before .before .before .if1 .left, sym (c .before .before .before .before .before .before .before .before .is-closed .ensures) ∙ c .before .before .before .before .before .if3 .left) (rw (c .before .after .ensures, ← c .before .before .before .before .check-due .ensures) (sym (unless-on _ _ (c .before .before .if4 .left))))
+
+pub typed-step-spec : {M : Type 1} → statement M
+typed-step-spec =
+    tie.close
+    (tie.spec
+    is-closed-requires
+    is-delimiter-requires
+    goes-on-requires
+    returns
+    refused-requires
+    returns-2
+    refused-requires-2
+    returns-3
+    check-due-requires
+    returns-4
+    after-requires
+    goes-on-requires-2
+    returns-5)

@@ -1,0 +1,4 @@
+pub mod Due
+pub mod DueLaws
+pub mod Step
+pub mod StepLaws

@@ -1,0 +1,528 @@
+// The walk over a file's lines: the state, and the step of one line. It is the only place that knows what is due.
+ghost use mathlib.Core.Path.{_≡_};
+ghost use Prim.Native.Nat.{_≤_, _<_, _*_};
+ghost use lib.ListN.{length};
+ghost use Rattle.line.specs.Line.{refusal};
+ghost use Rattle.layout.specs.Layout.{numbersOf};
+ghost use Rattle.rows.specs.Sequence.{kindOf, isTyped};
+ghost use Rattle.record.specs.Check.{rowRefusal};
+ghost use Rattle.walk.specs.Due.{due, next, recordDue, listRow, rowDue, isClosed, settled, numberIn, caseIn, afterRecord, afterList, after};
+ghost use Rattle.walk.specs.Step.{state, opened, outsideStep, numberStep, plainStep, typedStep, stepOf};
+use integer::integer_field;
+use laws::index;
+use line::Refusal;
+
+// What is due in a typed set: the kind of set (58, 82, 151, 164, 1815 from 0), how many of its records have come, the case of a
+// 58 from 0, how many numbers are left in the list that follows the records, and how many a second list has.
+pub struct Due {
+    pub kind: usize,
+    pub at: usize,
+    pub case: usize,
+    pub left: usize,
+    pub second: usize,
+}
+
+// Where a file stands between two lines.
+pub enum Place {
+    // Outside sets.
+    Outside,
+    // After an opening delimiter.
+    Number,
+    // In a plain set.
+    Plain,
+    // In a typed set.
+    Typed(Due),
+}
+
+// The place, and how many sets have opened.
+pub struct State {
+    pub place: Place,
+    pub sets: u32,
+}
+
+// What a line does: the file goes on, or is refused.
+pub enum Outcome {
+    Next(State),
+    Refused(Refusal),
+}
+
+// The records of each kind of set in order, by number; 30 past the last.
+const SEQUENCES: [[u8; 24]; 5] = [
+    [
+        1,
+        1,
+        1,
+        1,
+        1,
+        2,
+        3,
+        4,
+        4,
+        4,
+        4,
+        30,
+        30,
+        30,
+        30,
+        30,
+        30,
+        30,
+        30,
+        30,
+        30,
+        30,
+        30,
+        30,
+    ],
+    [
+        5,
+        1,
+        30,
+        30,
+        30,
+        30,
+        30,
+        30,
+        30,
+        30,
+        30,
+        30,
+        30,
+        30,
+        30,
+        30,
+        30,
+        30,
+        30,
+        30,
+        30,
+        30,
+        30,
+        30,
+    ],
+    [
+        0,
+        0,
+        0,
+        7,
+        8,
+        0,
+        8,
+        30,
+        30,
+        30,
+        30,
+        30,
+        30,
+        30,
+        30,
+        30,
+        30,
+        30,
+        30,
+        30,
+        30,
+        30,
+        30,
+        30,
+    ],
+    [
+        9,
+        10,
+        11,
+        30,
+        30,
+        30,
+        30,
+        30,
+        30,
+        30,
+        30,
+        30,
+        30,
+        30,
+        30,
+        30,
+        30,
+        30,
+        30,
+        30,
+        30,
+        30,
+        30,
+        30,
+    ],
+    [
+        12,
+        13,
+        14,
+        13,
+        13,
+        15,
+        16,
+        17,
+        18,
+        19,
+        20,
+        21,
+        22,
+        0,
+        23,
+        24,
+        25,
+        26,
+        27,
+        0,
+        0,
+        0,
+        0,
+        28,
+    ],
+];
+
+// What is due where all records have come.
+const NO_RECORD: usize = 30;
+
+// The records that a full line of a list is: 82's entries, 1815's numbers.
+const ENTRIES: usize = 6;
+
+const NUMBERS: usize = 29;
+
+// The most sets that a file may have.
+const MOST_SETS: u32 = 4096;
+
+// The kind of a set of this number: 58, 82, 151, 164, 1815 from 0; 5 for any other.
+pub fn kind_of(number: u32) -> usize
+    ensures { λ r. ⌜ r ≡ kindOf number ⌝ }
+{
+    if number == 58 {
+        return 0;
+    }
+    if number == 82 {
+        return 1;
+    }
+    if number == 151 {
+        return 2;
+    }
+    if number == 164 {
+        return 3;
+    }
+    if number == 1815 {
+        return 4;
+    }
+    5
+}
+
+// Whether a set of this number is typed.
+pub fn is_typed(number: u32) -> bool
+    ensures { λ r. ⌜ r ≡ isTyped number ⌝ }
+{
+    kind_of(number) < 5
+}
+
+// The number of the record due; 30 where all have come.
+pub fn record_due(d: Due) -> usize
+    ensures { λ r. ⌜ r ≡ recordDue d ⌝ }
+{
+    let kind = d.kind;
+    let at = d.at;
+    if 5 <= kind {
+        return NO_RECORD;
+    }
+    if 24 <= at {
+        return NO_RECORD;
+    }
+    let row = SEQUENCES[kind];
+    index(row[at])
+}
+
+// Whether no line is due any more: the delimiter is.
+pub fn is_closed(d: Due) -> bool
+    ensures { λ r. ⌜ r ≡ isClosed d ⌝ }
+{
+    if record_due(d) < NO_RECORD {
+        return false;
+    }
+    d.left == 0
+}
+
+// Where a list is done, the second one is next.
+pub fn settled(d: Due) -> Due
+    ensures { λ r. ⌜ r ≡ settled d ⌝ }
+{
+    if d.left == 0 {
+        return Due {
+            kind: d.kind,
+            at: d.at,
+            case: d.case,
+            left: d.second,
+            second: 0,
+        };
+    }
+    d
+}
+
+// The number of the integer in these columns, counted from 0; 0 where it is below zero.
+fn number_in(line: &[u8; 80], from: usize, past: usize) -> u32
+    requires { ⌜ (from ≤ past) × (past ≤ 80) ⌝ }
+    ensures { λ r. ⌜ r ≡ numberIn from past (now (line .entry)) ⌝ }
+{
+    let columns: &[u8] = line;
+    kind::positive(integer_field(&columns[from..past]))
+}
+
+// The case of a 58, from its line 7.
+fn case_in(line: &[u8; 80]) -> usize
+    ensures { λ r. ⌜ r ≡ caseIn (now (line .entry)) ⌝ }
+{
+    layout::case_of(number_in(line, 0, 10), number_in(line, 20, 30))
+}
+
+// After 58's line 7: the numbers of its values follow.
+fn after_data_form(line: &[u8; 80]) -> Due
+    ensures { λ r. ⌜ r ≡ due 0 7 (caseIn (now (line .entry))) (numberIn 10 20 (now (line .entry)) * numbersOf (caseIn (now (line .entry)))) 0 ⌝ }
+{
+    let case = case_in(line);
+    let values = number_in(line, 10, 20) as usize;
+    Due {
+        kind: 0,
+        at: 7,
+        case,
+        left: values * layout::numbers_of(case),
+        second: 0,
+    }
+}
+
+// After 82's line 1: its entries follow.
+fn after_trace(line: &[u8; 80]) -> Due
+    ensures { λ r. ⌜ r ≡ due 1 1 0 (numberIn 10 20 (now (line .entry))) 0 ⌝ }
+{
+    let entries = number_in(line, 10, 20) as usize;
+    Due {
+        kind: 1,
+        at: 1,
+        case: 0,
+        left: entries,
+        second: 0,
+    }
+}
+
+// After 1815's record 24: two lists follow.
+fn after_orders(line: &[u8; 80]) -> Due
+    ensures { λ r. ⌜ r ≡ settled (due 4 24 0 (numberIn 0 12 (now (line .entry))) (numberIn 12 24 (now (line .entry)))) ⌝ }
+{
+    let first = number_in(line, 0, 12) as usize;
+    let second = number_in(line, 12, 24) as usize;
+    settled(Due {
+        kind: 4,
+        at: 24,
+        case: 0,
+        left: first,
+        second,
+    })
+}
+
+// The next record is due.
+fn next_record(d: Due) -> Due
+    requires { ⌜ d .at < 24 ⌝ }
+    ensures { λ r. ⌜ r ≡ next d ⌝ }
+{
+    Due {
+        kind: d.kind,
+        at: d.at + 1,
+        case: d.case,
+        left: d.left,
+        second: d.second,
+    }
+}
+
+// After a record: 58's line 7, 82's line 1 and 1815's record 24 say how many numbers follow the records.
+fn after_record(d: Due, line: &[u8; 80]) -> Due
+    requires { ⌜ d .at < 24 ⌝ }
+    ensures { λ r. ⌜ r ≡ afterRecord d (now (line .entry)) ⌝ }
+{
+    if d.kind == 0 {
+        if d.at == 6 {
+            return after_data_form(line);
+        }
+        return next_record(d);
+    }
+    if d.kind == 1 {
+        if d.at == 0 {
+            return after_trace(line);
+        }
+        return next_record(d);
+    }
+    if d.kind == 4 {
+        if d.at == 23 {
+            return after_orders(line);
+        }
+        return next_record(d);
+    }
+    next_record(d)
+}
+
+// How many fields a full line of the list that follows the records has.
+fn list_fields(d: Due) -> usize
+    ensures { λ r. ⌜ r ≡ length (listRow d .fields) ⌝ }
+{
+    if d.kind == 0 {
+        return layout::fields_of(d.case);
+    }
+    if d.kind == 1 {
+        return 8;
+    }
+    5
+}
+
+// After a line of the list.
+pub fn after_list(d: Due) -> Due
+    ensures { λ r. ⌜ r ≡ afterList d ⌝ }
+{
+    let fields = list_fields(d);
+    if d.left <= fields {
+        return settled(Due {
+            kind: d.kind,
+            at: d.at,
+            case: d.case,
+            left: 0,
+            second: d.second,
+        });
+    }
+    settled(Due {
+        kind: d.kind,
+        at: d.at,
+        case: d.case,
+        left: d.left - fields,
+        second: d.second,
+    })
+}
+
+// After a line that passes.
+pub fn after(d: Due, line: &[u8; 80]) -> Due
+    ensures { λ r. ⌜ r ≡ after d (now (line .entry)) ⌝ }
+{
+    if record_due(d) < NO_RECORD {
+        return after_record(d, line);
+    }
+    after_list(d)
+}
+
+// The first refusal of a line by the row due; number 0 where it passes.
+pub fn check_due(d: Due, line: &[u8; 80]) -> Refusal
+    ensures { λ r. ⌜ r ≡ rowRefusal (rowDue d) (now (line .entry)) ⌝ }
+{
+    let row = record_due(d);
+    if row < NO_RECORD {
+        return record::check_record(line, row);
+    }
+    if d.kind == 0 {
+        return record::check_data(line, d.case, d.left);
+    }
+    if d.kind == 1 {
+        return record::check_list(line, ENTRIES, d.left);
+    }
+    record::check_list(line, NUMBERS, d.left)
+}
+
+// The file goes on.
+fn goes_on(place: Place, sets: u32) -> Outcome
+    ensures { λ r. ⌜ r ≡ Outcome.Next (state place sets) ⌝ }
+{
+    Outcome::Next(State { place, sets })
+}
+
+// The file is refused at a line's first column.
+fn refused(number: u8) -> Outcome
+    ensures { λ r. ⌜ r ≡ Outcome.Refused (refusal number 1) ⌝ }
+{
+    Outcome::Refused(Refusal { number, column: 1 })
+}
+
+// A set of this number opens.
+pub fn opened(number: u32) -> Place
+    ensures { λ r. ⌜ r ≡ opened number ⌝ }
+{
+    if is_typed(number) {
+        return Place::Typed(Due {
+            kind: kind_of(number),
+            at: 0,
+            case: 0,
+            left: 0,
+            second: 0,
+        });
+    }
+    Place::Plain
+}
+
+// Outside sets: a blank line, or an opening delimiter.
+pub fn outside_step(sets: u32, line: &[u8; 80]) -> Outcome
+    ensures { λ r. ⌜ r ≡ outsideStep sets (now (line .entry)) ⌝ }
+{
+    if kind::is_blank_line(line) {
+        return goes_on(Place::Outside, sets);
+    }
+    if kind::is_delimiter(line) {
+        if sets < MOST_SETS {
+            return goes_on(Place::Number, sets + 1);
+        }
+        return refused(15);
+    }
+    refused(5)
+}
+
+// After an opening delimiter: the number line.
+pub fn number_step(sets: u32, line: &[u8; 80]) -> Outcome
+    ensures { λ r. ⌜ r ≡ numberStep sets (now (line .entry)) ⌝ }
+{
+    let number = kind::dataset_number(line);
+    if 0 < number {
+        return goes_on(opened(number), sets);
+    }
+    refused(6)
+}
+
+// In a plain set: any line, or the delimiter that closes it.
+pub fn plain_step(sets: u32, line: &[u8; 80]) -> Outcome
+    ensures { λ r. ⌜ r ≡ plainStep sets (now (line .entry)) ⌝ }
+{
+    if kind::is_delimiter(line) {
+        return goes_on(Place::Outside, sets);
+    }
+    goes_on(Place::Plain, sets)
+}
+
+// In a typed set: the line due, or the delimiter that closes it.
+pub fn typed_step(d: Due, sets: u32, line: &[u8; 80]) -> Outcome
+    ensures { λ r. ⌜ r ≡ typedStep d sets (now (line .entry)) ⌝ }
+{
+    let closed = is_closed(d);
+    if kind::is_delimiter(line) {
+        if closed {
+            return goes_on(Place::Outside, sets);
+        }
+        return refused(7);
+    }
+    if closed {
+        return refused(8);
+    }
+    let found = check_due(d, line);
+    if 0 < found.number {
+        return Outcome::Refused(found);
+    }
+    goes_on(Place::Typed(after(d, line)), sets)
+}
+
+// The step of one line.
+pub fn step(s: State, line: &[u8; 80]) -> Outcome
+    ensures { λ r. ⌜ r ≡ stepOf s (now (line .entry)) ⌝ }
+{
+    let sets = s.sets;
+    let place = s.place;
+    match place {
+        Place::Outside => outside_step(sets, line),
+        Place::Number => number_step(sets, line),
+        Place::Plain => plain_step(sets, line),
+        Place::Typed(d) => typed_step(d, sets, line),
+    }
+}
