@@ -25,6 +25,11 @@ pub data Allowed : List ℕ → Type 0 where
 unfoldable pub isAllowed : ℕ → Bool
 isAllowed b = leb 32 b && leb b 126
 
+-- the same of all bytes
+unfoldable pub allAllowed : List ℕ → Bool
+allAllowed [] = true
+allAllowed (b ∷ bs) = isAllowed b && allAllowed bs
+
 -- without a CR at the end
 unfoldable pub withoutReturn : List ℕ → List ℕ
 withoutReturn [] = []

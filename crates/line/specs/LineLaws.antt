@@ -1,7 +1,7 @@
 -- What belongs to a line's columns and what to its end, that a line passes exactly when it keeps the rules on bytes, columns and
 -- its end, and how it is filled. Each group closes with the laws of a loop over a line.
 use mathlib.Core.Path.{_≡_, refl, sym, _∙_, ap}
-use mathlib.Core.Bool.{Bool, true, false}
+use mathlib.Core.Bool.{Bool, true, false, _&&_}
 use mathlib.Core.List.{List, [], _∷_, _++_, append-assoc}
 use Prim.Native.Nat.{ℕ, suc, _+_, _-_, _≤_, _<_}
 use native.Mathlib.Numerals.{add-one}
@@ -10,10 +10,10 @@ use borrow.Author.Tests.{le-ltb, ltb-false, le-leb, leb-true, ne-eqb}
 use lib.Dec.{leb, ltb, eqb}
 use lib.ListN.{length, getD, take, drop, set, replicate, length-append, length-take, length-drop, length-replicate, replicate-append-replicate, drop-of-length-le}
 use lib.Seq.{drop-cons, take-suc, take-all, take-at, take-append-le, take-take, length-take-le, set-at}
-use Rattle.laws.specs.Choice.{pick, and-left, and-right, and-both}
+use Rattle.laws.specs.Choice.{pick, and-left, and-right, and-both, and-assoc}
 use Rattle.laws.specs.Cut.{lineLen}
 use Rattle.line.specs.declared.Refusal.{Refusal}
-use Rattle.line.specs.Line.{refusal, passed, Allowed, none, more, isAllowed, withoutReturn, columns, firstBad, lineFault, filled}
+use Rattle.line.specs.Line.{refusal, passed, Allowed, none, more, isAllowed, withoutReturn, columns, firstBad, lineFault, filled, allAllowed}
 
 -- the first LF is within the bytes
 lineLen-most : (l : List ℕ) → lineLen l ≤ length l
@@ -158,3 +158,18 @@ unfolding filled
 filled-eighty l i e h =
     let n : 80 ≤ length (take i l) = rw (length-take-le i l h) e in
     take-append-le 80 (take i l) (replicate 80 32) n ∙ take-take 80 i l e ∙ sym (take-append-le 80 l (replicate 80 32) (omega arith))
+
+-- a loop over the bytes, that keeps whether all of them were allowed so far
+pub allAllowed-next : (t : Bool) (l : List ℕ) (i : ℕ) → i < length l → (t && isAllowed (getD l i 0)) && allAllowed (drop (i + 1) l) ≡ t && allAllowed (drop i l)
+unfolding allAllowed
+allAllowed-next t l i h = rw (add-one, drop-cons l i 0) (sym (and-assoc t (isAllowed (getD l i 0)) (allAllowed (drop (suc i) l))))
+
+pub allAllowed-end : (t : Bool) (l : List ℕ) (i : ℕ) → length l ≤ i → t && allAllowed (drop i l) ≡ t
+unfolding allAllowed
+allAllowed-end true l i h = rw (drop-of-length-le l h) refl
+allAllowed-end false l i h = refl
+
+pub firstBad-none : (k : ℕ) (l : List ℕ) → allAllowed l ≡ true → firstBad k l ≡ 0
+unfolding allAllowed firstBad
+firstBad-none k [] h = refl
+firstBad-none k (b ∷ l) h = rw (and-left (isAllowed b) (allAllowed l) h) (firstBad-none (k + 1) l (and-right (isAllowed b) (allAllowed l) h))

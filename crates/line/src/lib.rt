@@ -3,7 +3,7 @@ ghost use mathlib.Core.Path.{_≡_};
 ghost use Prim.Native.Nat.{_+_};
 ghost use lib.ListN.{length, drop};
 ghost use Rattle.laws.specs.Cut.{lineLen};
-ghost use Rattle.line.specs.Line.{isAllowed, columns, firstBad, lineFault, filled};
+ghost use Rattle.line.specs.Line.{isAllowed, allAllowed, columns, firstBad, lineFault, filled};
 
 // A refusal of a line: document 01's number and the column, from 1. Number 0 and column 0 where nothing is wrong.
 pub struct Refusal {
@@ -50,10 +50,26 @@ pub fn is_allowed(b: u8) -> bool
     (32 <= b) & (b <= 126)
 }
 
+// Whether every byte may stand in a column.
+fn all_allowed(s: &[u8]) -> bool
+    ensures { λ r. ⌜ r ≡ allAllowed (now (s .entry)) ⌝ }
+{
+    let mut fine = true;
+    let mut i = 0;
+    while i < s.len() {
+        fine = fine & ((32 <= s[i]) & (s[i] <= 126));
+        i += 1;
+    }
+    fine
+}
+
 // The column, from 1, of the first byte that is not allowed; 0 where all are.
 pub fn first_bad(s: &[u8]) -> usize
     ensures { λ r. ⌜ r ≡ firstBad 1 (now (s .entry)) ⌝ }
 {
+    if all_allowed(s) {
+        return 0;
+    }
     let mut i = 0;
     while i < s.len() {
         if !is_allowed(s[i]) {

@@ -1,4 +1,5 @@
 -- The laws that the loops over a row's fields need.
+use Rattle.text.specs.Blank.{allBlank}
 use mathlib.Core.Path.{_≡_, refl, sym, _∙_}
 use mathlib.Core.Bool.{Bool, true, false}
 use mathlib.Core.List.{List, [], _∷_}
@@ -9,7 +10,7 @@ use borrow.Author.Tests.{eq-eqb, ne-eqb}
 use lib.Dec.{eqb}
 use lib.ListN.{length, getD, take, drop, drop-of-length-le}
 use lib.Seq.{drop-cons, take-nil}
-use Rattle.laws.specs.Choice.{pick, false-not-true}
+use Rattle.laws.specs.Choice.{pick, false-not-true, and-left, and-right}
 use Rattle.laws.specs.Ranges.{allAre, in-range}
 use Rattle.line.specs.Line.{refusal, passed}
 use Rattle.line.specs.declared.Refusal.{Refusal}
@@ -241,3 +242,9 @@ module _ (r : Row) (line : List ℕ) (f : Refusal) (e : f ≡ fieldsRefusal (r .
   pub rowRefusal-condition : f .number ≤ 0 → rowRefusal r line ≡ conditionFault r line
   unfolding rowRefusal
   rowRefusal-condition p = rw (← e) (otherwise-on f _ p)
+
+-- blank columns hold no byte that is none
+pub firstByte-blank : (k : ℕ) (cols : List ℕ) → allBlank cols ≡ true → firstByte k cols ≡ 0
+unfolding allBlank firstByte
+firstByte-blank k [] h = refl
+firstByte-blank k (b ∷ cols) h = rw (and-left (eqb b 32) (allBlank cols) h) (firstByte-blank (k + 1) cols (and-right (eqb b 32) (allBlank cols) h))

@@ -63,6 +63,9 @@ fn first_byte(line: &[u8; 80], at: usize, past: usize) -> usize
     ensures { λ r. ⌜ r ≡ firstByte (at + 1) (take (past - at) (drop at (now (line .entry)))) ⌝ }
 {
     let columns: &[u8] = line;
+    if text::is_blank(&columns[at..past]) {
+        return 0;
+    }
     let mut i = at;
     while i < past {
         if columns[i] != 32 {

@@ -16,14 +16,13 @@ pub fn is_digit(b: u8) -> bool
 pub fn is_blank(s: &[u8]) -> bool
     ensures { λ r. ⌜ r ≡ allBlank (now (s .entry)) ⌝ }
 {
+    let mut blank = true;
     let mut i = 0;
     while i < s.len() {
-        if s[i] != 32 {
-            return false;
-        }
+        blank = blank & (s[i] == 32);
         i += 1;
     }
-    true
+    blank
 }
 
 // The length of a text without the blanks that close it.

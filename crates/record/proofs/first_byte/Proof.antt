@@ -3,7 +3,7 @@ use mathlib.Core.Path.{_≡_, refl, sym, _∙_}
 use Prim.Native.Nat.{_≤_, _-_, _+_}
 use lib.ListN.{take, drop}
 use Rattle.record.specs.Check.{firstByte}
-use Rattle.record.specs.CheckLaws.{firstByte-next, firstByte-here, firstByte-end}
+use Rattle.record.specs.CheckLaws.{firstByte-next, firstByte-here, firstByte-end, firstByte-blank}
 use borrow.Author.Needs.{needs}
 use native.Mathlib.Omega.{arith}
 use Rattle.record.proofs.first_byte.Statement.{statement}
@@ -15,17 +15,32 @@ Inv-loop line at past columns i₀ i = (at ≤ i) × ((i ≤ past) × (firstByte
 abbrev μ-loop : tie.MeasureT-loop
 μ-loop line at past columns i₀ i = past - i
 
+sub-is-blank : tie.Need-sub-is-blank Inv-loop μ-loop
+sub-is-blank c = search needs
+
+part-is-blank-start : tie.Need-part-is-blank-start Inv-loop μ-loop
+part-is-blank-start c = search needs
+
+part-is-blank-end : tie.Need-part-is-blank-end Inv-loop μ-loop
+part-is-blank-end c = omega arith
+
+is-blank-requires : tie.Need-is-blank-requires Inv-loop μ-loop
+is-blank-requires c κs = search needs
+
+returns : tie.Need-returns Inv-loop μ-loop
+returns c = sym (firstByte-blank _ _ (sym (c .before .is-blank .ensures) ∙ c .if1 .taken))
+
 loop-holds : tie.Need-loop-holds Inv-loop μ-loop
 loop-holds c = (search needs, (search needs, refl))
 
-shared-slice-read-if1 : tie.Need-shared-slice-read-if1 Inv-loop μ-loop
-shared-slice-read-if1 c = search needs
+shared-slice-read-if2 : tie.Need-shared-slice-read-if2 Inv-loop μ-loop
+shared-slice-read-if2 c = search needs
 
 add-result : tie.Need-add-result Inv-loop μ-loop
 add-result c = search needs
 
-returns : tie.Need-returns Inv-loop μ-loop
-returns c = sym (sym (c .before .before .before .loop .inv .1 .1) ∙ firstByte-here _ _ _ (c .before .before .loop-test .taken) (omega arith) (c .if1 .taken))
+returns-2 : tie.Need-returns-2 Inv-loop μ-loop
+returns-2 c = sym (sym (c .before .before .before .loop .inv .1 .1) ∙ firstByte-here _ _ _ (c .before .before .loop-test .taken) (omega arith) (c .if2 .taken))
 
 add-i : tie.Need-add-i Inv-loop μ-loop
 add-i c = search needs
@@ -34,10 +49,10 @@ loop-less : tie.Need-loop-less Inv-loop μ-loop
 loop-less c = search needs
 
 loop-again : tie.Need-loop-again Inv-loop μ-loop
-loop-again c = (search needs, (search needs, sym (firstByte-next _ _ _ (c .before .before .loop-test .taken) (omega arith) (c .if1 .left)) ∙ c .before .before .before .loop .inv .1 .1))
+loop-again c = (search needs, (search needs, sym (firstByte-next _ _ _ (c .before .before .loop-test .taken) (omega arith) (c .if2 .left)) ∙ c .before .before .before .loop .inv .1 .1))
 
-returns-2 : tie.Need-returns-2 Inv-loop μ-loop
-returns-2 c = sym (sym (c .before .loop .inv .1 .1) ∙ firstByte-end _ _ _ (c .loop-test .left))
+returns-3 : tie.Need-returns-3 Inv-loop μ-loop
+returns-3 c = sym (sym (c .before .loop .inv .1 .1) ∙ firstByte-end _ _ _ (c .loop-test .left))
 
 pub first-byte-spec : {M : Type 1} → statement M
 first-byte-spec =
@@ -45,11 +60,16 @@ first-byte-spec =
     (tie.spec
     Inv-loop
     μ-loop
-    loop-holds
-    shared-slice-read-if1
-    add-result
+    sub-is-blank
+    part-is-blank-start
+    part-is-blank-end
+    is-blank-requires
     returns
+    loop-holds
+    shared-slice-read-if2
+    add-result
+    returns-2
     add-i
     loop-less
     loop-again
-    returns-2)
+    returns-3)
