@@ -2,7 +2,7 @@
 use mathlib.Core.Path.{_≡_, refl}
 use mathlib.Core.Bool.{Bool, true, _&&_}
 use mathlib.Core.List.{List, []}
-use Prim.Native.Nat.{ℕ, _≤_, _<_}
+use Prim.Native.Nat.{ℕ, _+_, _≤_, _<_}
 use native.Mathlib.Omega.{arith}
 use borrow.Author.Tests.{leb-true, eqb-true}
 use lib.Dec.{leb, eqb}
@@ -14,17 +14,17 @@ use Rattle.layout.specs.Columns.{total}
 use Rattle.rows.specs.Records.{plain, records, recordOf, fieldList}
 use Rattle.rows.specs.Tabled.{Tabled}
 
--- the code's two tables give the records' fields, which fit the line
-module _ (fss wss : List (List ℕ)) (d e : List ℕ) (k : ℕ) (h : k < 30) where
+-- two of the code's tables, of n rows, give the fields of the records from m on, which fit the line
+module _ (fss wss : List (List ℕ)) (d e : List ℕ) (m n k : ℕ) (h : k < n) where
   abbrev wide : ℕ → Bool
   wide i = leb (total (getD wss i e)) 80 && (eqb (length (getD fss i d)) 12 && eqb (length (getD wss i e)) 12)
 
-  pub tabled : tabulate (λ (i : ℕ). fieldList (getD fss i d) (getD wss i e)) 0 30 ≡ tabulate (λ (i : ℕ). recordOf i .fields) 0 30
-      → allAre wide true 0 30 ≡ true → Tabled k (getD fss k d) (getD wss k e)
+  pub tabled : tabulate (λ (i : ℕ). fieldList (getD fss i d) (getD wss i e)) 0 n ≡ tabulate (λ (i : ℕ). recordOf (m + i) .fields) 0 n
+      → allAre wide true 0 n ≡ true → Tabled (m + k) (getD fss k d) (getD wss k e)
   tabled t u =
-      let w : wide k ≡ true = in-range wide true 0 30 k u (omega arith) (omega arith) in
+      let w : wide k ≡ true = in-range wide true 0 n k u (omega arith) (omega arith) in
       record {
-        listed = agree-below (λ (i : ℕ). fieldList (getD fss i d) (getD wss i e)) (λ (i : ℕ). recordOf i .fields) 30 k t h;
+        listed = agree-below (λ (i : ℕ). fieldList (getD fss i d) (getD wss i e)) (λ (i : ℕ). recordOf (m + i) .fields) n k t h;
         fits = leb-true _ _ (and-left (leb (total (getD wss k e)) 80) _ w);
         forms-all = eqb-true _ _ (and-left (eqb (length (getD fss k d)) 12) _ (and-right (leb (total (getD wss k e)) 80) _ w));
         widths-all = eqb-true _ _ (and-right (eqb (length (getD fss k d)) 12) _ (and-right (leb (total (getD wss k e)) 80) _ w));

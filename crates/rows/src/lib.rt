@@ -43,8 +43,8 @@ pub const DATA_FORM: usize = 3;
 
 pub const FACTORS: usize = 10;
 
-// The forms of each record's fields.
-const FORMS: [[u8; 12]; 30] = [
+// The forms of each record's fields: the records of 58, 82, 151 and 164, the first twelve.
+const FORMS: [[u8; 12]; 12] = [
     [A, X, X, X, X, X, X, X, X, X, X, X],
     [T, X, X, X, X, X, X, X, X, X, X, X],
     [
@@ -83,6 +83,26 @@ const FORMS: [[u8; 12]; 30] = [
     [UNITS_CODE, A, TEMPERATURE_MODE, X, X, X, X, X, X, X, X, X],
     [E, E, E, X, X, X, X, X, X, X, X, X],
     [E, X, X, X, X, X, X, X, X, X, X, X],
+];
+
+// The widths of their fields; a width of 0 ends the record.
+const WIDTHS: [[u8; 12]; 12] = [
+    [80, 0, 0, 0, 0, 0, 0, 0, 0, 0, 0, 0],
+    [80, 0, 0, 0, 0, 0, 0, 0, 0, 0, 0, 0],
+    [5, 10, 5, 10, 1, 10, 10, 4, 1, 10, 10, 4],
+    [10, 10, 10, 13, 13, 13, 0, 0, 0, 0, 0, 0],
+    [10, 5, 5, 5, 1, 20, 1, 20, 0, 0, 0, 0],
+    [10, 10, 10, 0, 0, 0, 0, 0, 0, 0, 0, 0],
+    [10, 10, 10, 10, 10, 10, 10, 10, 0, 0, 0, 0],
+    [10, 10, 10, 10, 10, 0, 0, 0, 0, 0, 0, 0],
+    [10, 10, 0, 0, 0, 0, 0, 0, 0, 0, 0, 0],
+    [10, 20, 10, 0, 0, 0, 0, 0, 0, 0, 0, 0],
+    [25, 25, 25, 0, 0, 0, 0, 0, 0, 0, 0, 0],
+    [25, 0, 0, 0, 0, 0, 0, 0, 0, 0, 0, 0],
+];
+
+// The same for the records of 1815, from the thirteenth on.
+const ORDER_FORMS: [[u8; 12]; 18] = [
     [I, A, X, X, X, X, X, X, X, X, X, X],
     [E, E, X, X, X, X, X, X, X, X, X, X],
     [I, TRIGGER_TYPE, I, DUPLICATE_OPTION, I, X, X, X, X, X, X, X],
@@ -129,20 +149,8 @@ const FORMS: [[u8; 12]; 30] = [
     [E, E, E, E, E, X, X, X, X, X, X, X],
 ];
 
-// The widths of each record's fields; a width of 0 ends the record.
-const WIDTHS: [[u8; 12]; 30] = [
-    [80, 0, 0, 0, 0, 0, 0, 0, 0, 0, 0, 0],
-    [80, 0, 0, 0, 0, 0, 0, 0, 0, 0, 0, 0],
-    [5, 10, 5, 10, 1, 10, 10, 4, 1, 10, 10, 4],
-    [10, 10, 10, 13, 13, 13, 0, 0, 0, 0, 0, 0],
-    [10, 5, 5, 5, 1, 20, 1, 20, 0, 0, 0, 0],
-    [10, 10, 10, 0, 0, 0, 0, 0, 0, 0, 0, 0],
-    [10, 10, 10, 10, 10, 10, 10, 10, 0, 0, 0, 0],
-    [10, 10, 10, 10, 10, 0, 0, 0, 0, 0, 0, 0],
-    [10, 10, 0, 0, 0, 0, 0, 0, 0, 0, 0, 0],
-    [10, 20, 10, 0, 0, 0, 0, 0, 0, 0, 0, 0],
-    [25, 25, 25, 0, 0, 0, 0, 0, 0, 0, 0, 0],
-    [25, 0, 0, 0, 0, 0, 0, 0, 0, 0, 0, 0],
+// The widths of their fields.
+const ORDER_WIDTHS: [[u8; 12]; 18] = [
     [12, 20, 0, 0, 0, 0, 0, 0, 0, 0, 0, 0],
     [15, 15, 0, 0, 0, 0, 0, 0, 0, 0, 0, 0],
     [2, 6, 2, 6, 12, 0, 0, 0, 0, 0, 0, 0],
@@ -178,6 +186,12 @@ pub fn row_numbers(row: usize) -> RowNumbers
             forms: [0; 12],
             widths: [0; 12],
         };
+    }
+    if 12 <= row {
+        let at = row - 12;
+        let forms = ORDER_FORMS[at];
+        let widths = ORDER_WIDTHS[at];
+        return RowNumbers { forms, widths };
     }
     let forms = FORMS[row];
     let widths = WIDTHS[row];
