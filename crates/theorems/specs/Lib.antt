@@ -13,3 +13,4 @@ pub mod RanLaws
 pub mod Accepted
 pub mod AcceptedLaws
 pub mod Theorems
+pub mod Witness
