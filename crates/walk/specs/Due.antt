@@ -42,7 +42,7 @@ isClosed d = leb 30 (recordDue d) && eqb (d .left) 0
 unfoldable pub settled : Due → Due
 settled d = pick (eqb (d .left) 0) (due (d .kind) (d .at) (d .case) (d .second) 0) d
 
--- the number of the integer in these columns, 0 where it is below zero
+-- the number of the integer in these columns, 0 where they hold none, or one below zero
 unfoldable pub numberIn : ℕ → ℕ → List ℕ → ℕ
 numberIn a e line = natural (integerItem (integerOf (columnsOf a e line)))
 

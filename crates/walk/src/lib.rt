@@ -237,10 +237,11 @@ pub fn record_due(d: Due) -> usize
 }
 
 // Whether no line is due any more: the delimiter is.
-pub fn is_closed(d: Due) -> bool
+fn is_closed(d: Due, number: usize) -> bool
+    requires { ⌜ number ≡ recordDue d ⌝ }
     ensures { λ r. ⌜ r ≡ isClosed d ⌝ }
 {
-    if record_due(d) < NO_RECORD {
+    if number < NO_RECORD {
         return false;
     }
     d.left == 0
@@ -262,7 +263,7 @@ pub fn settled(d: Due) -> Due
     d
 }
 
-// The number of the integer in these columns, counted from 0; 0 where it is below zero.
+// The number of the integer in these columns, counted from 0; 0 where they hold none, or one below zero.
 fn number_in(line: &[u8; 80], from: usize, past: usize) -> u32
     requires { ⌜ (from ≤ past) × (past ≤ 80) ⌝ }
     ensures { λ r. ⌜ r ≡ numberIn from past (now (line .entry)) ⌝ }
@@ -399,22 +400,23 @@ pub fn after_list(d: Due) -> Due
 }
 
 // After a line that passes.
-pub fn after(d: Due, line: &[u8; 80]) -> Due
+fn after(d: Due, number: usize, line: &[u8; 80]) -> Due
+    requires { ⌜ number ≡ recordDue d ⌝ }
     ensures { λ r. ⌜ r ≡ after d (now (line .entry)) ⌝ }
 {
-    if record_due(d) < NO_RECORD {
+    if number < NO_RECORD {
         return after_record(d, line);
     }
     after_list(d)
 }
 
 // The first refusal of a line by the row due; number 0 where it passes.
-pub fn check_due(d: Due, line: &[u8; 80]) -> Refusal
+fn check_due(d: Due, number: usize, line: &[u8; 80]) -> Refusal
+    requires { ⌜ number ≡ recordDue d ⌝ }
     ensures { λ r. ⌜ r ≡ rowRefusal (rowDue d) (now (line .entry)) ⌝ }
 {
-    let row = record_due(d);
-    if row < NO_RECORD {
-        return record::check_record(line, row);
+    if number < NO_RECORD {
+        return record::check_record(line, number);
     }
     if d.kind == 0 {
         return record::check_data(line, d.case, d.left);
@@ -496,7 +498,8 @@ pub fn plain_step(sets: u32, line: &[u8; 80]) -> Outcome
 pub fn typed_step(d: Due, sets: u32, line: &[u8; 80]) -> Outcome
     ensures { λ r. ⌜ r ≡ typedStep d sets (now (line .entry)) ⌝ }
 {
-    let closed = is_closed(d);
+    let number = record_due(d);
+    let closed = is_closed(d, number);
     if kind::is_delimiter(line) {
         if closed {
             return goes_on(Place::Outside, sets);
@@ -506,11 +509,11 @@ pub fn typed_step(d: Due, sets: u32, line: &[u8; 80]) -> Outcome
     if closed {
         return refused(8);
     }
-    let found = check_due(d, line);
+    let found = check_due(d, number, line);
     if 0 < found.number {
         return Outcome::Refused(found);
     }
-    goes_on(Place::Typed(after(d, line)), sets)
+    goes_on(Place::Typed(after(d, number, line)), sets)
 }
 
 // The step of one line.

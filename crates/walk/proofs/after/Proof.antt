@@ -8,24 +8,19 @@ use borrow.Author.Needs.{needs}
 use Rattle.walk.proofs.after.Statement.{statement}
 use Rattle.walk.proofs.after.Tie as tie
 
-record-due-requires : tie.Need-record-due-requires
-record-due-requires c κs = search needs
-
 after-record-requires : tie.Need-after-record-requires
-after-record-requires c κs = recordDue-at (c .before .before .args .d) (omega (arith, c .before .record-due .ensures))
+after-record-requires c κs = recordDue-at (c .before .args .d) (omega arith)
 
 returns : tie.Need-returns
 unfolding after
-returns c = c .after-record .ensures ∙ rw (← c .before .before .record-due .ensures) (simp (lt-ltb _ _ (c .before .if1 .taken)))
+returns c = c .after-record .ensures ∙ rw (← c .before .before .pre) (simp (lt-ltb _ _ (c .before .if1 .taken)))
 
 after-list-requires : tie.Need-after-list-requires
 after-list-requires c κs = search needs
 
 returns-2 : tie.Need-returns-2
 unfolding after
-returns-2 c = c .after-list .ensures ∙ rw (← c .before .before .record-due .ensures) (simp (le-ltb _ _ (c .before .if1 .left)))
+returns-2 c = c .after-list .ensures ∙ rw (← c .before .before .pre) (simp (le-ltb _ _ (c .before .if1 .left)))
 
 pub after-spec : {M : Type 1} → statement M
-after-spec =
-    tie.close
-    (tie.spec record-due-requires after-record-requires returns after-list-requires returns-2)
+after-spec = tie.close (tie.spec after-record-requires returns after-list-requires returns-2)

@@ -6,6 +6,9 @@ use borrow.Author.Needs.{needs}
 use Rattle.walk.proofs.typed_step.Statement.{statement}
 use Rattle.walk.proofs.typed_step.Tie as tie
 
+record-due-requires : tie.Need-record-due-requires
+record-due-requires c κs = search needs
+
 is-closed-requires : tie.Need-is-closed-requires
 is-closed-requires c κs = search needs
 
@@ -54,6 +57,7 @@ pub typed-step-spec : {M : Type 1} → statement M
 typed-step-spec =
     tie.close
     (tie.spec
+    record-due-requires
     is-closed-requires
     is-delimiter-requires
     goes-on-requires
