@@ -1,16 +1,17 @@
 -- What belongs to a line's columns and what to its end, that a line passes exactly when it keeps the rules on bytes, columns and
 -- its end, and how it is filled. Each group closes with the laws of a loop over a line.
+use mathlib.Core.Logic.{⊎-elim}
 use mathlib.Core.Path.{_≡_, refl, sym, _∙_, ap}
 use mathlib.Core.Bool.{Bool, true, false, _&&_}
 use mathlib.Core.List.{List, [], _∷_, _++_, append-assoc}
-use Prim.Native.Nat.{ℕ, suc, _+_, _-_, _≤_, _<_}
+use Prim.Native.Nat.{ℕ, suc, _+_, _-_, _≤_, _<_, min}
 use native.Mathlib.Numerals.{add-one}
 use native.Mathlib.Omega.{arith}
 use borrow.Author.Tests.{le-ltb, ltb-false, le-leb, leb-true, ne-eqb}
 use lib.Dec.{leb, ltb, eqb}
 use lib.ListN.{length, getD, take, drop, set, replicate, length-append, length-take, length-drop, length-replicate, replicate-append-replicate, drop-of-length-le}
 use lib.Seq.{drop-cons, take-suc, take-all, take-at, take-append-le, take-take, length-take-le, set-at}
-use Rattle.laws.specs.Choice.{pick, and-left, and-right, and-both, and-assoc}
+use Rattle.laws.specs.Choice.{pick, and-left, and-right, and-both, and-assoc, below-or-not}
 use Rattle.laws.specs.Cut.{lineLen}
 use Rattle.line.specs.declared.Refusal.{Refusal}
 use Rattle.line.specs.Line.{refusal, passed, Allowed, none, more, isAllowed, withoutReturn, columns, firstBad, lineFault, filled, allAllowed}
@@ -173,3 +174,7 @@ pub firstBad-none : (k : ℕ) (l : List ℕ) → allAllowed l ≡ true → first
 unfolding allAllowed firstBad
 firstBad-none k [] h = refl
 firstBad-none k (b ∷ l) h = rw (and-left (isAllowed b) (allAllowed l) h) (firstBad-none (k + 1) l (and-right (isAllowed b) (allAllowed l) h))
+
+-- the first bytes, as many as a line has columns, fill it
+pub filled-most : (l : List ℕ) (i : ℕ) → min (length l) 80 ≤ i → i ≤ length l → filled (take i l) ≡ filled l
+filled-most l i h m = ⊎-elim (λ s. filled-all l i (omega arith)) (λ e. filled-eighty l i (omega arith) m) (below-or-not (length l) 80)

@@ -1,6 +1,6 @@
 // Lines: where they end, what is refused of a line by itself, and its 80 columns.
 ghost use mathlib.Core.Path.{_≡_};
-ghost use Prim.Native.Nat.{_+_};
+ghost use Prim.Native.Nat.{_+_, min};
 ghost use lib.ListN.{length, drop};
 ghost use Rattle.laws.specs.Cut.{lineLen};
 ghost use Rattle.line.specs.Line.{isAllowed, allAllowed, columns, firstBad, lineFault, filled};
@@ -109,16 +109,24 @@ pub fn line_fault(s: &[u8], ended: bool) -> Refusal
     }
 }
 
+// The number, or 80 where it is more.
+fn at_most_80(n: usize) -> usize
+    ensures { λ r. ⌜ r ≡ min n 80 ⌝ }
+{
+    if n < 80 {
+        return n;
+    }
+    80
+}
+
 // The line's first 80 columns, a short line filled with blanks.
 pub fn filled_line(s: &[u8]) -> [u8; 80]
     ensures { λ r. ⌜ r ≡ filled (now (s .entry)) ⌝ }
 {
     let mut row = [32u8; 80];
+    let n = at_most_80(s.len());
     let mut i = 0;
-    while i < 80 {
-        if s.len() <= i {
-            return row;
-        }
+    while i < n {
         row[i] = s[i];
         i += 1;
     }

@@ -1,4 +1,5 @@
 -- What each kind of byte does to the state.
+use lib.ListN.{length, getD, drop}
 use mathlib.Core.Path.{_≡_, refl, sym, ap, _∙_}
 use mathlib.Core.Bool.{Bool, true, false}
 use mathlib.Core.List.{List, [], _∷_}
@@ -9,14 +10,14 @@ use native.Mathlib.Omega.{arith}
 use borrow.Author.Tests.{lt-ltb, le-ltb, eqb-true, ne-eqb}
 use lib.Dec.{eqb}
 use Rattle.laws.specs.Choice.{pick}
-use Rattle.laws.specs.Run.{run}
+use Rattle.laws.specs.Run.{run, run-next}
 use Rattle.text.specs.Parts.{isDigit}
 use Rattle.real.specs.declared.Number.{Number}
 use Rattle.real.specs.declared.Scan.{Scan}
 use Rattle.real.specs.declared.Real.{Real}
 use Rattle.real.specs.declared.Real.the-variants.{Malformed, Value}
 use Rattle.real.specs.Spelling.{Letter, ExponentSign, plus, minus}
-use Rattle.real.specs.Real.{at, malformed, push, next, onCoefficient, onExponent, onDigit, onSign, onPoint, onLetter, onBlank, isLetter, scanStep, realEnd}
+use Rattle.real.specs.Real.{at, malformed, push, next, onCoefficient, onExponent, onDigit, onSign, onPoint, onLetter, onBlank, isLetter, scanStep, realEnd, start}
 use Rattle.real.specs.EndLaws.{malformed-value}
 use Rattle.real.specs.ByteLaws.{isDigit-low, isDigit-high, isDigit-complete, isLetter-sound}
 
@@ -149,3 +150,8 @@ module _ (s : Scan) where
   pub blank-refused : 1 ≤ s .phase → onBlank s ≡ malformed
   unfolding onBlank
   blank-refused h = rw (lt-ltb 0 (s .phase) h) refl
+
+-- a blank that only blanks come before is passed over
+pub blank-skipped : (l : List ℕ) (i : ℕ) → i < length l → getD l i 0 ≡ 32 → run scanStep start (drop i l) ≡ run scanStep start (drop (i + 1) l)
+unfolding scanStep isDigit isLetter onBlank
+blank-skipped l i h e = run-next scanStep start l i h ∙ rw e refl

@@ -1,7 +1,10 @@
 // Real fields of any width.
 ghost use mathlib.Core.Path.{_≡_};
+ghost use Prim.Native.Nat.{_≤_};
+ghost use lib.ListN.{length, drop};
+ghost use Rattle.laws.specs.Run.{run};
 ghost use Prim.Native.Nat.{_^_};
-ghost use Rattle.real.specs.Real.{malformed, push, next, onCoefficient, onExponent, onDigit, onSign, onPoint, onLetter, onBlank, isLetter, scanStep, scaled, realEnd, realOf};
+ghost use Rattle.real.specs.Real.{start, malformed, push, next, onCoefficient, onExponent, onDigit, onSign, onPoint, onLetter, onBlank, isLetter, scanStep, scaled, realEnd, realOf};
 use laws::wide;
 use text::is_digit;
 
@@ -284,6 +287,20 @@ pub fn finish(s: Scan) -> Real
     scaled(s, false, x - f)
 }
 
+// How many blanks stand before the first byte that is none; reading past them changes nothing.
+fn blanks_before(s: &[u8]) -> usize
+    ensures { λ r. ⌜ (r ≤ length (now (s .entry))) × (run scanStep start (drop r (now (s .entry))) ≡ run scanStep start (now (s .entry))) ⌝ }
+{
+    let mut i = 0;
+    while i < s.len() {
+        if s[i] != 32 {
+            return i;
+        }
+        i += 1;
+    }
+    i
+}
+
 // The real in these columns.
 pub fn real_field(s: &[u8]) -> Real
     ensures { λ r. ⌜ r ≡ realOf (now (s .entry)) ⌝ }
@@ -297,7 +314,7 @@ pub fn real_field(s: &[u8]) -> Real
         down: false,
         exponent: 0,
     };
-    let mut i = 0;
+    let mut i = blanks_before(s);
     while i < s.len() {
         st = scan_step(st, s[i]);
         i += 1;

@@ -1,43 +1,44 @@
 -- `line::filled_line` meets its contract.
 use mathlib.Core.Path.{_≡_, refl, _∙_}
 use Prim.Native.Nat.{_≤_, _-_}
-use lib.ListN.{length, take}
-use borrow.Author.Needs.{needs}
+use lib.ListN.{take}
 use Rattle.line.specs.Line.{filled}
-use Rattle.line.specs.LineLaws.{filled-next, filled-all, filled-eighty}
+use Rattle.line.specs.LineLaws.{filled-next, filled-most}
+use borrow.Author.Needs.{needs}
+use native.Mathlib.Omega.{arith}
 use Rattle.line.proofs.filled_line.Statement.{statement}
 use Rattle.line.proofs.filled_line.Tie as tie
 
 abbrev Inv-loop : tie.InvT-loop
-Inv-loop s row₀ i₀ row i = (i ≤ length s) × (row ≡ filled (take i s))
+Inv-loop s row₀ n i₀ row i = (i ≤ n) × (row ≡ filled (take i s))
 
 abbrev μ-loop : tie.MeasureT-loop
-μ-loop s row₀ i₀ row i = 80 - i
+μ-loop s row₀ n i₀ row i = n - i
+
+at-most-80-requires : tie.Need-at-most-80-requires Inv-loop μ-loop
+at-most-80-requires c κs = search needs
 
 loop-holds : tie.Need-loop-holds Inv-loop μ-loop
 unfolding filled
 loop-holds c = (search needs, refl)
 
-returns : tie.Need-returns Inv-loop μ-loop
-returns c = c .before .before .loop .inv .1 ∙ filled-all _ _ (c .if1 .taken)
-
 shared-slice-read-row : tie.Need-shared-slice-read-row Inv-loop μ-loop
-shared-slice-read-row c = search needs
+shared-slice-read-row c = omega (arith, c .before .before .before .at-most-80 .ensures)
 
 array-write-row : tie.Need-array-write-row Inv-loop μ-loop
-array-write-row c = search needs
+array-write-row c = omega (arith, c .before .before .before .at-most-80 .ensures)
 
 add-i : tie.Need-add-i Inv-loop μ-loop
-add-i c = search needs
+add-i c = omega (arith, c .before .before .before .at-most-80 .ensures)
 
 loop-less : tie.Need-loop-less Inv-loop μ-loop
 loop-less c = search needs
 
 loop-again : tie.Need-loop-again Inv-loop μ-loop
-loop-again c = (search needs, rw (c .before .before .before .loop .inv .1) (filled-next _ _ (c .before .if1 .left) (search needs)))
+loop-again c = (search needs, rw (c .before .before .loop .inv .1) (filled-next (c .before .before .before .before .before .args .s .now) (c .before .before .loop .i) (omega (arith, c .before .before .before .at-most-80 .ensures)) (omega (arith, c .before .before .before .at-most-80 .ensures))))
 
-returns-2 : tie.Need-returns-2 Inv-loop μ-loop
-returns-2 c = c .before .loop .inv .1 ∙ filled-eighty _ _ (c .loop-test .left) (c .before .loop .inv .0)
+returns : tie.Need-returns Inv-loop μ-loop
+returns c = c .before .loop .inv .1 ∙ filled-most (c .before .before .before .before .args .s .now) (c .before .loop .i) (omega (arith, c .before .before .at-most-80 .ensures)) (omega (arith, c .before .before .at-most-80 .ensures))
 
 pub filled-line-spec : {M : Type 1} → statement M
 filled-line-spec =
@@ -45,11 +46,11 @@ filled-line-spec =
     (tie.spec
     Inv-loop
     μ-loop
+    at-most-80-requires
     loop-holds
-    returns
     shared-slice-read-row
     array-write-row
     add-i
     loop-less
     loop-again
-    returns-2)
+    returns)

@@ -1,5 +1,5 @@
 -- `real::real_field` meets its contract.
-use mathlib.Core.Path.{_≡_, refl, sym, ap, _∙_}
+use mathlib.Core.Path.{_≡_, sym, ap, _∙_}
 use Prim.Native.Nat.{_≤_, _-_}
 use lib.ListN.{length, drop}
 use Rattle.laws.specs.Run.{run, run-next, run-done}
@@ -14,8 +14,11 @@ Inv-loop s st₀ i₀ st i = (i ≤ length s) × (run scanStep st (drop i s) ≡
 abbrev μ-loop : tie.MeasureT-loop
 μ-loop s st₀ i₀ st i = length s - i
 
+blanks-before-requires : tie.Need-blanks-before-requires Inv-loop μ-loop
+blanks-before-requires c κs = search needs
+
 loop-holds : tie.Need-loop-holds Inv-loop μ-loop
-loop-holds c = (search needs, refl)
+loop-holds c = c .blanks-before .ensures
 
 shared-slice-read-scan-step : tie.Need-shared-slice-read-scan-step Inv-loop μ-loop
 shared-slice-read-scan-step c = search needs
@@ -45,6 +48,7 @@ real-field-spec =
     (tie.spec
     Inv-loop
     μ-loop
+    blanks-before-requires
     loop-holds
     shared-slice-read-scan-step
     scan-step-requires
