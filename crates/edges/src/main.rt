@@ -86,7 +86,8 @@ fn show_line(line: &[u8], ended: bool) {
 
 // k: what a line is where a file's sets are parted.
 fn show_kind(columns: &[u8]) {
-    let line = line::filled_line(columns);
+    let mut line = [32u8; 80];
+    line::fill_line(&mut line, columns);
     if kind::is_delimiter(&line) {
         return put(b"delimiter");
     }
@@ -106,7 +107,8 @@ fn show_record(row: usize, columns: &[u8]) {
     if 30 <= row {
         return put(b"?");
     }
-    let line = line::filled_line(columns);
+    let mut line = [32u8; 80];
+    line::fill_line(&mut line, columns);
     put_refusal(record::check_record(&line, row));
 }
 
@@ -118,7 +120,8 @@ fn show_data(case: usize, fields: usize, columns: &[u8]) {
     if 8 < case {
         return put(b"?");
     }
-    let line = line::filled_line(columns);
+    let mut line = [32u8; 80];
+    line::fill_line(&mut line, columns);
     put_refusal(record::check_data(&line, case - 1, fields));
 }
 

@@ -2,6 +2,7 @@
 ghost use mathlib.Core.Path.{_≡_};
 ghost use Rattle.integer.specs.Integer.{push, stepInteger, endInteger, integerOf};
 use laws::wide;
+use text::blanks_before;
 use text::is_digit;
 
 // How far a field is read. Phase 0: only blanks so far; 1: a sign; 2: digits; 3: malformed.
@@ -108,7 +109,7 @@ pub fn integer_field(s: &[u8]) -> Integer
         minus: false,
         size: 0,
     };
-    let mut i = 0;
+    let mut i = blanks_before(s);
     while i < s.len() {
         st = scan_step(st, s[i]);
         i += 1;

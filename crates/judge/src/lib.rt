@@ -23,8 +23,9 @@ fn line_step(s: State, line: &[u8]) -> Outcome
     if 0 < fault.number {
         return Outcome::Refused(fault);
     }
-    let filled = line::filled_line(columns);
-    walk::step(s, &filled)
+    let mut row = [32u8; 80];
+    line::fill_line(&mut row, columns);
+    walk::step(s, &row)
 }
 
 // A file that ends inside a set: 7, past its lines.

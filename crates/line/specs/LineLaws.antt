@@ -4,13 +4,13 @@ use mathlib.Core.Logic.{⊎-elim}
 use mathlib.Core.Path.{_≡_, refl, sym, _∙_, ap}
 use mathlib.Core.Bool.{Bool, true, false, _&&_}
 use mathlib.Core.List.{List, [], _∷_, _++_, append-assoc}
-use Prim.Native.Nat.{ℕ, suc, _+_, _-_, _≤_, _<_, min}
+use Prim.Native.Nat.{ℕ, zero, suc, _+_, _-_, _≤_, _<_, min}
 use native.Mathlib.Numerals.{add-one}
 use native.Mathlib.Omega.{arith}
 use borrow.Author.Tests.{le-ltb, ltb-false, le-leb, leb-true, ne-eqb}
 use lib.Dec.{leb, ltb, eqb}
 use lib.ListN.{length, getD, take, drop, set, replicate, length-append, length-take, length-drop, length-replicate, replicate-append-replicate, drop-of-length-le}
-use lib.Seq.{drop-cons, take-suc, take-all, take-at, take-append-le, take-take, length-take-le, set-at}
+use lib.Seq.{drop-cons, drop-drop, take-suc, take-all, take-at, take-append-le, take-take, length-take-le, set-at}
 use Rattle.laws.specs.Choice.{pick, and-left, and-right, and-both, and-assoc, below-or-not}
 use Rattle.laws.specs.Cut.{lineLen}
 use Rattle.line.specs.declared.Refusal.{Refusal}
@@ -169,6 +169,26 @@ pub allAllowed-end : (t : Bool) (l : List ℕ) (i : ℕ) → length l ≤ i → 
 unfolding allAllowed
 allAllowed-end true l i h = rw (drop-of-length-le l h) refl
 allAllowed-end false l i h = refl
+
+-- bytes that may stand in columns hold no LF
+not-end : (b : ℕ) → isAllowed b ≡ true → eqb b 10 ≡ false
+unfolding isAllowed
+not-end b h = ne-eqb b 10 (λ e. let l : 32 ≤ b = leb-true 32 b (and-left (leb 32 b) (leb b 126) h) in omega arith)
+
+pub lineLen-block : (n : ℕ) (l : List ℕ) → n ≤ length l → allAllowed (take n l) ≡ true → lineLen l ≡ n + lineLen (drop n l)
+unfolding lineLen allAllowed
+lineLen-block zero l m h = omega arith
+lineLen-block (suc n) [] m h = absurd (omega arith)
+lineLen-block (suc n) (b ∷ l) m h =
+    rw (not-end b (and-left (isAllowed b) (allAllowed (take n l)) h))
+    (omega (arith, lineLen-block n l (omega arith) (and-right (isAllowed b) (allAllowed (take n l)) h)))
+
+-- one block more
+pub lineLen-blocks : (n : ℕ) (l : List ℕ) (i : ℕ) → i + n ≤ length l → allAllowed (take n (drop i l)) ≡ true
+    → i + lineLen (drop i l) ≡ (i + n) + lineLen (drop (i + n) l)
+lineLen-blocks n l i m h =
+    let e : drop n (drop i l) ≡ drop (i + n) l = drop-drop n i l in
+    rw (lineLen-block n (drop i l) (omega (arith, length-drop i l)) h, e) (omega arith)
 
 pub firstBad-none : (k : ℕ) (l : List ℕ) → allAllowed l ≡ true → firstBad k l ≡ 0
 unfolding allAllowed firstBad

@@ -11,20 +11,6 @@ pub struct Refusal {
     pub column: usize,
 }
 
-// The place of the first LF at or after `from`; where there is none, the end of the file, or `from` if that is past it.
-pub fn find_end(file: &[u8], from: usize) -> usize
-    ensures { λ r. ⌜ r ≡ from + lineLen (drop from (now (file .entry))) ⌝ }
-{
-    let mut i = from;
-    while i < file.len() {
-        if file[i] == 10 {
-            return i;
-        }
-        i += 1;
-    }
-    i
-}
-
 // How many of the bytes before a line's LF are columns: all, but for a CR at their end where the line has its LF.
 pub fn columns_len(line: &[u8], ended: bool) -> usize
     ensures { λ r. ⌜ r ≡ length (columns ended (now (line .entry))) ⌝ }
@@ -61,6 +47,39 @@ fn all_allowed(s: &[u8]) -> bool
         i += 1;
     }
     fine
+}
+
+// A place at or after `from` with no LF between: past whole blocks of bytes that may stand in columns.
+fn past_blocks(file: &[u8], from: usize) -> usize
+    ensures { λ r. ⌜ r + lineLen (drop r (now (file .entry))) ≡ from + lineLen (drop from (now (file .entry))) ⌝ }
+{
+    if file.len() < 16 {
+        return from;
+    }
+    let last = file.len() - 16;
+    let mut i = from;
+    while i <= last {
+        let past = i + 16;
+        if !all_allowed(&file[i..past]) {
+            return i;
+        }
+        i = past;
+    }
+    i
+}
+
+// The place of the first LF at or after `from`; where there is none, the end of the file, or `from` if that is past it.
+pub fn find_end(file: &[u8], from: usize) -> usize
+    ensures { λ r. ⌜ r ≡ from + lineLen (drop from (now (file .entry))) ⌝ }
+{
+    let mut i = past_blocks(file, from);
+    while i < file.len() {
+        if file[i] == 10 {
+            return i;
+        }
+        i += 1;
+    }
+    i
 }
 
 // The column, from 1, of the first byte that is not allowed; 0 where all are.
@@ -119,16 +138,15 @@ fn at_most_80(n: usize) -> usize
     80
 }
 
-// The line's first 80 columns, a short line filled with blanks.
-pub fn filled_line(s: &[u8]) -> [u8; 80]
-    ensures { λ r. ⌜ r ≡ filled (now (s .entry)) ⌝ }
+// Lays out a line's first 80 columns, a short line filled with blanks.
+pub fn fill_line(row: &mut [u8; 80], s: &[u8])
+    ensures { λ _. ⌜ now (row .exit) ≡ filled (now (s .entry)) ⌝ }
 {
-    let mut row = [32u8; 80];
+    *row = [32u8; 80];
     let n = at_most_80(s.len());
     let mut i = 0;
     while i < n {
         row[i] = s[i];
         i += 1;
     }
-    row
 }

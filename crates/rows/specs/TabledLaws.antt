@@ -1,34 +1,31 @@
--- The code's two tables hold the records.
+-- The code's rows hold the records.
 use mathlib.Core.Path.{_≡_, refl}
 use mathlib.Core.Bool.{Bool, true, _&&_}
 use mathlib.Core.List.{List, []}
-use Prim.Native.Nat.{ℕ, _+_, _≤_, _<_}
-use native.Mathlib.Omega.{arith}
+use Prim.{Unit}
+use Prim.Native.Nat.{ℕ, zero, suc, _≤_}
 use borrow.Author.Tests.{leb-true, eqb-true}
 use lib.Dec.{leb, eqb}
-use lib.ListN.{length, getD, replicate, List·getD-eq-default}
+use lib.ListN.{length, replicate, List·getD-eq-default}
+use native.Mathlib.Omega.{arith}
 use Rattle.laws.specs.Choice.{and-left, and-right}
-use Rattle.laws.specs.Ranges.{allAre, in-range}
-use Rattle.laws.specs.Table.{tabulate, agree-below}
 use Rattle.layout.specs.Columns.{total}
 use Rattle.rows.specs.Records.{plain, records, recordOf, fieldList}
 use Rattle.rows.specs.Tabled.{Tabled}
 
--- two of the code's tables, of n rows, give the fields of the records from m on, which fit the line
-module _ (fss wss : List (List ℕ)) (d e : List ℕ) (m n k : ℕ) (h : k < n) where
-  abbrev wide : ℕ → Bool
-  wide i = leb (total (getD wss i e)) 80 && (eqb (length (getD fss i d)) 12 && eqb (length (getD wss i e)) 12)
+-- twelve forms and twelve widths that fit the line
+unfoldable pub isWhole : List ℕ → List ℕ → Bool
+isWhole fs ws = leb (total ws) 80 && (eqb (length fs) 12 && eqb (length ws) 12)
 
-  pub tabled : tabulate (λ (i : ℕ). fieldList (getD fss i d) (getD wss i e)) 0 n ≡ tabulate (λ (i : ℕ). recordOf (m + i) .fields) 0 n
-      → allAre wide true 0 n ≡ true → Tabled (m + k) (getD fss k d) (getD wss k e)
-  tabled t u =
-      let w : wide k ≡ true = in-range wide true 0 n k u (omega arith) (omega arith) in
-      record {
-        listed = agree-below (λ (i : ℕ). fieldList (getD fss i d) (getD wss i e)) (λ (i : ℕ). recordOf (m + i) .fields) n k t h;
-        fits = leb-true _ _ (and-left (leb (total (getD wss k e)) 80) _ w);
-        forms-all = eqb-true _ _ (and-left (eqb (length (getD fss k d)) 12) _ (and-right (leb (total (getD wss k e)) 80) _ w));
-        widths-all = eqb-true _ _ (and-right (eqb (length (getD fss k d)) 12) _ (and-right (leb (total (getD wss k e)) 80) _ w));
-      }
+-- one of the code's rows gives the fields of record k
+pub tabled : (fs ws : List ℕ) (row k : ℕ) → row ≡ k → fieldList fs ws ≡ recordOf k .fields → isWhole fs ws ≡ true → Tabled row fs ws
+unfolding isWhole
+tabled fs ws row k e t w = record {
+  listed = rw e t;
+  fits = leb-true _ _ (and-left (leb (total ws) 80) _ w);
+  forms-all = eqb-true _ _ (and-left (eqb (length fs) 12) _ (and-right (leb (total ws) 80) _ w));
+  widths-all = eqb-true _ _ (and-right (eqb (length fs) 12) _ (and-right (leb (total ws) 80) _ w));
+}
 
 -- there is no record past the table
 pub recordOf-past : (k : ℕ) → 30 ≤ k → recordOf k ≡ plain []
@@ -43,3 +40,13 @@ tabled-past k h = record {
   forms-all = refl;
   widths-all = refl;
 }
+
+-- a number that is none of the first n is past them
+unfoldable pub Differs : ℕ → ℕ → Type 0
+Differs zero k = Unit
+Differs (suc n) k = Differs n k × (k ≡ n → ⊥)
+
+pub past : (n k : ℕ) → Differs n k → n ≤ k
+unfolding Differs
+past zero k d = omega arith
+past (suc n) k (d, e) = let h : n ≤ k = past n k d in omega arith

@@ -2,7 +2,7 @@
 use mathlib.Core.Path.{_≡_, refl}
 use mathlib.Core.Logic.{⊎-elim}
 use mathlib.Core.Bool.{Bool, true, false}
-use mathlib.Core.List.{List, []}
+use mathlib.Core.List.{List, [], _∷_}
 use Prim.Native.Nat.{ℕ, zero, suc, _-_, _≤_, _<_}
 use native.Mathlib.Omega.{arith}
 use borrow.Author.Tests.{leb-true, lt-ltb, le-ltb}
@@ -10,7 +10,6 @@ use lib.Dec.{leb, eqb}
 use lib.ListN.{length, getD, take, List·getD-eq-default, length-map}
 use Rattle.laws.specs.Choice.{pick, below-or-not}
 use Rattle.laws.specs.Ranges.{in-range}
-use Rattle.laws.specs.Table.{tabulate, table-at}
 use Rattle.integer.specs.declared.Integer.{Integer}
 use Rattle.integer.specs.declared.Integer.the-variants.{Blank, Malformed, OutOfRange, Value}
 use Rattle.line.specs.Line.{passed}
@@ -53,14 +52,16 @@ module _ (d : Due) where
   recordDue-at h =
       ⊎-elim (λ l. l) (λ l. let e : recordDue d ≡ 30 = recordDue-at-past l in absurd (omega arith)) (below-or-not (d .at) 24)
 
-  -- the code's table: a row a kind, its records by their place
-  pub recordDue-table : (t : List (List ℕ)) (r : List ℕ)
-      → t ≡ tabulate (λ (k : ℕ). tabulate (λ (a : ℕ). getD (sequence k) a 30) 0 24) 0 5
-      → d .kind < 5 → d .at < 24 → getD (getD t (d .kind) r) (d .at) 0 ≡ recordDue d
+  -- the code's sequence of a kind
+  pub recordDue-sequence : (rs : List ℕ) (k : ℕ) → rs ≡ sequence k → d .kind ≡ k → getD rs (d .at) 30 ≡ recordDue d
   unfolding recordDue
-  recordDue-table t r e h l =
-      table-at (λ (a : ℕ). getD (sequence (d .kind)) a 30) (getD t (d .kind) r) 24 (d .at) 0
-      (table-at (λ (k : ℕ). tabulate (λ (a : ℕ). getD (sequence k) a 30) 0 24) t 5 (d .kind) r e h) l
+  recordDue-sequence rs k e h = rw (e, h) refl
+
+-- inside a list nothing else is read
+pub getD-inside : (l : List ℕ) (i d e : ℕ) → i < length l → getD l i d ≡ getD l i e
+getD-inside [] i d e h = absurd (omega arith)
+getD-inside (x ∷ xs) zero d e h = refl
+getD-inside (x ∷ xs) (suc i) d e h = getD-inside xs i d e (omega arith)
 
 -- the number of an integer item is that of an integer above zero, and 0 otherwise
 pub natural-positive : (i : Integer) → natural (integerItem i) ≡ positive i

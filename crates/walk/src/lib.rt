@@ -1,7 +1,7 @@
 // The walk over a file's lines: the state, and the step of one line. It is the only place that knows what is due.
 ghost use mathlib.Core.Path.{_≡_};
 ghost use Prim.Native.Nat.{_≤_, _<_, _*_};
-ghost use lib.ListN.{length};
+ghost use lib.ListN.{length, getD};
 ghost use Rattle.line.specs.Line.{refusal};
 ghost use Rattle.layout.specs.Layout.{numbersOf};
 ghost use Rattle.rows.specs.Sequence.{kindOf, isTyped};
@@ -46,138 +46,40 @@ pub enum Outcome {
     Refused(Refusal),
 }
 
-// The records of each kind of set in order, by number; 30 past the last.
-const SEQUENCES: [[u8; 24]; 5] = [
-    [
-        1,
-        1,
-        1,
-        1,
-        1,
-        2,
-        3,
-        4,
-        4,
-        4,
-        4,
-        30,
-        30,
-        30,
-        30,
-        30,
-        30,
-        30,
-        30,
-        30,
-        30,
-        30,
-        30,
-        30,
-    ],
-    [
-        5,
-        1,
-        30,
-        30,
-        30,
-        30,
-        30,
-        30,
-        30,
-        30,
-        30,
-        30,
-        30,
-        30,
-        30,
-        30,
-        30,
-        30,
-        30,
-        30,
-        30,
-        30,
-        30,
-        30,
-    ],
-    [
-        0,
-        0,
-        0,
-        7,
-        8,
-        0,
-        8,
-        30,
-        30,
-        30,
-        30,
-        30,
-        30,
-        30,
-        30,
-        30,
-        30,
-        30,
-        30,
-        30,
-        30,
-        30,
-        30,
-        30,
-    ],
-    [
-        9,
-        10,
-        11,
-        30,
-        30,
-        30,
-        30,
-        30,
-        30,
-        30,
-        30,
-        30,
-        30,
-        30,
-        30,
-        30,
-        30,
-        30,
-        30,
-        30,
-        30,
-        30,
-        30,
-        30,
-    ],
-    [
-        12,
-        13,
-        14,
-        13,
-        13,
-        15,
-        16,
-        17,
-        18,
-        19,
-        20,
-        21,
-        22,
-        0,
-        23,
-        24,
-        25,
-        26,
-        27,
-        0,
-        0,
-        0,
-        0,
-        28,
-    ],
+// The records of each kind of set in order, by number.
+const RECORDS_58: [u8; 11] = [1, 1, 1, 1, 1, 2, 3, 4, 4, 4, 4];
+
+const RECORDS_82: [u8; 2] = [5, 1];
+
+const RECORDS_151: [u8; 7] = [0, 0, 0, 7, 8, 0, 8];
+
+const RECORDS_164: [u8; 3] = [9, 10, 11];
+
+const RECORDS_1815: [u8; 24] = [
+    12,
+    13,
+    14,
+    13,
+    13,
+    15,
+    16,
+    17,
+    18,
+    19,
+    20,
+    21,
+    22,
+    0,
+    23,
+    24,
+    25,
+    26,
+    27,
+    0,
+    0,
+    0,
+    0,
+    28,
 ];
 
 // What is due where all records have come.
@@ -220,20 +122,37 @@ pub fn is_typed(number: u32) -> bool
     kind_of(number) < 5
 }
 
+// The record at this place of a sequence; 30 past its end.
+fn record_at(records: &[u8], at: usize) -> usize
+    ensures { λ r. ⌜ r ≡ getD (now (records .entry)) at 30 ⌝ }
+{
+    if at < records.len() {
+        return index(records[at]);
+    }
+    NO_RECORD
+}
+
 // The number of the record due; 30 where all have come.
 pub fn record_due(d: Due) -> usize
     ensures { λ r. ⌜ r ≡ recordDue d ⌝ }
 {
-    let kind = d.kind;
     let at = d.at;
-    if 5 <= kind {
-        return NO_RECORD;
+    if d.kind == 0 {
+        return record_at(&RECORDS_58, at);
     }
-    if 24 <= at {
-        return NO_RECORD;
+    if d.kind == 1 {
+        return record_at(&RECORDS_82, at);
     }
-    let row = SEQUENCES[kind];
-    index(row[at])
+    if d.kind == 2 {
+        return record_at(&RECORDS_151, at);
+    }
+    if d.kind == 3 {
+        return record_at(&RECORDS_164, at);
+    }
+    if d.kind == 4 {
+        return record_at(&RECORDS_1815, at);
+    }
+    NO_RECORD
 }
 
 // Whether no line is due any more: the delimiter is.

@@ -2,9 +2,12 @@
 use mathlib.Core.Path.{_≡_, refl, sym, ap, _∙_}
 use Prim.Native.Nat.{_≤_, _-_}
 use borrow.Author.Needs.{needs}
+use native.Mathlib.Omega.{arith}
 use lib.ListN.{length, drop}
+use Rattle.text.specs.Parts.{isDigit}
+use Rattle.text.specs.BlankLaws.{run-past-blanks, blanksBefore-most}
 use Rattle.laws.specs.Run.{run, run-next, run-done}
-use Rattle.integer.specs.Integer.{stepInteger, endInteger, integerOf}
+use Rattle.integer.specs.Integer.{start, stepInteger, endInteger, integerOf}
 use Rattle.integer.proofs.integer_field.Statement.{statement}
 use Rattle.integer.proofs.integer_field.Tie as tie
 
@@ -14,8 +17,12 @@ Inv-loop s st₀ i₀ st i = (i ≤ length s) × (run stepInteger st (drop i s) 
 abbrev μ-loop : tie.MeasureT-loop
 μ-loop s st₀ i₀ st i = length s - i
 
+blanks-before-requires : tie.Need-blanks-before-requires Inv-loop μ-loop
+blanks-before-requires c κs = search needs
+
 loop-holds : tie.Need-loop-holds Inv-loop μ-loop
-loop-holds c = (search needs, refl)
+unfolding isDigit stepInteger
+loop-holds c = (omega (arith, c .blanks-before .ensures, blanksBefore-most (c .before .before .args .s .now)), rw (c .blanks-before .ensures) (run-past-blanks stepInteger start refl _))
 
 shared-slice-read-scan-step : tie.Need-shared-slice-read-scan-step Inv-loop μ-loop
 shared-slice-read-scan-step c = search needs
@@ -51,6 +58,7 @@ integer-field-spec =
     (tie.spec
     Inv-loop
     μ-loop
+    blanks-before-requires
     loop-holds
     shared-slice-read-scan-step
     scan-step-requires

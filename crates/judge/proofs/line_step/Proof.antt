@@ -19,14 +19,14 @@ line-fault-requires c κs = search needs
 returns : tie.Need-returns
 returns c = lineStep-own _ _ _ (c .before .before .before .before .columns-len .ensures) _ (c .before .before .line-fault .ensures) (c .if1 .taken)
 
-filled-line-requires : tie.Need-filled-line-requires
-filled-line-requires c κs = search needs
+fill-line-requires : tie.Need-fill-line-requires
+fill-line-requires c κs = search needs
 
 step-requires : tie.Need-step-requires
 step-requires c κs = search needs
 
 returns-2 : tie.Need-returns-2
-returns-2 c = c .step .ensures ∙ rw (c .before .before .filled-line .ensures) (lineStep-place _ _ _ (c .before .before .before .before .before .before .before .columns-len .ensures) _ (c .before .before .before .before .before .line-fault .ensures) (c .before .before .before .if1 .left))
+returns-2 c = c .step .ensures ∙ rw (c .before .before .fill-line .ensures) (lineStep-place _ _ _ (c .before .before .before .before .before .before .before .before .columns-len .ensures) _ (c .before .before .before .before .before .before .line-fault .ensures) (c .before .before .before .before .if1 .left))
 
 pub line-step-spec : {M : Type 1} → statement M
 line-step-spec =
@@ -36,6 +36,6 @@ line-step-spec =
     slice-aggregate-columns
     line-fault-requires
     returns
-    filled-line-requires
+    fill-line-requires
     step-requires
     returns-2)

@@ -14,6 +14,9 @@ Inv-loop file from i₀ i = i + lineLen (drop i file) ≡ from + lineLen (drop f
 abbrev μ-loop : tie.MeasureT-loop
 μ-loop file from i₀ i = length file - i
 
+past-blocks-requires : tie.Need-past-blocks-requires Inv-loop μ-loop
+past-blocks-requires c κs = search needs
+
 loop-holds : tie.Need-loop-holds Inv-loop μ-loop
 loop-holds c = search needs
 
@@ -21,7 +24,7 @@ shared-slice-read-if1 : tie.Need-shared-slice-read-if1 Inv-loop μ-loop
 shared-slice-read-if1 c = search needs
 
 returns : tie.Need-returns Inv-loop μ-loop
-returns c = omega (arith, len-here (c .before .before .before .before .args .file .now) (c .before .before .before .loop .i) (c .before .before .loop-test .taken) (c .if1 .taken))
+returns c = omega (arith, len-here (c .before .before .before .before .before .before .args .file .now) (c .before .before .before .loop .i) (c .before .before .loop-test .taken) (c .if1 .taken))
 
 add-i : tie.Need-add-i Inv-loop μ-loop
 add-i c = search needs
@@ -30,10 +33,10 @@ loop-less : tie.Need-loop-less Inv-loop μ-loop
 loop-less c = search needs
 
 loop-again : tie.Need-loop-again Inv-loop μ-loop
-loop-again c = omega (arith, len-next (c .before .before .before .before .args .file .now) (c .before .before .before .loop .i) (c .before .before .loop-test .taken) (c .if1 .left))
+loop-again c = omega (arith, len-next (c .before .before .before .before .before .before .args .file .now) (c .before .before .before .loop .i) (c .before .before .loop-test .taken) (c .if1 .left))
 
 returns-2 : tie.Need-returns-2 Inv-loop μ-loop
-returns-2 c = omega (arith, len-end (c .before .before .args .file .now) (c .before .loop .i) (c .loop-test .left))
+returns-2 c = omega (arith, len-end (c .before .before .before .before .args .file .now) (c .before .loop .i) (c .loop-test .left))
 
 pub find-end-spec : {M : Type 1} → statement M
 find-end-spec =
@@ -41,6 +44,7 @@ find-end-spec =
     (tie.spec
     Inv-loop
     μ-loop
+    past-blocks-requires
     loop-holds
     shared-slice-read-if1
     returns

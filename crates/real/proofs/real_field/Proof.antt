@@ -2,8 +2,11 @@
 use mathlib.Core.Path.{_≡_, sym, ap, _∙_}
 use Prim.Native.Nat.{_≤_, _-_}
 use lib.ListN.{length, drop}
+use Rattle.text.specs.BlankLaws.{run-past-blanks, blanksBefore-most}
 use Rattle.laws.specs.Run.{run, run-next, run-done}
-use Rattle.real.specs.Real.{scanStep, realEnd, realOf}
+use Rattle.real.specs.Real.{start, scanStep, realEnd, realOf}
+use Rattle.real.specs.StepLaws.{blank-passed}
+use native.Mathlib.Omega.{arith}
 use borrow.Author.Needs.{needs}
 use Rattle.real.proofs.real_field.Statement.{statement}
 use Rattle.real.proofs.real_field.Tie as tie
@@ -18,7 +21,7 @@ blanks-before-requires : tie.Need-blanks-before-requires Inv-loop μ-loop
 blanks-before-requires c κs = search needs
 
 loop-holds : tie.Need-loop-holds Inv-loop μ-loop
-loop-holds c = c .blanks-before .ensures
+loop-holds c = (omega (arith, c .blanks-before .ensures, blanksBefore-most (c .before .before .args .s .now)), rw (c .blanks-before .ensures) (run-past-blanks scanStep start blank-passed _))
 
 shared-slice-read-scan-step : tie.Need-shared-slice-read-scan-step Inv-loop μ-loop
 shared-slice-read-scan-step c = search needs

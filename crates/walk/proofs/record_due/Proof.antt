@@ -1,41 +1,100 @@
--- `walk::record_due` meets its contract.
-use mathlib.Core.Path.{refl, sym, _∙_}
+use Rattle.walk.specs.DueLaws.{recordDue-sequence, recordDue-kind-past}
 use Rattle.rows.specs.Sequence.{sequence, sequences}
-use Rattle.walk.specs.DueLaws.{recordDue-kind-past, recordDue-at-past, recordDue-table}
+use mathlib.Core.Path.{refl, sym, _∙_}
+use native.Mathlib.Omega.{arith}
 use borrow.Author.Needs.{needs}
 use Rattle.walk.proofs.record_due.Statement.{statement}
 use Rattle.walk.proofs.record_due.Tie as tie
+use Rattle.walk.proofs.record_due.Reads as reads
+use Rattle.walk.proofs.record_due.Lts as lts
+use Rattle.walk.proofs.record_at.Reads as record-at-reads
 
+-- src/lib.rt:141:26
+slice-aggregate-record-at : tie.Need-slice-aggregate-record-at
+slice-aggregate-record-at c = search needs
+
+-- src/lib.rt:141:9
+record-at-requires : tie.Need-record-at-requires
+record-at-requires c κs = search needs
+
+-- src/lib.rt:141:9
 returns : tie.Need-returns
-returns c = sym (recordDue-kind-past _ (c .if1 .taken))
+unfolding sequence sequences
+returns c = c .record-at .ensures ∙ recordDue-sequence _ _ 0 refl (c .before .before .if1 .taken)
 
+-- src/lib.rt:144:26
+slice-aggregate-record-at-2 : tie.Need-slice-aggregate-record-at-2
+slice-aggregate-record-at-2 c = search needs
+
+-- src/lib.rt:144:9
+record-at-requires-2 : tie.Need-record-at-requires-2
+record-at-requires-2 c κs = search needs
+
+-- src/lib.rt:144:9
 returns-2 : tie.Need-returns-2
-returns-2 c = sym (recordDue-at-past _ (c .if2 .taken))
+unfolding sequence sequences
+returns-2 c = c .record-at2 .ensures ∙ recordDue-sequence _ _ 1 refl (c .before .before .if2 .taken)
 
-mul-row : tie.Need-mul-row
-mul-row c = search needs
+-- src/lib.rt:147:26
+slice-aggregate-record-at-3 : tie.Need-slice-aggregate-record-at-3
+slice-aggregate-record-at-3 c = search needs
 
-array-copy-out-row : tie.Need-array-copy-out-row
-array-copy-out-row c = search needs
+-- src/lib.rt:147:9
+record-at-requires-3 : tie.Need-record-at-requires-3
+record-at-requires-3 c κs = search needs
 
-array-read-index : tie.Need-array-read-index
-array-read-index c = search needs
-
-index-requires : tie.Need-index-requires
-index-requires c κs = search needs
-
+-- src/lib.rt:147:9
 returns-3 : tie.Need-returns-3
 unfolding sequence sequences
-returns-3 c = c .index .ensures ∙ recordDue-table _ _ _ refl (c .before .before .before .if1 .left) (c .before .before .if2 .left)
+returns-3 c = c .record-at3 .ensures ∙ recordDue-sequence _ _ 2 refl (c .before .before .if3 .taken)
+
+-- src/lib.rt:150:26
+slice-aggregate-record-at-4 : tie.Need-slice-aggregate-record-at-4
+slice-aggregate-record-at-4 c = search needs
+
+-- src/lib.rt:150:9
+record-at-requires-4 : tie.Need-record-at-requires-4
+record-at-requires-4 c κs = search needs
+
+-- src/lib.rt:150:9
+returns-4 : tie.Need-returns-4
+unfolding sequence sequences
+returns-4 c = c .record-at4 .ensures ∙ recordDue-sequence _ _ 3 refl (c .before .before .if4 .taken)
+
+-- src/lib.rt:153:26
+slice-aggregate-record-at-5 : tie.Need-slice-aggregate-record-at-5
+slice-aggregate-record-at-5 c = search needs
+
+-- src/lib.rt:153:9
+record-at-requires-5 : tie.Need-record-at-requires-5
+record-at-requires-5 c κs = search needs
+
+-- src/lib.rt:153:9
+returns-5 : tie.Need-returns-5
+unfolding sequence sequences
+returns-5 c = c .record-at5 .ensures ∙ recordDue-sequence _ _ 4 refl (c .before .before .if5 .taken)
+
+-- src/lib.rt:136:1
+returns-6 : tie.Need-returns-6
+returns-6 c = sym (recordDue-kind-past _ (omega (arith, c .if5 .left)))
 
 pub record-due-spec : {M : Type 1} → statement M
 record-due-spec =
     tie.close
     (tie.spec
+    slice-aggregate-record-at
+    record-at-requires
     returns
+    slice-aggregate-record-at-2
+    record-at-requires-2
     returns-2
-    mul-row
-    array-copy-out-row
-    array-read-index
-    index-requires
-    returns-3)
+    slice-aggregate-record-at-3
+    record-at-requires-3
+    returns-3
+    slice-aggregate-record-at-4
+    record-at-requires-4
+    returns-4
+    slice-aggregate-record-at-5
+    record-at-requires-5
+    returns-5
+    returns-6)

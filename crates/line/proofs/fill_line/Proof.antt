@@ -1,4 +1,4 @@
--- `line::filled_line` meets its contract.
+-- `line::fill_line` meets its contract.
 use mathlib.Core.Path.{_≡_, refl, _∙_}
 use Prim.Native.Nat.{_≤_, _-_}
 use lib.ListN.{take}
@@ -6,14 +6,14 @@ use Rattle.line.specs.Line.{filled}
 use Rattle.line.specs.LineLaws.{filled-next, filled-most}
 use borrow.Author.Needs.{needs}
 use native.Mathlib.Omega.{arith}
-use Rattle.line.proofs.filled_line.Statement.{statement}
-use Rattle.line.proofs.filled_line.Tie as tie
+use Rattle.line.proofs.fill_line.Statement.{statement}
+use Rattle.line.proofs.fill_line.Tie as tie
 
 abbrev Inv-loop : tie.InvT-loop
-Inv-loop s row₀ n i₀ row i = (i ≤ n) × (row ≡ filled (take i s))
+Inv-loop row₀ s n i₀ row i = (i ≤ n) × (row ≡ filled (take i s))
 
 abbrev μ-loop : tie.MeasureT-loop
-μ-loop s row₀ n i₀ row i = n - i
+μ-loop row₀ s n i₀ row i = n - i
 
 at-most-80-requires : tie.Need-at-most-80-requires Inv-loop μ-loop
 at-most-80-requires c κs = search needs
@@ -25,8 +25,8 @@ loop-holds c = (search needs, refl)
 shared-slice-read-row : tie.Need-shared-slice-read-row Inv-loop μ-loop
 shared-slice-read-row c = omega (arith, c .before .before .before .at-most-80 .ensures)
 
-array-write-row : tie.Need-array-write-row Inv-loop μ-loop
-array-write-row c = omega (arith, c .before .before .before .at-most-80 .ensures)
+element-write-row : tie.Need-element-write-row Inv-loop μ-loop
+element-write-row c = omega (arith, c .before .before .before .at-most-80 .ensures)
 
 add-i : tie.Need-add-i Inv-loop μ-loop
 add-i c = omega (arith, c .before .before .before .at-most-80 .ensures)
@@ -35,13 +35,13 @@ loop-less : tie.Need-loop-less Inv-loop μ-loop
 loop-less c = search needs
 
 loop-again : tie.Need-loop-again Inv-loop μ-loop
-loop-again c = (search needs, rw (c .before .before .loop .inv .1) (filled-next (c .before .before .before .before .before .args .s .now) (c .before .before .loop .i) (omega (arith, c .before .before .before .at-most-80 .ensures)) (omega (arith, c .before .before .before .at-most-80 .ensures))))
+loop-again c = (search needs, rw (c .before .before .loop .inv .1) (filled-next (c .before .before .before .before .before .before .args .s .now) (c .before .before .loop .i) (omega (arith, c .before .before .before .at-most-80 .ensures)) (omega (arith, c .before .before .before .at-most-80 .ensures))))
 
 returns : tie.Need-returns Inv-loop μ-loop
-returns c = c .before .loop .inv .1 ∙ filled-most (c .before .before .before .before .args .s .now) (c .before .loop .i) (omega (arith, c .before .before .at-most-80 .ensures)) (omega (arith, c .before .before .at-most-80 .ensures))
+returns c = c .before .loop .inv .1 ∙ filled-most (c .before .before .before .before .before .args .s .now) (c .before .loop .i) (omega (arith, c .before .before .at-most-80 .ensures)) (omega (arith, c .before .before .at-most-80 .ensures))
 
-pub filled-line-spec : {M : Type 1} → statement M
-filled-line-spec =
+pub fill-line-spec : {M : Type 1} → statement M
+fill-line-spec =
     tie.close
     (tie.spec
     Inv-loop
@@ -49,7 +49,7 @@ filled-line-spec =
     at-most-80-requires
     loop-holds
     shared-slice-read-row
-    array-write-row
+    element-write-row
     add-i
     loop-less
     loop-again
