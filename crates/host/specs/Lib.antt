@@ -1,1 +1,3 @@
 pub mod Packed
+pub mod Answer
+pub mod AnswerLaws

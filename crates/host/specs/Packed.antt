@@ -1,6 +1,10 @@
--- A reply as one number word of 64 bits for the C host: number * 2^57 + column * 2^32 + place. The column is 0. Document 01's numbers
--- are below 2^7 and its places below 2^32.
+-- A reply as one number word of 64 bits for the C host: number * 2^57 + column * 2^32 + place. The column is 0. The number is taken modulo 2^7
+-- and the place modulo 2^32, so that the word is defined for every reply; document 01's table stops at 22, and places count lines, sets or bytes of an accepted file.
 use Prim.Native.Nat.{ℕ, _+_, _*_, _%_}
+use Rattle.judge.specs.declared.Reply.{Reply}
 
 unfoldable pub packed : ℕ → ℕ → ℕ
 packed number place = number % 128 * 144115188075855872 + place % 4294967296
+
+abbrev pub word : Reply → ℕ
+word r = packed (r .number) (r .place)

@@ -1,8 +1,22 @@
 // The calls for C hosts. Lent buffers do not overlap; a null pointer with count 0 is an empty slice.
 ghost use mathlib.Core.Path.{_≡_};
-ghost use Rattle.host.specs.Packed.{packed};
+ghost use mathlib.Core.List.{[], _∷_, _++_};
+ghost use Prim.Native.Nat.{_≤_};
+ghost use lib.ListN.{length, drop};
+ghost use Rattle.host.specs.Packed.{packed, word};
+ghost use Rattle.host.specs.Answer.{twosComplement, numberBytes, numberAnswer, valueAnswer, replyFor, bytesAfter, laid};
+ghost use Rattle.laws.specs.Choice.{pick};
+ghost use Rattle.text.specs.Parts.{signed};
 ghost use Rattle.judge.specs.Judge.{judged};
+ghost use Rattle.lister.specs.Lister.{listReply, listRows};
+ghost use Rattle.rewriter.specs.Rewriter.{rewriteReply, rewriteOut};
+ghost use Rattle.reader.specs.Reader.{said, shown, paper, paperNumber, numberOf, valueOf};
+use exact::bits;
+use exact::put_bytes;
 use laws::wide;
+use reader::NumberAnswer;
+use reader::Stored;
+use reader::ValueAnswer;
 
 // A number and a place as one word.
 fn pack(number: u8, place: usize) -> u64
@@ -15,8 +29,148 @@ fn pack(number: u8, place: usize) -> u64
 // Document 01's judge: the number and the place; for an accepted file 0 and the number of its lines.
 #[no_mangle]
 pub extern "C" fn uff_judge(file: &[u8]) -> u64
-    ensures { λ r. ⌜ r ≡ packed (judged (now (file .entry)) .number) (judged (now (file .entry)) .place) ⌝ }
+    ensures { λ r. ⌜ r ≡ word (judged (now (file .entry))) ⌝ }
 {
     let found = judge::judge(file);
+    pack(found.number, found.place)
+}
+
+// Document 01's lister: six numbers a set into the rows lent; the number of sets.
+#[no_mangle]
+pub extern "C" fn uff_list(file: &[u8], rows: &mut [u32]) -> u64
+    ensures { λ r. ⌜ (r ≡ word (listReply (now (file .entry)) (length (now (rows .entry))))) × (now (rows .exit) ≡ listRows (now (file .entry)) (now (rows .entry))) ⌝ }
+{
+    let found = lister::list(file, rows);
+    pack(found.number, found.place)
+}
+
+// Lays a number's bytes, the lowest first, from a place up to another.
+fn lay(out: &mut [u8], at: usize, past: usize, number: u64)
+    requires { ⌜ (at ≤ past) × (past ≤ length (now out)) ⌝ }
+    ensures { λ _. ⌜ now (out .exit) ≡ laid at past number (now (out .entry)) ⌝ }
+{
+    put_bytes(&mut out[at..past], number);
+}
+
+// A scale, by whether it is below zero and its size, as the 16 bits of an i16.
+fn scale_bits(below: bool, size: u16) -> u64
+    ensures { λ r. ⌜ r ≡ twosComplement (signed below size) ⌝ }
+{
+    let k = size as u64;
+    if below {
+        return (65536 - k) % 65536;
+    }
+    k
+}
+
+// The byte of a sign.
+fn sign_byte(minus: bool) -> u64
+    ensures { λ r. ⌜ r ≡ pick minus 1 0 ⌝ }
+{
+    if minus {
+        return 1;
+    }
+    0
+}
+
+// Lays a stored number.
+fn put_number(out: &mut [u8], s: Stored)
+    requires { ⌜ 20 ≤ length (now out) ⌝ }
+    ensures { λ _. ⌜ now (out .exit) ≡ numberBytes (shown (s .first) (s .past) (s .minus) (s .coefficient) (s .below) (s .scale)) ++ drop 20 (now (out .entry)) ⌝ }
+{
+    lay(out, 0, 4, s.first as u64);
+    lay(out, 4, 8, s.past as u64);
+    lay(out, 8, 16, s.coefficient);
+    lay(out, 16, 18, scale_bits(s.below, s.scale));
+    lay(out, 18, 20, sign_byte(s.minus));
+}
+
+// Answers with a stored number, or with its refusal; 20 where it has no room.
+fn answer_number(out: &mut [u8], a: NumberAnswer) -> u64
+    ensures { λ r. ⌜ (r ≡ replyFor (numberAnswer (paperNumber a)) (length (now (out .entry)))) × (now (out .exit) ≡ bytesAfter (numberAnswer (paperNumber a)) (now (out .entry))) ⌝ }
+{
+    match a {
+        NumberAnswer::Number(s) => {
+            if out.len() < 20 {
+                return pack(20, 0);
+            }
+            put_number(out, s);
+            pack(0, 20)
+        }
+        NumberAnswer::Refused(r) => pack(r.number, r.place),
+    }
+}
+
+// Document 01's reader: a stored number by its set, counted from 1, and its index, counted from 0.
+#[no_mangle]
+pub extern "C" fn uff_number(file: &[u8], set: u32, index: u32, out: &mut [u8]) -> u64
+    ensures { λ r. ⌜ (r ≡ replyFor (numberAnswer (numberOf (now (file .entry)) set index)) (length (now (out .entry)))) × (now (out .exit) ≡ bytesAfter (numberAnswer (numberOf (now (file .entry)) set index)) (now (out .entry))) ⌝ }
+{
+    answer_number(out, reader::number(file, set, index))
+}
+
+// Answers with one f64; 20 where it has no room.
+fn answer_one(out: &mut [u8], x: f64) -> u64
+    ensures { λ r. ⌜ (r ≡ replyFor (valueAnswer (said 0 1 (x ∷ []))) (length (now (out .entry)))) × (now (out .exit) ≡ bytesAfter (valueAnswer (said 0 1 (x ∷ []))) (now (out .entry))) ⌝ }
+{
+    if out.len() < 8 {
+        return pack(20, 0);
+    }
+    lay(out, 0, 8, bits(x));
+    pack(0, 1)
+}
+
+// Answers with two f64, a value of this kind.
+fn answer_two(out: &mut [u8], kind: usize, x: f64, y: f64) -> u64
+    ensures { λ r. ⌜ (r ≡ replyFor (valueAnswer (said 0 kind (x ∷ y ∷ []))) (length (now (out .entry)))) × (now (out .exit) ≡ bytesAfter (valueAnswer (said 0 kind (x ∷ y ∷ []))) (now (out .entry))) ⌝ }
+{
+    if out.len() < 16 {
+        return pack(20, 0);
+    }
+    lay(out, 0, 8, bits(x));
+    lay(out, 8, 16, bits(y));
+    pack(0, kind)
+}
+
+// Answers with three f64.
+fn answer_three(out: &mut [u8], x: f64, y: f64, z: f64) -> u64
+    ensures { λ r. ⌜ (r ≡ replyFor (valueAnswer (said 0 4 (x ∷ y ∷ z ∷ []))) (length (now (out .entry)))) × (now (out .exit) ≡ bytesAfter (valueAnswer (said 0 4 (x ∷ y ∷ z ∷ []))) (now (out .entry))) ⌝ }
+{
+    if out.len() < 24 {
+        return pack(20, 0);
+    }
+    lay(out, 0, 8, bits(x));
+    lay(out, 8, 16, bits(y));
+    lay(out, 16, 24, bits(z));
+    pack(0, 4)
+}
+
+// Answers with a value, or with its refusal.
+fn answer_value(out: &mut [u8], a: ValueAnswer) -> u64
+    ensures { λ r. ⌜ (r ≡ replyFor (valueAnswer (paper a)) (length (now (out .entry)))) × (now (out .exit) ≡ bytesAfter (valueAnswer (paper a)) (now (out .entry))) ⌝ }
+{
+    match a {
+        ValueAnswer::Real(x) => answer_one(out, x),
+        ValueAnswer::Complex(x, y) => answer_two(out, 2, x, y),
+        ValueAnswer::RealAt(x, y) => answer_two(out, 3, x, y),
+        ValueAnswer::ComplexAt(x, y, z) => answer_three(out, x, y, z),
+        ValueAnswer::Refused(r) => pack(r.number, r.place),
+    }
+}
+
+// Document 01's reader: a value by its set, counted from 1, and its index, counted from 0.
+#[no_mangle]
+pub extern "C" fn uff_value(file: &[u8], set: u32, index: u32, out: &mut [u8]) -> u64
+    ensures { λ r. ⌜ (r ≡ replyFor (valueAnswer (valueOf (now (file .entry)) set index)) (length (now (out .entry)))) × (now (out .exit) ≡ bytesAfter (valueAnswer (valueOf (now (file .entry)) set index)) (now (out .entry))) ⌝ }
+{
+    answer_value(out, reader::value(file, set, index))
+}
+
+// Document 01's rewriter: the file in rewritten form into the bytes lent; its length.
+#[no_mangle]
+pub extern "C" fn uff_rewrite(file: &[u8], out: &mut [u8]) -> u64
+    ensures { λ r. ⌜ (r ≡ word (rewriteReply (now (file .entry)) (length (now (out .entry))))) × (now (out .exit) ≡ rewriteOut (now (file .entry)) (now (out .entry))) ⌝ }
+{
+    let found = rewriter::rewrite(file, out);
     pack(found.number, found.place)
 }

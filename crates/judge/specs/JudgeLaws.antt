@@ -4,7 +4,9 @@ use mathlib.Core.Bool.{true, false}
 use mathlib.Core.List.{List, [], _∷_}
 use Prim.Native.Nat.{ℕ, zero, suc, _+_, _-_, _≤_, _<_}
 use native.Mathlib.Omega.{arith}
-use borrow.Author.Tests.{ne-eqb}
+use mathlib.Core.Logic.{⊎-elim}
+use borrow.Author.Tests.{ne-eqb, lt-ltb}
+use Rattle.laws.specs.Choice.{below-or-not}
 use lib.ListN.{length, take, drop}
 use Rattle.laws.specs.Cut.{lineLen, cut, over, judge, judge-at}
 use Rattle.line.specs.Line.{columns, lineFault, filled}
@@ -17,7 +19,7 @@ use Rattle.walk.specs.declared.Outcome.{Outcome}
 use Rattle.walk.specs.declared.Outcome.the-variants.{Next, Refused}
 use Rattle.walk.specs.Step.{stepOf}
 use Rattle.judge.specs.declared.Reply.{Reply}
-use Rattle.judge.specs.Judge.{reply, lineOutcome, lineStep, Run, going, refused, onOutcome, runStep, atEnd, runEnd}
+use Rattle.judge.specs.Judge.{reply, lineOutcome, lineStep, Run, going, refused, onOutcome, runStep, atEnd, runEnd, judged}
 
 own-first : (s : State) (f : Refusal) (cs : List ℕ) → 0 < f .number → lineOutcome s f cs ≡ Refused f
 own-first s f cs p = go (f .number) refl p
@@ -83,3 +85,8 @@ module _ (s : State) (n : ℕ) (l : List ℕ) (at e : ℕ) (a : at ≤ length l)
       → judge runStep runEnd (going s n) (drop at l) ≡ reply (f .number) (n + 1)
   judge-stops o f p u =
       turn ∙ ap (λ (x : Outcome). judge runStep runEnd (onOutcome n x) (drop (e + 1) l)) (sym p ∙ u) ∙ judge-refused _ _
+
+-- an accepted file is not too long
+pub judged-short : (bytes : List ℕ) → judged bytes .number ≤ 0 → length bytes ≤ 16777216
+unfolding judged
+judged-short bytes h = ⊎-elim (λ l. let z : _≤_ 1 0 = rw (lt-ltb 16777216 (length bytes) l) at h in absurd (omega arith)) (λ l. l) (below-or-not 16777216 (length bytes))

@@ -17,7 +17,7 @@ use Rattle.line.specs.declared.Refusal.{Refusal}
 use Rattle.line.specs.Line.{refusal, passed, Allowed, none, more, isAllowed, withoutReturn, columns, firstBad, lineFault, filled, allAllowed}
 
 -- the first LF is within the bytes
-lineLen-most : (l : List ℕ) → lineLen l ≤ length l
+pub lineLen-most : (l : List ℕ) → lineLen l ≤ length l
 unfolding lineLen
 lineLen-most [] = omega arith
 lineLen-most (b ∷ l) = most (eqb b 10) (lineLen-most l)

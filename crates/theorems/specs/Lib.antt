@@ -1,8 +1,7 @@
 pub mod Reader
-pub mod Short
 pub mod TypedRun
 pub mod RowFits
-pub mod LineTests
+pub mod RowTests
 pub mod TypedRunLaws
 pub mod ReaderComplete
 pub mod ReaderSound
@@ -12,5 +11,13 @@ pub mod Ran
 pub mod RanLaws
 pub mod Accepted
 pub mod AcceptedLaws
+pub mod Answers
+pub mod AnswersLaws
+pub mod Columns
+pub mod ColumnsLaws
 pub mod Theorems
+pub mod Text
+pub mod Named
+pub mod Wrong
+pub mod Examples
 pub mod Witness

@@ -22,7 +22,7 @@ use Rattle.sets.specs.FollowsLaws.{after-items}
 use Rattle.theory.specs.Sets.{Set}
 use Rattle.theory.specs.Proper.{Inside, BlankLines, PlainLines, SetLines, Lines}
 use Rattle.theorems.specs.Reader.{Reading, outside, number, plain, typed, closed, opened, readLine, readLines}
-use Rattle.theorems.specs.LineTests.{blankLine-complete, inside-complete}
+use Rattle.ends.specs.LineTests.{blankLine-complete, inside-complete}
 use Rattle.theorems.specs.TypedRun.{TypedRun}
 use Rattle.theorems.specs.TypedRunLaws.{typedLines-run}
 

@@ -1,33 +1,53 @@
 -- The theorems. A file is a list of bytes; `judged` (crates/judge) is the judge's reply, number and place, which the code is proved to
 -- give for every file; `Proper` (crates/theory) says, from a list of sets alone, which files are proper writings of it.
-use mathlib.Core.Path.{_≡_, refl, sym, _∙_}
+use mathlib.Core.Path.{_≡_, refl, sym, ap, subst, _∙_}
 use mathlib.Core.Bool.{true}
-use mathlib.Core.List.{List, [], map}
-use Prim.Native.Nat.{ℕ}
+use mathlib.Core.List.{List, [], _∷_, _++_, map}
+use Prim.Native.Nat.{ℕ, suc, _+_, _*_, _-_, _<_, _≤_}
 use native.Mathlib.Omega.{arith}
-use lib.ListN.{length}
+use borrow.Author.Tests.{le-ltb}
+use lib.ListN.{length, getD, take, drop, drop-of-length-le}
 use Rattle.laws.specs.Cut.{cut}
 use Rattle.line.specs.Line.{columns}
+use Rattle.real.specs.Real.{realOf}
+use Rattle.layout.specs.Layout.{numbersOf}
+use Rattle.judge.specs.declared.Reply.{Reply}
 use Rattle.judge.specs.Judge.{judged, reply}
+use Rattle.parts.specs.Parts as Parts
+use Rattle.parts.specs.Parts.{partsOf}
+use Rattle.parts.specs.Function as Function
+use Rattle.parts.specs.SetLaws.{Somewhere, somewhere}
+use Rattle.lister.specs.Lister.{rowsOf, listReply, listRows}
+use Rattle.reader.specs.Reader.{said, refused, setsFrom, shownOf, numberOf, valueOf, valueWith}
+use Rattle.rewriter.specs.Rewriter.{rewrittenFile, rewriteReply, rewriteOut}
+use Rattle.rewriting.specs.Form.{InForm, KeepsSpellings}
+use Rattle.rewriting.specs.RewritingLaws.{rewritten-proper, rewritten-form, rewritten-keeps, rewritten-only}
+use Rattle.places.specs.Holds.{Stand}
+use Rattle.places.specs.HoldsLaws.{lines-stand}
+use Rattle.places.specs.Declared.{declared, caseOf}
+use Rattle.places.specs.DeclaredLaws.{number-held, declared-held, case-held, all-held, as-many, Found, stand-at}
+use Rattle.places.specs.Stored.{storedCount, storedItem}
+use Rattle.places.specs.OrderLaws.{columns-inside, columns-apart, first-column}
+use Rattle.places.specs.CaseLaws.{case-eight, declared-some}
+use Rattle.places.specs.WholeLaws.{Owned, byte-owned}
 use Rattle.theory.specs.Sets.{Set}
 use Rattle.theory.specs.Proper.{Ended, Proper}
 use Rattle.ends.specs.Ends.{CutInto}
 use Rattle.ends.specs.EndsLaws.{ended-complete, ended-sound}
 use Rattle.theorems.specs.Reader.{outside, readLines}
-use Rattle.theorems.specs.Short.{Short}
+use Rattle.ends.specs.ShortLaws.{ended-short}
 use Rattle.theorems.specs.ReaderComplete.{reader-complete}
 use Rattle.theorems.specs.ReaderSound.{reader-sound}
+use Rattle.theorems.specs.Answers.{realOfItem, valueSaid, ownBytes, Answered}
+use Rattle.theorems.specs.AnswersLaws.{value-own, valueWith-same, number-answered, number-past, number-other, number-asked, value-answered, value-past, value-other, value-asked, item-own, real-same}
+use Rattle.theorems.specs.Columns.{Within, Columns, OfValue}
+use Rattle.theorems.specs.ColumnsLaws.{owned-within, data-start, inside-data, within-once, of-value}
 use Rattle.theorems.specs.Accepted.{Accepted}
 use Rattle.theorems.specs.AcceptedLaws.{judged-accepted, accepted-judged}
 
 -- the columns of a file's lines
 abbrev lines : List ℕ → List (List ℕ)
 lines bytes = map (columns true) (cut bytes .lines)
-
-ended-short : {css : List (List ℕ)} {bytes : List ℕ} → Ended css bytes → Short css
-ended-short Ended.none = Short.none
-ended-short (Ended.lf cs bytes a l e) = Short.more l (ended-short e)
-ended-short (Ended.crlf cs bytes a l e) = Short.more l (ended-short e)
 
 -- what is accepted is proper
 accepted-by : (bytes : List ℕ) (n : ℕ) → Accepted bytes n → (sets : List Set) × Proper sets bytes
@@ -56,3 +76,181 @@ proper-accepted {sets} {bytes} p =
 -- UNIQUE: no file is a proper writing of two lists.
 pub proper-unique : {a b : List Set} {bytes : List ℕ} → Proper a bytes → Proper b bytes → a ≡ b
 proper-unique {a} {b} p q = let e : outside a ≡ outside b = sym (proper-read p) ∙ proper-read q in cc
+
+-- LISTER. The sets of the list stand in the file in order, each as a part of it: its opening line and first byte, its own lines between its
+-- number line and its closing delimiter, and the byte past its closing line are the part's (crates/places/specs/Holds.antt).
+pub lister-places : {sets : List Set} {bytes : List ℕ} → Proper sets bytes → Stand 0 0 sets (partsOf bytes) (cut bytes .lines)
+unfolding partsOf
+lister-places {sets} {bytes} p =
+    let c : CutInto (p .columns) bytes = ended-complete (p .ends) in
+    lines-stand (p .lines) (ended-short (p .ends)) 0 0 (cut bytes .lines) (c .same)
+
+-- It answers the number of sets of the list, and its rows are those parts', set by set.
+pub lister-answers : {sets : List Set} {bytes : List ℕ} → Proper sets bytes → (rows : List ℕ) → 6 * length sets ≤ length rows
+    → (listReply bytes (length rows) ≡ reply 0 (length sets)) × (listRows bytes rows ≡ rowsOf (partsOf bytes) ++ drop (6 * length sets) rows)
+unfolding listReply listRows
+lister-answers {sets} {bytes} p rows h =
+    let n : length (partsOf bytes) ≡ length sets = as-many (lister-places p) in
+    (rw (proper-accepted p, n, le-ltb (length rows) (6 * length sets) h) refl, rw (proper-accepted p, n, le-ltb (length rows) (6 * length sets) h) refl)
+
+-- The dataset numbers and the declared counts in its rows are the list's, in order.
+pub lister-numbers : {sets : List Set} {bytes : List ℕ} → Proper sets bytes
+    → (map Parts.numberOf (partsOf bytes) ≡ map (λ (s : Set). s .number) sets) × (map Function.countOf (partsOf bytes) ≡ map declared sets)
+lister-numbers p =
+    (all-held (λ (s : Set). s .number) Parts.numberOf (λ s q h. number-held h) (lister-places p), all-held declared Function.countOf (λ s q h. declared-held h) (lister-places p))
+
+-- set k of the list, from 0, as it stands in the file
+set-found : {sets : List Set} {bytes : List ℕ} → Proper sets bytes → (k : ℕ) (s : Set) (rest : List Set) → drop k sets ≡ s ∷ rest → Found (partsOf bytes) k s
+set-found p k s rest e = stand-at k s rest (lister-places p) e
+
+set-somewhere : (bytes : List ℕ) (k : ℕ) (s : Set) (f : Found (partsOf bytes) k s) → Somewhere bytes (f .part) (f .others)
+unfolding partsOf
+set-somewhere bytes k s f = somewhere bytes k 0 0 (partsOf bytes) (f .part) (f .others) (omega arith) refl (f .sets)
+
+accepted-zero : {sets : List Set} {bytes : List ℕ} → Proper sets bytes → judged bytes .number ≡ 0
+accepted-zero p = ap (λ (r : Reply). r .number) (proper-accepted p)
+
+-- COLUMNS. In each 58 the declared count of values is there: the numbers they store stand each in its own columns, in order, apart, inside
+-- the delimiters, and every byte of the data lines that is no blank and no line's end belongs to exactly one of them.
+pub values-in-columns : {sets : List Set} {bytes : List ℕ} → Proper sets bytes → (k : ℕ) (s : Set) (rest : List Set) → drop k sets ≡ s ∷ rest → s .number ≡ 58
+    → Columns bytes k s
+values-in-columns {sets} {bytes} p k s rest d e =
+    let f = set-found p k s rest d in
+    let w = set-somewhere bytes k s f in
+    record {
+      part = f .part;
+      others = f .others;
+      place = f .sets;
+      case = case-eight (f .holds .lines) e;
+      some = declared-some (f .holds .lines) e;
+      begins = first-column (f .part) ∙ sym (data-start (f .holds) e);
+      inside = λ j l. inside-data (f .part) _ _ (data-start (f .holds) e) (columns-inside (f .holds) e j l);
+      apart = columns-apart (f .holds) e;
+      owned = λ x a b c l r. owned-within (byte-owned bytes (f .others) w (f .holds) e x (rw (data-start (f .holds) e) at a) b c l r);
+      once = within-once (f .part) (storedCount s) (columns-apart (f .holds) e);
+    }
+
+-- Such a byte belongs to a value that is declared.
+pub bytes-of-values : {bytes : List ℕ} {k : ℕ} {s : Set} (c : Columns bytes k s) (x : ℕ) → Function.dataStart (c .part) ≤ x → x < Parts.closingStart (c .part)
+    → (getD bytes x 0 ≡ 32 → ⊥) → (getD bytes x 0 ≡ 10 → ⊥) → (getD bytes x 0 ≡ 13 → ⊥) → OfValue s (c .part) x
+bytes-of-values {s = s} c x a b u v w = let o = c .owned x a b u v w in of-value s (c .part) x (o .0) (c .case) (o .1 .0) (o .1 .1)
+
+-- the part is the one that was found
+same-part : {bytes : List ℕ} {k : ℕ} {s : Set} (f : Found (partsOf bytes) k s) (c : Columns bytes k s) → f .part ≡ c .part
+same-part f c = let q : f .part ∷ f .others ≡ c .part ∷ c .others = sym (f .sets) ∙ c .place in cc
+
+-- READER. Stored number j of set k of the list, a 58: its answer shows its own columns and the sign, coefficient and scale of the list's item,
+-- and the bytes of those columns spell just that.
+pub reader-numbers : {sets : List Set} {bytes : List ℕ} → Proper sets bytes → (k : ℕ) (s : Set) (rest : List Set) → drop k sets ≡ s ∷ rest → s .number ≡ 58
+    → (c : Columns bytes k s) (j : ℕ) → j < storedCount s → Answered bytes (suc k) j s (c .part)
+unfolding setsFrom
+reader-numbers {sets} {bytes} p k s rest d e c j l =
+    let f = set-found p k s rest d in
+    let w = set-somewhere bytes k s f in
+    let x = item-own bytes (f .others) w (f .holds) e j l .0 in
+    let a : numberOf bytes (suc k) j ≡ shownOf (Function.firstByte (f .part) j) (Function.pastByte (f .part) j) (realOfItem (storedItem s j))
+    = number-asked bytes (suc k) j (accepted-zero p) ∙ rw (f .sets) (number-answered bytes (f .others) w (f .holds) e j l) in
+    subst (Answered bytes (suc k) j s) (same-part f c)
+    (record {
+      sign = x .minus;
+      coefficient = x .coefficient;
+      scale = x .scale;
+      answer = a ∙ rw (x .item) refl;
+      item = x .item;
+      spelled = x .spelling;
+    })
+
+-- A value of it is what the reader's rule makes of its numbers in the list.
+pub reader-values : {sets : List Set} {bytes : List ℕ} → Proper sets bytes → (k : ℕ) (s : Set) (rest : List Set) → drop k sets ≡ s ∷ rest → s .number ≡ 58
+    → (i : ℕ) → i < declared s → valueOf bytes (suc k) i ≡ valueSaid s i
+unfolding setsFrom
+reader-values {sets} {bytes} p k s rest d e i l =
+    let f = set-found p k s rest d in
+    value-asked bytes (suc k) i (accepted-zero p) ∙ rw (f .sets) (value-answered bytes (f .others) (set-somewhere bytes k s f) (f .holds) e i l)
+
+-- Any other question is 18: no such set, a set that is no 58, an index past its numbers or values.
+pub reader-set-0 : {sets : List Set} {bytes : List ℕ} → Proper sets bytes → (i : ℕ) → (numberOf bytes 0 i ≡ refused 18 0) × (valueOf bytes 0 i ≡ refused 18 0)
+unfolding setsFrom
+reader-set-0 {sets} {bytes} p i = (number-asked bytes 0 i (accepted-zero p), value-asked bytes 0 i (accepted-zero p))
+
+pub reader-no-set : {sets : List Set} {bytes : List ℕ} → Proper sets bytes → (k i : ℕ) → length sets ≤ k
+    → (numberOf bytes (suc k) i ≡ refused 18 0) × (valueOf bytes (suc k) i ≡ refused 18 0)
+unfolding setsFrom
+reader-no-set {sets} {bytes} p k i h =
+    let n : length (partsOf bytes) ≡ length sets = as-many (lister-places p) in
+    let m : length (partsOf bytes) ≤ k = omega arith in
+    let d : drop k (partsOf bytes) ≡ [] = drop-of-length-le (partsOf bytes) m in
+    (number-asked bytes (suc k) i (accepted-zero p) ∙ rw d refl, value-asked bytes (suc k) i (accepted-zero p) ∙ rw d refl)
+
+pub reader-not-58 : {sets : List Set} {bytes : List ℕ} → Proper sets bytes → (k : ℕ) (s : Set) (rest : List Set) → drop k sets ≡ s ∷ rest → (s .number ≡ 58 → ⊥)
+    → (i : ℕ) → (numberOf bytes (suc k) i ≡ refused 18 0) × (valueOf bytes (suc k) i ≡ refused 18 0)
+unfolding setsFrom
+reader-not-58 {sets} {bytes} p k s rest d n i =
+    let f = set-found p k s rest d in (
+      number-asked bytes (suc k) i (accepted-zero p) ∙ rw (f .sets) (number-other bytes (f .others) (f .holds) n i),
+      value-asked bytes (suc k) i (accepted-zero p) ∙ rw (f .sets) (value-other bytes (f .others) (f .holds) n i),
+    )
+
+pub reader-past : {sets : List Set} {bytes : List ℕ} → Proper sets bytes → (k : ℕ) (s : Set) (rest : List Set) → drop k sets ≡ s ∷ rest → s .number ≡ 58
+    → (i : ℕ) → (storedCount s ≤ i → numberOf bytes (suc k) i ≡ refused 18 0) × (declared s ≤ i → valueOf bytes (suc k) i ≡ refused 18 0)
+unfolding setsFrom
+reader-past {sets} {bytes} p k s rest d e i =
+    let f = set-found p k s rest d in
+    let w = set-somewhere bytes k s f in (
+      λ l. number-asked bytes (suc k) i (accepted-zero p) ∙ rw (f .sets) (number-past bytes (f .others) w (f .holds) e i l),
+      λ l. value-asked bytes (suc k) i (accepted-zero p) ∙ rw (f .sets) (value-past bytes (f .others) w (f .holds) e i l),
+    )
+
+-- a value by the bytes of its own columns
+value-by-bytes : {sets : List Set} {bytes : List ℕ} → Proper sets bytes → (k : ℕ) (s : Set) (rest : List Set) → drop k sets ≡ s ∷ rest → s .number ≡ 58
+    → (c : Columns bytes k s) (i : ℕ) → i < declared s → valueOf bytes (suc k) i ≡ valueWith (λ (j : ℕ). realOf (ownBytes bytes (c .part) j)) (caseOf s) i
+unfolding setsFrom
+value-by-bytes {sets} {bytes} p k s rest d e c i l =
+    let f = set-found p k s rest d in
+    let a : f .part ≡ c .part = same-part f c in
+    value-asked bytes (suc k) i (accepted-zero p)
+    ∙ rw (f .sets) (value-own bytes (f .others) (set-somewhere bytes k s f) (f .holds) e i l)
+    ∙ ap (λ (x : Parts.Part). valueWith (λ (j : ℕ). realOf (ownBytes bytes x j)) (caseOf s) i) a
+
+-- OWN BYTES. No number shown comes from other columns: two accepted files that agree on the case and on the bytes of a value's own columns
+-- get the same answer to its question, 21 included.
+pub own-bytes-decide : {sets sets′ : List Set} {bytes bytes′ : List ℕ} → Proper sets bytes → Proper sets′ bytes′
+    → (k k′ : ℕ) (s s′ : Set) (rest rest′ : List Set) → drop k sets ≡ s ∷ rest → drop k′ sets′ ≡ s′ ∷ rest′ → s .number ≡ 58 → s′ .number ≡ 58
+    → (c : Columns bytes k s) (c′ : Columns bytes′ k′ s′) → caseOf s ≡ caseOf s′ → (i i′ : ℕ) → i < declared s → i′ < declared s′
+    → ((r : ℕ) → r < numbersOf (caseOf s)
+    → ownBytes bytes (c .part) (i * numbersOf (caseOf s) + r) ≡ ownBytes bytes′ (c′ .part) (i′ * numbersOf (caseOf s) + r))
+    → valueOf bytes (suc k) i ≡ valueOf bytes′ (suc k′) i′
+own-bytes-decide {sets} {sets′} {bytes} {bytes′} p p′ k k′ s s′ rest rest′ d d′ e e′ c c′ q i i′ l l′ h =
+    value-by-bytes p k s rest d e c i l
+    ∙ valueWith-same (λ (j : ℕ). realOf (ownBytes bytes (c .part) j)) (λ (j : ℕ). realOf (ownBytes bytes′ (c′ .part) j)) (caseOf s) i i′ (λ r a. ap realOf (h r a))
+    ∙ ap (λ (x : ℕ). valueWith (λ (j : ℕ). realOf (ownBytes bytes′ (c′ .part) j)) x i′) q
+    ∙ sym (value-by-bytes p′ k′ s′ rest′ d′ e′ c′ i′ l′)
+
+-- The same for a stored number: its sign, coefficient and scale.
+pub own-bytes-number : {sets sets′ : List Set} {bytes bytes′ : List ℕ} → Proper sets bytes → Proper sets′ bytes′
+    → (k k′ : ℕ) (s s′ : Set) (rest rest′ : List Set) → drop k sets ≡ s ∷ rest → drop k′ sets′ ≡ s′ ∷ rest′ → s .number ≡ 58 → s′ .number ≡ 58
+    → (c : Columns bytes k s) (c′ : Columns bytes′ k′ s′) (j j′ : ℕ) → j < storedCount s → j′ < storedCount s′
+    → ownBytes bytes (c .part) j ≡ ownBytes bytes′ (c′ .part) j′ → storedItem s j ≡ storedItem s′ j′
+own-bytes-number {bytes = bytes} {bytes′ = bytes′} p p′ k k′ s s′ rest rest′ d d′ e e′ c c′ j j′ l l′ h =
+    let f = set-found p k s rest d in
+    let g = set-found p′ k′ s′ rest′ d′ in
+    let x = item-own bytes (f .others) (set-somewhere bytes k s f) (f .holds) e j l in
+    let y = item-own bytes′ (g .others) (set-somewhere bytes′ k′ s′ g) (g .holds) e′ j′ l′ in
+    let a : ownBytes bytes (f .part) j ≡ ownBytes bytes (c .part) j = ap (λ (z : Parts.Part). ownBytes bytes z j) (same-part f c) in
+    let b : ownBytes bytes′ (g .part) j′ ≡ ownBytes bytes′ (c′ .part) j′ = ap (λ (z : Parts.Part). ownBytes bytes′ z j′) (same-part g c′) in
+    real-same (storedItem s j) (storedItem s′ j′) (ownBytes bytes (f .part) j) (ownBytes bytes′ (g .part) j′) (x .0) (y .0) (x .1 ∙ ap realOf (a ∙ h ∙ sym b) ∙ sym (y .1))
+
+-- REWRITER. What it gives is a proper writing of the same list, in rewritten form, with the file's spellings, and no other text is
+-- (crates/rewriting/specs/Form.antt); it is no longer than the file.
+pub rewriter-keeps : {sets : List Set} {bytes : List ℕ} → Proper sets bytes
+    → Proper sets (rewrittenFile bytes) × (InForm sets (rewrittenFile bytes) × KeepsSpellings bytes (rewrittenFile bytes))
+rewriter-keeps p = (rewritten-proper p, (rewritten-form p, rewritten-keeps p))
+
+pub rewriter-only : {sets : List Set} {bytes : List ℕ} → Proper sets bytes → (new : List ℕ) → InForm sets new → KeepsSpellings bytes new → new ≡ rewrittenFile bytes
+rewriter-only p new f k = rewritten-only p new f k
+
+-- It answers the length, and the bytes lent hold that text and then their own rest.
+pub rewriter-answers : {sets : List Set} {bytes : List ℕ} → Proper sets bytes → (out : List ℕ) → length (rewrittenFile bytes) ≤ length out
+    → (rewriteReply bytes (length out) ≡ reply 0 (length (rewrittenFile bytes))) × (rewriteOut bytes out ≡ rewrittenFile bytes ++ drop (length (rewrittenFile bytes)) out)
+unfolding rewriteOut rewriteReply
+rewriter-answers {sets} {bytes} p out h = (rw (proper-accepted p, le-ltb (length out) (length (rewrittenFile bytes)) h) refl, rw (proper-accepted p, le-ltb (length out) (length (rewrittenFile bytes)) h) refl)

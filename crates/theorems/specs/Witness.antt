@@ -2,10 +2,8 @@
 -- some files are proper writings and that some are not.
 use mathlib.Core.Path.{_≡_, refl}
 use mathlib.Core.List as L
-use mathlib.Core.List.{List, _++_}
+use mathlib.Core.List.{List}
 use Prim.Native.Nat.{ℕ}
-use Prim.Native.String.{String, [], _∷_}
-use Prim.Native.Char.{code}
 use Rattle.laws.specs.Run.{run}
 use Rattle.laws.specs.Cut.{cut, over, judge}
 use Rattle.text.specs.Blank.{allBlank}
@@ -28,19 +26,7 @@ use Rattle.walk.specs.Due.{recordDue, listRow, rowDue, isClosed, settled, numbe
 use Rattle.walk.specs.Step.{opened, outsideStep, numberStep, plainStep, typedStep, stepOf}
 use Rattle.judge.specs.declared.Reply.{Reply}
 use Rattle.judge.specs.Judge.{reply, lineStep, judged}
-
--- the bytes of a line, with its LF
-abbrev bytes : String → List ℕ
-bytes [] = L._∷_ 10 L.[]
-bytes (c ∷ s) = L._∷_ (code c) (bytes s)
-
--- a file, line by line
-infixr 5 _⊕_
-abbrev _⊕_ : String → List ℕ → List ℕ
-s ⊕ rest = bytes s ++ rest
-
-abbrev none : List ℕ
-none = L.[]
+use Rattle.theorems.specs.Text.{none, _⊕_}
 
 -- a file and the judge's reply
 pub record Case : Type 0 where

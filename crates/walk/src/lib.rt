@@ -183,7 +183,7 @@ pub fn settled(d: Due) -> Due
 }
 
 // The number of the integer in these columns, counted from 0; 0 where they hold none, or one below zero.
-fn number_in(line: &[u8; 80], from: usize, past: usize) -> u32
+pub fn number_in(line: &[u8; 80], from: usize, past: usize) -> u32
     requires { ⌜ (from ≤ past) × (past ≤ 80) ⌝ }
     ensures { λ r. ⌜ r ≡ numberIn from past (now (line .entry)) ⌝ }
 {
@@ -192,7 +192,7 @@ fn number_in(line: &[u8; 80], from: usize, past: usize) -> u32
 }
 
 // The case of a 58, from its line 7.
-fn case_in(line: &[u8; 80]) -> usize
+pub fn case_in(line: &[u8; 80]) -> usize
     ensures { λ r. ⌜ r ≡ caseIn (now (line .entry)) ⌝ }
 {
     layout::case_of(number_in(line, 0, 10), number_in(line, 20, 30))

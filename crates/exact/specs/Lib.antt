@@ -1,0 +1,6 @@
+pub mod Exact
+pub mod ExactLaws
+pub mod Bits
+pub mod BitsLaws
+pub mod Bytes
+pub mod BytesLaws

@@ -1,0 +1,102 @@
+// The f64 of a decimal number, its bit pattern, and a number's bytes.
+ghost use mathlib.Core.Path.{_≡_};
+ghost use Prim.Native.Nat.{_<_, _≤_};
+ghost use lib.ListN.{length};
+ghost use Rattle.exact.specs.Exact.{tenOf, magnitudeOf, exactOf};
+ghost use Rattle.exact.specs.Bits.{bitsOf};
+ghost use Rattle.exact.specs.Bytes.{bytesOf};
+
+// The f64 of a number, or that the number is outside the exact path (document 01's term).
+pub enum Exact {
+    Value(f64),
+    Outside,
+}
+
+// The powers of ten from 10^0 to 10^22, each of which is an f64 exactly.
+const TENS: [f64; 23] = [
+    1e0,
+    1e1,
+    1e2,
+    1e3,
+    1e4,
+    1e5,
+    1e6,
+    1e7,
+    1e8,
+    1e9,
+    1e10,
+    1e11,
+    1e12,
+    1e13,
+    1e14,
+    1e15,
+    1e16,
+    1e17,
+    1e18,
+    1e19,
+    1e20,
+    1e21,
+    1e22,
+];
+
+// The power of ten.
+fn ten(scale: usize) -> f64
+    requires { ⌜ scale < 23 ⌝ }
+    ensures { λ r. ⌜ r ≡ tenOf scale ⌝ }
+{
+    TENS[scale]
+}
+
+// The coefficient divided by the power of ten where the scale is below zero, times it otherwise.
+fn magnitude(coefficient: u64, below: bool, scale: u16) -> f64
+    requires { ⌜ coefficient ≤ 9007199254740992 ⌝ }
+    requires { ⌜ scale ≤ 22 ⌝ }
+    ensures { λ r. ⌜ r ≡ magnitudeOf coefficient below scale ⌝ }
+{
+    let c = coefficient as f64;
+    let t = ten(scale as usize);
+    if below {
+        return c / t;
+    }
+    c * t
+}
+
+// The f64 of a number given by its sign, its coefficient, whether its scale is below zero, and the scale's size.
+pub fn exact_f64(minus: bool, coefficient: u64, below: bool, scale: u16) -> Exact
+    ensures { λ r. ⌜ r ≡ exactOf minus coefficient below scale ⌝ }
+{
+    if 9007199254740992 < coefficient {
+        return Exact::Outside;
+    }
+    if 22 < scale {
+        return Exact::Outside;
+    }
+    let m = magnitude(coefficient, below, scale);
+    if minus {
+        return Exact::Value(-m);
+    }
+    Exact::Value(m)
+}
+
+// The bit pattern of an f64; one and the same for every NaN.
+pub fn bits(x: f64) -> u64
+    ensures { λ r. ⌜ r ≡ bitsOf x ⌝ }
+{
+    if x != x {
+        return 0x7ff8000000000000;
+    }
+    f64::to_bits(x)
+}
+
+// The number's bytes, the lowest first, as many as are lent.
+pub fn put_bytes(out: &mut [u8], number: u64)
+    ensures { λ _. ⌜ now (out .exit) ≡ bytesOf (length (now (out .entry))) number ⌝ }
+{
+    let mut rest = number;
+    let mut i = 0;
+    while i < out.len() {
+        out[i] = (rest % 256) as u8;
+        rest = rest / 256;
+        i += 1;
+    }
+}

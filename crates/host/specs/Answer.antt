@@ -1,0 +1,53 @@
+-- The reader's answers as bytes in a lent buffer: for a stored number "20 bytes, little-endian: first byte u32, past byte u32, coefficient
+-- u64, scale i16, sign u8 (1 if negative), a zero byte", for a value "one to three f64, 8 little-endian bytes each, abscissa first".
+use mathlib.Core.List.{List, [], _∷_, _++_}
+use Prim.Native.Nat.{ℕ, _-_, _%_}
+use lib.Dec.{ltb}
+use lib.Ieee.{Float}
+use lib.IntN.{ℤ, pos, negsuc}
+use lib.ListN.{length, take, drop}
+use Rattle.laws.specs.Choice.{pick}
+use Rattle.exact.specs.Bits.{bitsOf}
+use Rattle.exact.specs.Bytes.{bytesOf}
+use Rattle.reader.specs.Reader.{Said, said, Shown, scaleOf}
+use Rattle.host.specs.Packed.{packed}
+
+-- an i16 as its 16 bits, two's complement: what it is modulo 2^16
+unfoldable pub twosComplement : ℤ → ℕ
+twosComplement (pos n) = n % 65536
+twosComplement (negsuc n) = 65535 - n % 65536
+
+unfoldable pub numberBytes : Shown → List ℕ
+numberBytes s =
+    bytesOf 4 (s .first)
+    ++ (bytesOf 4 (s .past)
+    ++ (bytesOf 8 (s .coefficient)
+    ++ (bytesOf 2 (twosComplement (scaleOf s))
+    ++ (pick (s .sign) 1 0 ∷ 0 ∷ []))))
+
+unfoldable pub valueBytes : List Float → List ℕ
+valueBytes [] = []
+valueBytes (x ∷ xs) = bytesOf 8 (bitsOf x) ++ valueBytes xs
+
+-- an answer shown as bytes. For a stored number the place is 20, for a value its kind. A refusal shows nothing
+unfoldable pub numberShown : ℕ → ℕ → List Shown → Said ℕ
+numberShown n p [] = said n p []
+numberShown n p (s ∷ ss) = said n 20 (numberBytes s)
+
+abbrev pub numberAnswer : Said Shown → Said ℕ
+numberAnswer s = numberShown (s .number) (s .place) (s .shown)
+
+abbrev pub valueAnswer : Said Float → Said ℕ
+valueAnswer s = said (s .number) (s .place) (valueBytes (s .shown))
+
+-- the reply, given how many bytes are lent: 20 "output too short" where they are fewer than the answer's, else what the answer says
+unfoldable pub replyFor : Said ℕ → ℕ → ℕ
+replyFor s lent = pick (ltb lent (length (s .shown))) (packed 20 0) (packed (s .number) (s .place))
+
+-- the lent bytes afterwards. "A refusal leaves every lent buffer untouched; a buffer longer than the answer keeps the rest"
+unfoldable pub bytesAfter : Said ℕ → List ℕ → List ℕ
+bytesAfter s out = pick (ltb (length out) (length (s .shown))) out (s .shown ++ drop (length (s .shown)) out)
+
+-- the bytes from a to e, which is past the last of them, are the number's
+unfoldable pub laid : ℕ → ℕ → ℕ → List ℕ → List ℕ
+laid a e n out = take a out ++ (bytesOf (e - a) n ++ drop e out)

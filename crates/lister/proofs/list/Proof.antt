@@ -1,0 +1,45 @@
+-- `lister::list` meets its contract.
+use native.Mathlib.Omega.{arith}
+use mathlib.Core.Path.{refl}
+use Rattle.judge.specs.JudgeLaws.{judged-short}
+use Rattle.lister.specs.ListerLaws.{list-refused, list-short, list-done}
+use borrow.Author.Needs.{needs}
+use Rattle.lister.proofs.list.Statement.{statement}
+use Rattle.lister.proofs.list.Tie as tie
+
+judge-requires : tie.Need-judge-requires
+judge-requires c κs = search needs
+
+returns : tie.Need-returns
+returns c = list-refused _ _ _ (c .before .before .judge .ensures) (c .if1 .taken)
+
+count-sets-requires : tie.Need-count-sets-requires
+count-sets-requires c κs = search needs
+
+mul-if2 : tie.Need-mul-if2
+mul-if2 c = omega (arith, c .count-sets .ensures .1, judged-short (c .before .before .before .before .before .before .args .file .now) (rw (c .before .before .before .judge .ensures) at (c .before .if1 .left)))
+
+returns-2 : tie.Need-returns-2
+returns-2 c = list-short _ _ _ (c .before .before .before .before .judge .ensures) (c .before .before .if1 .left) _ (c .before .count-sets .ensures .0) (c .if2 .taken)
+
+put-rows-requires : tie.Need-put-rows-requires
+put-rows-requires c κs = (judged-short (c .before .before .before .before .before .before .before .before .args .file .now) (rw (c .before .before .before .before .before .judge .ensures) at (c .before .before .before .if1 .left)), rw (c .before .before .count-sets .ensures .0) at (c .before .if2 .left))
+
+same-length : tie.Need-same-length
+same-length c = search needs
+
+returns-3 : tie.Need-returns-3
+returns-3 c = list-done _ _ _ (c .before .before .before .before .before .before .before .before .judge .ensures) (c .before .before .before .before .before .before .if1 .left) _ (c .before .before .before .before .before .count-sets .ensures .0) _ (c .before .before .before .before .if2 .left) (c .before .before .put-rows .ensures)
+
+pub list-spec : {M : Type 1} → statement M
+list-spec =
+    tie.close
+    (tie.spec
+    judge-requires
+    returns
+    count-sets-requires
+    mul-if2
+    returns-2
+    put-rows-requires
+    same-length
+    returns-3)

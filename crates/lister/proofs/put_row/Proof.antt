@@ -1,0 +1,75 @@
+-- `lister::put_row` meets its contract.
+use mathlib.Core.Path.{refl, _∙_}
+use lib.ListN.{length-set}
+use Rattle.lister.specs.Lister.{entryAt}
+use Rattle.lister.specs.ListerLaws.{six}
+use native.Mathlib.Omega.{arith}
+use borrow.Author.Needs.{needs}
+use Rattle.lister.proofs.put_row.Statement.{statement}
+use Rattle.lister.proofs.put_row.Tie as tie
+
+declared-count-requires : tie.Need-declared-count-requires
+declared-count-requires c κs = search needs
+
+data-start-requires : tie.Need-data-start-requires
+data-start-requires c κs = search needs
+
+add-row : tie.Need-add-row
+add-row c = search needs
+
+cast-row : tie.Need-cast-row
+cast-row c = search needs
+
+slice-write-row : tie.Need-slice-write-row
+slice-write-row c = search needs
+
+slice-write-row-2 : tie.Need-slice-write-row-2
+slice-write-row-2 c = search needs
+
+slice-write-row-3 : tie.Need-slice-write-row-3
+slice-write-row-3 c = search needs
+
+cast-row-2 : tie.Need-cast-row-2
+cast-row-2 c = search needs
+
+slice-write-row-4 : tie.Need-slice-write-row-4
+slice-write-row-4 c = search needs
+
+cast-row-3 : tie.Need-cast-row-3
+cast-row-3 c = search needs
+
+slice-write-row-5 : tie.Need-slice-write-row-5
+slice-write-row-5 c = simp length-set (omega (arith, c .before .before .before .before .before .before .before .pre .0))
+
+cast-row-4 : tie.Need-cast-row-4
+cast-row-4 c = search needs
+
+slice-write-row-6 : tie.Need-slice-write-row-6
+slice-write-row-6 c = simp length-set (omega (arith, c .before .before .before .before .before .before .before .pre .0))
+
+same-length : tie.Need-same-length
+same-length c = search needs
+
+returns : tie.Need-returns
+unfolding entryAt
+returns c = six (c .before .before .before .before .before .before .before .args .row .now) _ _ _ _ _ _ (c .before .before .before .before .before .before .before .pre .0) ∙ rw (c .before .before .before .before .declared-count .ensures, c .before .before .before .data-start .ensures .0) refl
+
+pub put-row-spec : {M : Type 1} → statement M
+put-row-spec =
+    tie.close
+    (tie.spec
+    declared-count-requires
+    data-start-requires
+    add-row
+    cast-row
+    slice-write-row
+    slice-write-row-2
+    slice-write-row-3
+    cast-row-2
+    slice-write-row-4
+    cast-row-3
+    slice-write-row-5
+    cast-row-4
+    slice-write-row-6
+    same-length
+    returns)

@@ -1,0 +1,65 @@
+-- `parts::line_start` meets its contract.
+use mathlib.Core.Path.{_≡_, refl, sym, _∙_}
+use Prim.Native.Nat.{_≤_, _-_, _+_}
+use lib.ListN.{length, drop}
+use Rattle.laws.specs.Cut.{cut}
+use Rattle.parts.specs.Scan.{skipTo}
+use Rattle.parts.specs.PartsLaws.{lines-end}
+use Rattle.parts.specs.SetLaws.{skip-stops, skip-none, skip-next, skip-done}
+use borrow.Author.Needs.{needs}
+use native.Mathlib.Omega.{arith}
+use Rattle.parts.proofs.line_start.Statement.{statement}
+use Rattle.parts.proofs.line_start.Tie as tie
+
+abbrev Inv-loop : tie.InvT-loop
+Inv-loop file from closing k at₀ i₀ at i = (at ≤ length file) × ((i ≤ k) × (skipTo (k - i) closing at (cut (drop at file) .lines) ≡ skipTo k closing from (cut (drop from file) .lines)))
+
+abbrev μ-loop : tie.MeasureT-loop
+μ-loop file from closing k at₀ i₀ at i = k - i
+
+loop-holds : tie.Need-loop-holds Inv-loop μ-loop
+loop-holds c =
+    let z : c .before .args .k - 0 ≡ c .before .args .k = omega arith in
+    (search needs, (search needs, rw z refl))
+
+returns : tie.Need-returns Inv-loop μ-loop
+returns c = (sym (skip-stops _ _ _ _ (c .if1 .taken)) ∙ c .before .before .loop .inv .1 .1, c .before .before .loop .inv .0)
+
+find-end-requires : tie.Need-find-end-requires Inv-loop μ-loop
+find-end-requires c κs = search needs
+
+returns-2 : tie.Need-returns-2 Inv-loop μ-loop
+returns-2 c = (sym (skip-none _ _ _ _ (lines-end (c .before .before .before .before .before .before .args .file .now) _ _ (c .before .before .before .before .loop .inv .0) (c .before .find-end .ensures) (c .if2 .taken))) ∙ c .before .before .before .before .loop .inv .1 .1, c .before .before .before .before .loop .inv .0)
+
+add-at : tie.Need-add-at Inv-loop μ-loop
+add-at c = search needs
+
+add-i : tie.Need-add-i Inv-loop μ-loop
+add-i c = search needs
+
+loop-less : tie.Need-loop-less Inv-loop μ-loop
+loop-less c = search needs
+
+loop-again : tie.Need-loop-again Inv-loop μ-loop
+loop-again c =
+    let z : c .before .before .before .before .before .before .args .k - (c .before .before .before .before .loop .i + 1) ≡ c .before .before .before .before .before .before .args .k - c .before .before .before .before .loop .i - 1 = omega arith in
+    (search needs, (search needs, rw z (sym (skip-next (c .before .before .before .before .before .before .args .file .now) _ _ _ _ (omega (arith, c .before .before .before .loop-test .taken)) (c .before .before .if1 .left) (c .before .before .before .before .loop .inv .0) (c .before .find-end .ensures) (c .if2 .left)) ∙ c .before .before .before .before .loop .inv .1 .1)))
+
+returns-3 : tie.Need-returns-3 Inv-loop μ-loop
+returns-3 c = (sym (skip-done _ _ _ _ (omega (arith, c .loop-test .left))) ∙ c .before .loop .inv .1 .1, c .before .loop .inv .0)
+
+pub line-start-spec : {M : Type 1} → statement M
+line-start-spec =
+    tie.close
+    (tie.spec
+    Inv-loop
+    μ-loop
+    loop-holds
+    returns
+    find-end-requires
+    returns-2
+    add-at
+    add-i
+    loop-less
+    loop-again
+    returns-3)

@@ -1,0 +1,50 @@
+-- Where the next set of a file stands, by numbers alone, as the code looks for it line by line.
+use mathlib.Core.Bool.{true, false, _&&_}
+use mathlib.Core.List.{List, [], _∷_}
+use Prim.Native.Nat.{ℕ, zero, suc, _+_}
+use lib.Dec.{leb, eqb}
+use lib.ListN.{length, take, drop}
+use Rattle.laws.specs.Cut.{lineLen}
+use Rattle.laws.specs.Choice.{pick}
+use Rattle.kind.specs.Kind.{datasetNumber}
+use Rattle.parts.specs.declared.Seen.{Seen}
+use Rattle.parts.specs.declared.Extent.{Extent}
+use Rattle.parts.specs.Parts.{columnsIn, closes, Part, numberOf, lineStart, closingStart, pastOf, throughOf}
+
+abbrev pub seen : ℕ → ℕ → ℕ → ℕ → ℕ → Seen
+seen p n at v b = record { place = p; lines = n; first = at; number = v; body = b }
+
+abbrev pub extent : ℕ → ℕ → ℕ → ℕ → ℕ → ℕ → ℕ → Extent
+extent n at v b c e t = record { found = true; lines = n; first = at; number = v; body = b; closing = c; past = e; through = t }
+
+-- no set
+abbrev pub nowhere : Extent
+nowhere = record { found = false; lines = 0; first = 0; number = 0; body = 0; closing = 0; past = 0; through = 0 }
+
+-- where the first of these sets stands
+unfoldable pub firstOf : List Part → Extent
+firstOf [] = nowhere
+firstOf (p ∷ ps) = extent (p .lines) (p .bytes) (numberOf p) (lineStart p 0) (closingStart p) (pastOf p) (throughOf p)
+
+-- one line more that closes no set
+unfoldable pub seenStep : Seen → ℕ → ℕ → List ℕ → Seen
+seenStep s n at l =
+    pick (eqb (s .place) 0) (pick (closes l) (seen 1 n at 0 0) s)
+    (pick (eqb (s .place) 1) (seen 2 (s .lines) (s .first) (datasetNumber (columnsIn l)) (at + suc (length l))) s)
+
+-- the lines up to the one that closes a set
+unfoldable pub scanFrom : Seen → ℕ → ℕ → List (List ℕ) → Extent
+scanFrom s n at [] = nowhere
+scanFrom s n at (l ∷ ls) =
+    pick (eqb (s .place) 2 && closes l) (extent (s .lines) (s .first) (s .number) (s .body) at (at + suc (length l)) (suc n))
+    (scanFrom (seenStep s n at l) (suc n) (at + suc (length l)) ls)
+
+-- the first byte of line k of lines that begin at the byte at and stop before the byte stop; the byte where they stop if there is none
+unfoldable pub skipTo : ℕ → ℕ → ℕ → List (List ℕ) → ℕ
+skipTo zero stop at ls = at
+skipTo (suc k) stop at [] = at
+skipTo (suc k) stop at (l ∷ ls) = pick (leb stop at) at (skipTo k stop (at + suc (length l)) ls)
+
+-- the 80 columns of the first of lines that begin at the byte at and stop before the byte stop; blanks if there is none
+unfoldable pub columnsAt : ℕ → ℕ → List ℕ → List ℕ
+columnsAt stop at file = columnsIn (pick (leb stop at) [] (take (lineLen (drop at file)) (drop at file)))

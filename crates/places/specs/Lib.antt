@@ -1,0 +1,13 @@
+pub mod Holds
+pub mod HoldsLaws
+pub mod Declared
+pub mod DeclaredLaws
+pub mod CaseLaws
+pub mod Stored
+pub mod FieldLaws
+pub mod StoredLaws
+pub mod BytesLaws
+pub mod ShownLaws
+pub mod CoverLaws
+pub mod OrderLaws
+pub mod WholeLaws

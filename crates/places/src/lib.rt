@@ -1,0 +1,1 @@
+// A list of sets and where they stand in a file: laws only; see specs/.

@@ -1,0 +1,78 @@
+-- `reader::number_from` meets its contract.
+use mathlib.Core.Path.{sym, ap, _∙_}
+use Prim.Native.Nat.{_≤_, _*_}
+use Rattle.reader.specs.Reader.{shownOf}
+use Rattle.reader.specs.SpanLaws.{span-ordered}
+use Rattle.reader.specs.ReaderLaws.{start-most, data-inside, number-none, number-shown}
+use borrow.Author.Needs.{needs}
+use Rattle.reader.proofs.number_from.Statement.{statement}
+use Rattle.reader.proofs.number_from.Tie as tie
+
+find-data-requires : tie.Need-find-data-requires
+find-data-requires c κs = search needs
+
+cast-stored : tie.Need-cast-stored
+cast-stored c = search needs
+
+numbers-of-requires : tie.Need-numbers-of-requires
+numbers-of-requires c κs = search needs
+
+mul-stored : tie.Need-mul-stored
+mul-stored c = let h : c .before .before .find-data .result .count * c .numbers-of .result ≤ c .before .before .find-data .result .count * 3 = start-most _ _ _ (data-inside _ _ _ (c .before .before .find-data .ensures) .1) (c .numbers-of .ensures) in search needs
+
+no-number-requires : tie.Need-no-number-requires
+no-number-requires c κs = search needs
+
+returns : tie.Need-returns
+returns c = c .no-number .ensures ∙ number-none _ _ _ (c .before .before .before .before .find-data .ensures) _ _ (c .before .before .numbers-of .ensures) (c .before .if1 .taken)
+
+span-of-requires : tie.Need-span-of-requires
+span-of-requires c κs = let h = data-inside _ _ _ (c .before .before .before .find-data .ensures) in (h .0, (h .1, search needs))
+
+read-in-requires : tie.Need-read-in-requires
+read-in-requires c κs = rw (c .span-of .ensures) (span-ordered _ _ _)
+
+enum-known-n : tie.Need-enum-known-n
+enum-known-n c = search needs
+
+enum-told : tie.Need-enum-told
+enum-told c = search needs
+
+no-number-requires-2 : tie.Need-no-number-requires-2
+no-number-requires-2 c κs = search needs
+
+enum-told-2 : tie.Need-enum-told-2
+enum-told-2 c = search needs
+
+no-number-requires-3 : tie.Need-no-number-requires-3
+no-number-requires-3 c κs = search needs
+
+returns-2 : tie.Need-returns-2
+returns-2 c = ap (shownOf _ _) (sym (c .before .n .given .1)) ∙ number-shown _ _ _ (c .before .before .before .before .before .before .before .before .find-data .ensures) _ _ _ _ (c .before .before .before .before .before .before .numbers-of .ensures) (c .before .before .before .before .before .if1 .left) (c .before .before .before .before .span-of .ensures) (c .before .before .before .read-in .ensures)
+
+returns-3 : tie.Need-returns-3
+returns-3 c = c .no-number2 .ensures ∙ ap (shownOf _ _) (sym (c .before .enum-told .given .1)) ∙ number-shown _ _ _ (c .before .before .before .before .before .before .before .before .find-data .ensures) _ _ _ _ (c .before .before .before .before .before .before .numbers-of .ensures) (c .before .before .before .before .before .if1 .left) (c .before .before .before .before .span-of .ensures) (c .before .before .before .read-in .ensures)
+
+returns-4 : tie.Need-returns-4
+returns-4 c = c .no-number3 .ensures ∙ ap (shownOf _ _) (sym (c .before .enum-told2 .given .1)) ∙ number-shown _ _ _ (c .before .before .before .before .before .before .before .before .find-data .ensures) _ _ _ _ (c .before .before .before .before .before .before .numbers-of .ensures) (c .before .before .before .before .before .if1 .left) (c .before .before .before .before .span-of .ensures) (c .before .before .before .read-in .ensures)
+
+pub number-from-spec : {M : Type 1} → statement M
+number-from-spec =
+    tie.close
+    (tie.spec
+    find-data-requires
+    cast-stored
+    numbers-of-requires
+    mul-stored
+    no-number-requires
+    returns
+    span-of-requires
+    read-in-requires
+    enum-known-n
+    enum-told
+    no-number-requires-2
+    enum-told-2
+    no-number-requires-3
+    returns-2
+    returns-3
+    returns-4)

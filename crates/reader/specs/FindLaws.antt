@@ -1,0 +1,114 @@
+-- The code finds the set asked for, and its numbers.
+use mathlib.Core.Path.{_≡_, refl, sym, ap, _∙_, subst}
+use mathlib.Core.Bool.{true, false}
+use mathlib.Core.List.{List, [], _∷_}
+use Prim.Native.Nat.{ℕ, zero, suc, _+_, _-_, _≤_, _<_}
+use native.Mathlib.Omega.{arith}
+use borrow.Author.Tests.{eq-eqb, ne-eqb, lt-ltb, le-ltb}
+use lib.ListN.{length, drop}
+use lib.Seq.{drop-drop, drop-nil}
+use Rattle.walk.specs.Due.{numberIn, caseIn}
+use Rattle.parts.specs.declared.Extent.{Extent}
+use Rattle.parts.specs.Parts.{Part, partsOf, numberOf, isFunction, lineOf, closingStart}
+use Rattle.parts.specs.Scan.{firstOf}
+use Rattle.parts.specs.ScanLaws.{First, found-first, found-none}
+use Rattle.parts.specs.SetLaws.{remaining, Somewhere, somewhere}
+use Rattle.parts.specs.TurnLaws as Turns
+use Rattle.parts.specs.Function.{caseOf, countOf, lineFrom}
+use Rattle.parts.specs.FunctionLaws.{lineFrom-own}
+use Rattle.reader.specs.Reader.{setsFrom}
+use Rattle.reader.specs.Find.{data58, nothing, dataOf}
+
+-- the sets of a file remain before its first byte
+pub sets-remain : (file : List ℕ) → partsOf file ≡ remaining file 0 0
+unfolding partsOf
+sets-remain file = refl
+
+-- a set more is passed
+pub record Turn (file : List ℕ) (i n at : ℕ) : Type 0 where
+  pub within : at ≤ length file
+  pub lines : n ≤ at
+  pub sets : drop (i + 1) (partsOf file) ≡ remaining file n at
+
+-- one turn of the loop over sets, after i of them
+module _ (file : List ℕ) (i n at : ℕ) (e : Extent) (a : at ≤ length file) (q : drop i (partsOf file) ≡ remaining file n at) (f : e ≡ firstOf (remaining file n at)) where
+  pub turn : n ≤ at → e .found ≡ true → Turn file i (e .through) (e .past)
+  turn h t =
+      let w = Turns.turn file n at e a h f t in
+      record { within = w .within; lines = w .lines; sets = sym (drop-drop 1 i (partsOf file)) ∙ ap (drop 1) (q ∙ w .first .sets) ∙ w .others }
+
+  -- no set is left
+  pub no-set : (k : ℕ) → i ≤ k → e .found ≡ false → e ≡ firstOf (drop k (partsOf file))
+  no-set k h t =
+      let z : i + (k - i) ≡ k = omega arith in
+      let r : drop i (partsOf file) ≡ [] = q ∙ found-none (remaining file n at) e f t in
+      let d : drop k (partsOf file) ≡ [] = ap (λ (x : ℕ). drop x (partsOf file)) (sym z) ∙ sym (drop-drop (k - i) i (partsOf file)) ∙ ap (drop (k - i)) r ∙ drop-nil (k - i) in
+      f ∙ ap firstOf (found-none (remaining file n at) e f t ∙ sym d)
+
+  -- the set asked for
+  pub set-found : (k : ℕ) → i ≤ k → k ≤ i → e ≡ firstOf (drop k (partsOf file))
+  set-found k h l = let z : k ≡ i = omega arith in f ∙ ap firstOf (sym q ∙ ap (λ (x : ℕ). drop x (partsOf file)) (sym z))
+
+-- the set asked for stands in the file
+pub stands : (file : List ℕ) (set : ℕ) (p : Part) (ps : List Part) → setsFrom file set ≡ p ∷ ps → Somewhere file p ps
+unfolding setsFrom
+stands file zero p ps e = let z : 0 ≡ suc (length ps) = ap length e in absurd (omega arith)
+stands file (suc k) p ps e = somewhere file k 0 0 (partsOf file) p ps (omega arith) (sym (sets-remain file)) e
+
+-- a set counted from 1
+setsFrom-some : (file : List ℕ) (set : ℕ) → (set ≡ 0 → ⊥) → setsFrom file set ≡ drop (set - 1) (partsOf file)
+unfolding setsFrom
+setsFrom-some file zero h = absurd (h refl)
+setsFrom-some file (suc k) h = let z : suc k - 1 ≡ k = omega arith in rw z refl
+
+-- set 0
+pub data-zero : (file : List ℕ) (set : ℕ) → set ≡ 0 → nothing ≡ dataOf (setsFrom file set)
+unfolding setsFrom dataOf
+data-zero file set e = rw e refl
+
+module _ (file : List ℕ) (set : ℕ) (e : Extent) (some : set ≡ 0 → ⊥) (q : e ≡ firstOf (drop (set - 1) (partsOf file))) where
+  sets-of : e ≡ firstOf (setsFrom file set)
+  sets-of = q ∙ ap firstOf (sym (setsFrom-some file set some))
+
+  -- no such set
+  pub data-none : e .found ≡ false → nothing ≡ dataOf (setsFrom file set)
+  unfolding dataOf
+  data-none t = rw (found-none (setsFrom file set) e sets-of t) refl
+
+  module _ (t : e .found ≡ true) where
+    w : First (setsFrom file set) e
+    w = found-first (setsFrom file set) e sets-of t
+
+    s : Somewhere file (w .set) (w .others)
+    s = stands file set (w .set) (w .others) (w .sets)
+
+    pub body-within : e .body ≤ length file
+    body-within = subst (λ (x : ℕ). x ≤ length file) (sym (w .body)) (s .stands .inside)
+
+    line-seven : lineFrom (e .closing) (e .body) file 6 ≡ lineOf (w .set) 6
+    line-seven =
+        ap (λ (x : ℕ). lineFrom x (e .body) file 6) (w .closing) ∙ ap (λ (x : ℕ). lineFrom (closingStart (w .set)) x file 6) (w .body)
+        ∙ lineFrom-own file (s .before) (s .from) (w .set) (w .others) (s .stands) 6
+
+    -- no 58
+    pub data-other : (e .number ≡ 58 → ⊥) → nothing ≡ dataOf (setsFrom file set)
+    unfolding dataOf
+    data-other h = rw (w .sets, ne-eqb (numberOf (w .set)) 58 (λ z. h (w .number ∙ z))) refl
+
+    module _ (h : e .number ≡ 58) (c : ℕ) (f : c ≡ caseIn (lineFrom (e .closing) (e .body) file 6)) where
+      case-own : c ≡ caseOf (w .set)
+      unfolding caseOf
+      case-own = f ∙ ap caseIn line-seven
+
+      a58 : isFunction (w .set) ≡ true
+      a58 = eq-eqb (numberOf (w .set)) 58 (sym (w .number) ∙ h)
+
+      -- no case
+      pub data-no-case : 8 ≤ c → nothing ≡ dataOf (setsFrom file set)
+      unfolding dataOf
+      data-no-case l = rw (w .sets, a58, ← case-own, le-ltb c 8 l) refl
+
+      -- a 58
+      pub data-found : c < 8 → (n : ℕ) → n ≡ numberIn 10 20 (lineFrom (e .closing) (e .body) file 6) → data58 (e .body) (e .closing) c n ≡ dataOf (setsFrom file set)
+      unfolding dataOf countOf
+      data-found l n g = rw (w .sets, a58, ← case-own, lt-ltb c 8 l, ← w .body, ← w .closing, ← line-seven, ← g) refl

@@ -1,0 +1,5 @@
+pub mod Reader
+pub mod Find
+pub mod FindLaws
+pub mod SpanLaws
+pub mod ReaderLaws

@@ -1,0 +1,95 @@
+-- `rewriter::put_body` meets its contract.
+use Prim.Native.Nat.{_≤_, _+_, _-_}
+use lib.ListN.{length, take, drop}
+use Rattle.rewriter.specs.Rewriter.{ended}
+use Rattle.rewriter.specs.Output.{bodyText}
+use Rattle.rewriter.specs.OutputLaws.{Put, put-start, put-done, put-room, put-next, kept-within, body-stops, body-ends, body-kept}
+use borrow.Author.Needs.{needs}
+use native.Mathlib.Omega.{arith}
+use Rattle.rewriter.proofs.put_body.Statement.{statement}
+use Rattle.rewriter.proofs.put_body.Tie as tie
+
+abbrev Inv-loop : tie.InvT-loop
+Inv-loop out₀ at file from closing past₀ line₀ out past line = (line ≤ length file) × Put at (bodyText closing from file) out₀ past (bodyText closing line file) out
+
+abbrev μ-loop : tie.MeasureT-loop
+μ-loop out₀ at file from closing past₀ line₀ out past line = length file - line
+
+loop-holds : tie.Need-loop-holds Inv-loop μ-loop
+loop-holds c = (c .before .before .pre .0, put-start _ _ _)
+
+find-end-requires : tie.Need-find-end-requires Inv-loop μ-loop
+find-end-requires c κs = search needs
+
+same-length : tie.Need-same-length Inv-loop μ-loop
+same-length c = c .before .before .before .loop .inv .1 .same
+
+returns : tie.Need-returns Inv-loop μ-loop
+returns c = put-done _ _ _ _ _ _ (c .before .before .before .loop .inv .1) (body-ends _ _ _ _ (c .before .before .before .loop .inv .0) (c .before .find-end .ensures) (c .if1 .taken))
+
+sub-kept-len : tie.Need-sub-kept-len Inv-loop μ-loop
+sub-kept-len c = search needs
+
+part-kept-len-start : tie.Need-part-kept-len-start Inv-loop μ-loop
+part-kept-len-start c = search needs
+
+part-kept-len-end : tie.Need-part-kept-len-end Inv-loop μ-loop
+part-kept-len-end c = search needs
+
+kept-len-requires : tie.Need-kept-len-requires Inv-loop μ-loop
+kept-len-requires c κs = search needs
+
+add-stop : tie.Need-add-stop Inv-loop μ-loop
+add-stop c = omega (arith, kept-within (c .before .before .before .before .before .before .before .before .args .file .now) (c .before .before .before .before .before .loop .line) (c .before .before .before .find-end .result) (c .kept-len .result) (c .kept-len .ensures))
+
+sub-put-line : tie.Need-sub-put-line Inv-loop μ-loop
+sub-put-line c = search needs
+
+part-put-line-start : tie.Need-part-put-line-start Inv-loop μ-loop
+part-put-line-start c = search needs
+
+part-put-line-end : tie.Need-part-put-line-end Inv-loop μ-loop
+part-put-line-end c = omega (arith, kept-within (c .before .before .before .before .before .before .before .before .before .args .file .now) (c .before .before .before .before .before .before .loop .line) (c .before .before .before .before .find-end .result) (c .before .kept-len .result) (c .before .kept-len .ensures))
+
+put-line-requires : tie.Need-put-line-requires Inv-loop μ-loop
+put-line-requires c κs = put-room _ _ _ _ _ _ (c .before .before .before .before .before .before .before .loop .inv .1) (c .before .before .before .before .before .before .before .before .before .before .pre .1) (ended (take (c .before .before .before .before .before .before .before .loop .line + c .before .before .kept-len .result - c .before .before .before .before .before .before .before .loop .line) (drop (c .before .before .before .before .before .before .before .loop .line) (c .before .before .before .before .before .before .before .before .before .before .args .file .now)))) (bodyText (c .before .before .before .before .before .before .before .before .before .before .args .closing) (c .before .before .before .before .before .find-end .result + 1) (c .before .before .before .before .before .before .before .before .before .before .args .file .now)) (body-kept (c .before .before .before .before .before .before .before .before .before .before .args .closing) (c .before .before .before .before .before .before .before .before .before .before .args .file .now) (c .before .before .before .before .before .before .before .loop .line) (c .before .before .before .before .before .find-end .result) (c .before .before .kept-len .result) (c .before .before .before .before .before .before .loop-test .taken) (c .before .before .before .before .before .before .before .loop .inv .0) (c .before .before .before .before .before .find-end .ensures) (c .before .before .before .before .if1 .left) (c .before .before .kept-len .ensures))
+
+add-line : tie.Need-add-line Inv-loop μ-loop
+add-line c = search needs
+
+loop-less : tie.Need-loop-less Inv-loop μ-loop
+loop-less c = search needs
+
+loop-again : tie.Need-loop-again Inv-loop μ-loop
+loop-again c = (search needs, put-next _ _ _ _ _ _ (c .before .before .before .before .before .before .before .before .before .before .loop .inv .1) (c .before .before .before .before .before .before .before .before .before .before .before .before .before .pre .1) (ended (take (c .before .before .before .before .before .before .before .before .before .before .loop .line + c .before .before .before .before .before .kept-len .result - c .before .before .before .before .before .before .before .before .before .before .loop .line) (drop (c .before .before .before .before .before .before .before .before .before .before .loop .line) (c .before .before .before .before .before .before .before .before .before .before .before .before .before .args .file .now)))) (bodyText (c .before .before .before .before .before .before .before .before .before .before .before .before .before .args .closing) (c .before .before .before .before .before .before .before .before .find-end .result + 1) (c .before .before .before .before .before .before .before .before .before .before .before .before .before .args .file .now)) (body-kept (c .before .before .before .before .before .before .before .before .before .before .before .before .before .args .closing) (c .before .before .before .before .before .before .before .before .before .before .before .before .before .args .file .now) (c .before .before .before .before .before .before .before .before .before .before .loop .line) (c .before .before .before .before .before .before .before .before .find-end .result) (c .before .before .before .before .before .kept-len .result) (c .before .before .before .before .before .before .before .before .before .loop-test .taken) (c .before .before .before .before .before .before .before .before .before .before .loop .inv .0) (c .before .before .before .before .before .before .before .before .find-end .ensures) (c .before .before .before .before .before .before .before .if1 .left) (c .before .before .before .before .before .kept-len .ensures)) _ _ (c .before .before .put-line .ensures .0) (c .before .before .put-line .ensures .1))
+
+same-length-2 : tie.Need-same-length-2 Inv-loop μ-loop
+same-length-2 c = c .before .loop .inv .1 .same
+
+returns-2 : tie.Need-returns-2 Inv-loop μ-loop
+returns-2 c = put-done _ _ _ _ _ _ (c .before .loop .inv .1) (body-stops _ _ _ (c .loop-test .left))
+
+pub put-body-spec : {M : Type 1} → statement M
+put-body-spec =
+    tie.close
+    (tie.spec
+    Inv-loop
+    μ-loop
+    loop-holds
+    find-end-requires
+    same-length
+    returns
+    sub-kept-len
+    part-kept-len-start
+    part-kept-len-end
+    kept-len-requires
+    add-stop
+    sub-put-line
+    part-put-line-start
+    part-put-line-end
+    put-line-requires
+    add-line
+    loop-less
+    loop-again
+    same-length-2
+    returns-2)

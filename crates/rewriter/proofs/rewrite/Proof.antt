@@ -1,0 +1,39 @@
+-- `rewriter::rewrite` meets its contract.
+use Rattle.judge.specs.JudgeLaws.{judged-short}
+use Rattle.rewriter.specs.PutLaws.{refused-both, short-both, accepted-both}
+use borrow.Author.Needs.{needs}
+use Rattle.rewriter.proofs.rewrite.Statement.{statement}
+use Rattle.rewriter.proofs.rewrite.Tie as tie
+
+judge-requires : tie.Need-judge-requires
+judge-requires c κs = search needs
+
+returns : tie.Need-returns
+returns c = refused-both _ _ _ (c .before .before .judge .ensures) (c .if1 .taken)
+
+rewritten-len-requires : tie.Need-rewritten-len-requires
+rewritten-len-requires c κs = judged-short _ (rw (c .before .before .judge .ensures) at (c .if1 .left))
+
+returns-2 : tie.Need-returns-2
+returns-2 c = short-both _ _ _ (c .before .before .before .before .judge .ensures) (c .before .before .if1 .left) _ (c .before .rewritten-len .ensures) (c .if2 .taken)
+
+put-sets-requires : tie.Need-put-sets-requires
+put-sets-requires c κs = search needs
+
+same-length : tie.Need-same-length
+same-length c = search needs
+
+returns-3 : tie.Need-returns-3
+returns-3 c = accepted-both _ _ _ (c .before .before .before .before .before .before .before .before .judge .ensures) (c .before .before .before .before .before .before .if1 .left) _ (c .before .before .before .before .before .rewritten-len .ensures) (c .before .before .before .before .if2 .left) _ (c .before .before .put-sets .ensures)
+
+pub rewrite-spec : {M : Type 1} → statement M
+rewrite-spec =
+    tie.close
+    (tie.spec
+    judge-requires
+    returns
+    rewritten-len-requires
+    returns-2
+    put-sets-requires
+    same-length
+    returns-3)

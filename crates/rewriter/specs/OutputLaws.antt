@@ -1,0 +1,210 @@
+-- Texts put into a buffer one after the other, and what is kept of the lines of a set, line by line.
+use mathlib.Core.Path.{_≡_, refl, sym, ap, _∙_}
+use mathlib.Core.Bool.{Bool, true, false}
+use mathlib.Core.List.{List, [], _∷_, _++_, append-assoc, append-nil}
+use Prim.Native.Nat.{ℕ, suc, _+_, _-_, _≤_, _<_}
+use native.Mathlib.Numerals.{add-one}
+use native.Mathlib.Nat.{add-zero}
+use native.Mathlib.Omega.{arith}
+use borrow.Author.Tests.{le-leb, lt-leb}
+use lib.Dec.{leb}
+use lib.ListN.{length, getD, take, drop, set, length-append, length-take, length-drop, take-append-drop}
+use lib.Seq.{length-take-le, take-suc, take-all, take-at, drop-at, take-take, drop-drop, set-split}
+use Rattle.laws.specs.Choice.{pick}
+use Rattle.laws.specs.Cut.{cut, lineLen}
+use Rattle.text.specs.Text.{trimmed}
+use Rattle.text.specs.TextLaws.{trimmed-take}
+use Rattle.line.specs.Line.{columns}
+use Rattle.line.specs.LineLaws.{columns-take, columns-within}
+use Rattle.parts.specs.Parts.{bytesIn, Part, lineStart, closingStart}
+use Rattle.parts.specs.PartsLaws.{lines-at, line-length, lines-end, lines-past}
+use Rattle.parts.specs.SetLaws.{Standing}
+use Rattle.rewriter.specs.Rewriter.{ended, keptOf, linesText}
+use Rattle.rewriter.specs.Output.{placed, linesTo, linesIn, bodyText}
+
+-- a text put at a byte of the buffer
+module _ (at : ℕ) (t out : List ℕ) where
+  front-length : at ≤ length out → length (take at out ++ t) ≡ at + length t
+  front-length h = simp length-append (rw (length-take-le at out h) refl)
+
+  placed-front : at ≤ length out → take (at + length t) (placed at t out) ≡ take at out ++ t
+  unfolding placed
+  placed-front h = rw (← append-assoc) (take-at (take at out ++ t) (drop (at + length t) out) (at + length t) (front-length h))
+
+  placed-rest : at ≤ length out → drop (at + length t) (placed at t out) ≡ drop (at + length t) out
+  unfolding placed
+  placed-rest h = rw (← append-assoc) (drop-at (take at out ++ t) (drop (at + length t) out) (at + length t) (front-length h))
+
+  -- the buffer keeps its length
+  pub placed-length : at + length t ≤ length out → length (placed at t out) ≡ length out
+  unfolding placed
+  placed-length h = let z : length (take at out) ≡ at = length-take-le at out (omega arith) in simp (length-append, length-drop) (omega arith)
+
+  -- one text after the other
+  joined : (u mid : List ℕ) → take (at + length t) mid ≡ take at out ++ t → drop (at + length t) mid ≡ drop (at + length t) out
+      → placed (at + length t) u mid ≡ placed at (t ++ u) out
+  unfolding placed
+  joined u mid f r =
+      let d : drop ((at + length t) + length u) mid ≡ drop ((at + length t) + length u) out = sym (drop-drop (length u) (at + length t) mid) ∙ ap (drop (length u)) r ∙ drop-drop (length u) (at + length t) out in
+      let z : at + length (t ++ u) ≡ (at + length t) + length u = rw length-append (omega arith) in
+      rw (f, d, z, append-assoc, append-assoc) refl
+
+  pub placed-then : (u : List ℕ) → at ≤ length out → placed (at + length t) u (placed at t out) ≡ placed at (t ++ u) out
+  placed-then u h = joined u (placed at t out) (placed-front h) (placed-rest h)
+
+pub placed-none : (at : ℕ) (out : List ℕ) → placed at [] out ≡ out
+unfolding placed
+placed-none at out = rw add-zero (take-append-drop at out)
+
+-- a text that is put piece by piece: with the rest of it still to come at the byte past, the buffer is on its way from out to out with the
+-- whole text at the byte at
+pub record Put (at : ℕ) (whole out : List ℕ) (past : ℕ) (rest now : List ℕ) : Type 0 where
+  pub ends : past + length rest ≡ at + length whole
+  pub same : length now ≡ length out
+  pub text : placed past rest now ≡ placed at whole out
+
+pub put-start : (at : ℕ) (whole out : List ℕ) → Put at whole out at whole out
+put-start at whole out = record { ends = refl; same = refl; text = refl }
+
+module _ (at : ℕ) (whole out : List ℕ) (past : ℕ) (rest now : List ℕ) (p : Put at whole out past rest now) where
+  -- nothing is left
+  pub put-done : rest ≡ [] → (past ≡ at + length whole) × (now ≡ placed at whole out)
+  put-done e = (omega (arith, p .ends, ap length e), sym (placed-none past now) ∙ ap (λ (x : List ℕ). placed past x now) (sym e) ∙ p .text)
+
+  -- one piece more
+  module _ (fits : at + length whole ≤ length out) (t more : List ℕ) (e : rest ≡ t ++ more) where
+    pub put-room : past + length t ≤ length now
+    put-room = omega (arith, p .ends, p .same, ap length e, length-append t more)
+
+    pub put-next : (r : ℕ) (then : List ℕ) → r ≡ past + length t → then ≡ placed past t now → Put at whole out r more then
+    put-next r then q o =
+        let m : past + length t ≤ length now = put-room in
+        record {
+          ends = omega (arith, p .ends, ap length e, length-append t more);
+          same = ap length o ∙ placed-length past t now m ∙ p .same;
+          text = rw (q, o, placed-then past t now more (omega arith), ← e) (p .text);
+        }
+
+-- a byte
+pub placed-byte : (at b : ℕ) (out : List ℕ) → at < length out → set out at b ≡ placed at (b ∷ []) out
+unfolding placed
+placed-byte at b out h = rw add-one (set-split out at b h)
+
+-- a loop that copies a text: one byte more
+pub placed-next : (at i : ℕ) (s out now : List ℕ) → i < length s → at + length s < length out → length now ≡ length out → now ≡ placed at (take i s) out
+    → set now (at + i) (getD s i 0) ≡ placed at (take (i + 1) s) out
+placed-next at i s out now h r l e =
+    let b : ℕ = getD s i 0 in
+    let n : length (take i s) ≡ i = length-take-le i s (omega arith) in
+    let t : take (i + 1) s ≡ take i s ++ (b ∷ []) = rw (add-one, take-suc s i 0) refl in
+    let q : placed (at + length (take i s)) (b ∷ []) (placed at (take i s) out) ≡ placed at (take i s ++ (b ∷ [])) out = placed-then at (take i s) out (b ∷ []) (omega arith) in
+    placed-byte (at + i) b now (omega arith) ∙ ap (placed (at + i) (b ∷ [])) e ∙ rw n at q ∙ ap (λ (x : List ℕ). placed at x out) (sym t)
+
+-- after all of it, the LF
+pub placed-last : (at i past : ℕ) (s out now : List ℕ) → i ≤ length s → length s ≤ i → past ≡ at + i → at + length (ended s) ≤ length out
+    → length now ≡ length out → now ≡ placed at (take i s) out → (past + 1 ≡ at + length (ended s)) × (set now past 10 ≡ placed at (ended s) out)
+placed-last at i past s out now m h p r l e =
+    let z : past ≡ at + length s = omega arith in
+    let n : length (ended s) ≡ length s + 1 = length-append s (10 ∷ []) in
+    let f : now ≡ placed at s out = e ∙ rw (take-all i s h) refl in
+    (omega arith, placed-byte past 10 now (omega arith) ∙ rw (f, z) (placed-then at s out (10 ∷ []) (omega arith)))
+
+-- what is kept of a line is its first bytes
+pub trimmed-most : (l : List ℕ) → length (trimmed l) ≤ length l
+trimmed-most l = omega (arith, ap length (trimmed-take l), length-take (length (trimmed l)) l)
+
+pub keptOf-most : (l : List ℕ) → length (keptOf l) ≤ length l
+unfolding keptOf
+keptOf-most l = omega (arith, trimmed-most (columns true l), columns-within true l)
+
+keptOf-take : (l : List ℕ) → take (length (keptOf l)) l ≡ keptOf l
+unfolding keptOf
+keptOf-take l =
+    let m : length (trimmed (columns true l)) ≤ length (columns true l) = trimmed-most (columns true l) in
+    sym (take-take (length (trimmed (columns true l))) (length (columns true l)) l m)
+    ∙ ap (take (length (trimmed (columns true l)))) (sym (columns-take true l)) ∙ trimmed-take (columns true l)
+
+-- by its columns
+pub kept-columns : (l : List ℕ) (n r : ℕ) → n ≡ length (columns true l) → r ≡ length (trimmed (take n l)) → r ≡ length (keptOf l)
+unfolding keptOf
+kept-columns l n r e q = q ∙ rw (e, ← columns-take true l) refl
+
+-- of the line of a file from the byte at to the byte e
+module _ (f : List ℕ) (at e k : ℕ) (q : k ≡ length (keptOf (take (e - at) (drop at f)))) where
+  pub kept-within : k ≤ e - at
+  kept-within = omega (arith, keptOf-most (take (e - at) (drop at f)), length-take (e - at) (drop at f))
+
+  pub kept-part : take (at + k - at) (drop at f) ≡ keptOf (take (e - at) (drop at f))
+  kept-part =
+      let z : at + k - at ≡ k = omega arith in
+      rw (z, ← take-take k (e - at) (drop at f) kept-within, q) (keptOf-take (take (e - at) (drop at f)))
+
+-- the lines of a file that begin before a byte: where they stop, at the end of the file, one line more
+linesTo-stops : (stop at : ℕ) (ls : List (List ℕ)) → stop ≤ at → linesTo stop at ls ≡ []
+unfolding linesTo
+linesTo-stops stop at [] h = refl
+linesTo-stops stop at (l ∷ ls) h = rw (le-leb stop at h) refl
+
+module _ (stop : ℕ) (f : List ℕ) (at : ℕ) where
+  pub body-stops : stop ≤ at → bodyText stop at f ≡ []
+  unfolding linesIn linesText
+  body-stops h = rw (linesTo-stops stop at (cut (drop at f) .lines) h) refl
+
+  pub body-ends : (e : ℕ) → at ≤ length f → e ≡ at + lineLen (drop at f) → length f ≤ e → bodyText stop at f ≡ []
+  unfolding linesIn linesTo linesText
+  body-ends e a q h = rw (lines-end f at e a q h) refl
+
+  pub body-line : (e : ℕ) → at < stop → at ≤ length f → e ≡ at + lineLen (drop at f) → e < length f
+      → bodyText stop at f ≡ ended (keptOf (take (e - at) (drop at f))) ++ bodyText stop (e + 1) f
+  unfolding linesIn linesTo linesText
+  body-line e h a q l = rw (lines-at f at e a q l, lt-leb stop at h, line-length f at e a q l) refl
+
+  -- by the bytes that are kept of it
+  pub body-kept : (e k : ℕ) → at < stop → at ≤ length f → e ≡ at + lineLen (drop at f) → e < length f
+      → k ≡ length (keptOf (take (e - at) (drop at f))) → bodyText stop at f ≡ ended (take (at + k - at) (drop at f)) ++ bodyText stop (e + 1) f
+  body-kept e k h a q l c = rw (body-line e h a q l, kept-part f at e k c) refl
+
+  pub body-line-length : (e k : ℕ) → at < stop → at ≤ length f → e ≡ at + lineLen (drop at f) → e < length f
+      → k ≡ length (keptOf (take (e - at) (drop at f))) → length (bodyText stop at f) ≡ (k + 1) + length (bodyText stop (e + 1) f)
+  body-line-length e k h a q l c = rw (body-line e h a q l, c) (simp length-append (omega arith))
+
+-- the lines of a set are those that begin before its closing delimiter
+linesTo-own : (at : ℕ) (body : List (List ℕ)) (c : List ℕ) (more : List (List ℕ)) → linesTo (at + bytesIn body) at (body ++ (c ∷ more)) ≡ body
+unfolding linesTo bytesIn
+linesTo-own at [] c more = rw (le-leb (at + 0) at (omega arith)) refl
+linesTo-own at (l ∷ body) c more =
+    let z : at + (suc (length l) + bytesIn body) ≡ (at + suc (length l)) + bytesIn body = omega arith in
+    rw (z, lt-leb ((at + suc (length l)) + bytesIn body) at (omega arith), linesTo-own (at + suc (length l)) body c more) refl
+
+closing-lines : (p : Part) → closingStart p ≡ lineStart p 0 + bytesIn (p .body)
+unfolding lineStart closingStart bytesIn
+closing-lines p = omega arith
+
+pub lines-own : (file : List ℕ) (n at : ℕ) (p : Part) (ps : List Part) → Standing file n at p ps → linesIn (closingStart p) (lineStart p 0) file ≡ p .body
+unfolding linesIn
+lines-own file n at p ps s = rw (s .own, closing-lines p) (linesTo-own (lineStart p 0) (p .body) (p .closing) (s .more))
+
+-- what is kept is no longer than the lines
+pub linesText-most : (ls : List (List ℕ)) → length (linesText ls) ≤ bytesIn ls
+unfolding linesText bytesIn
+linesText-most [] = omega arith
+linesText-most (l ∷ ls) =
+    let a : length (keptOf l) ≤ length l = keptOf-most l in
+    let b : length (linesText ls) ≤ bytesIn ls = linesText-most ls in
+    simp length-append (omega arith)
+
+linesTo-most : (stop at : ℕ) (ls : List (List ℕ)) → bytesIn (linesTo stop at ls) ≤ bytesIn ls
+unfolding linesTo bytesIn
+linesTo-most stop at [] = omega arith
+linesTo-most stop at (l ∷ ls) = by (leb stop at) (linesTo-most stop (at + suc (length l)) ls)
+  where
+    by : (t : Bool) → bytesIn (linesTo stop (at + suc (length l)) ls) ≤ bytesIn ls
+        → bytesIn (pick t [] (l ∷ linesTo stop (at + suc (length l)) ls)) ≤ suc (length l) + bytesIn ls
+    by true b = omega arith
+    by false b = omega arith
+
+pub body-most : (stop at : ℕ) (f : List ℕ) → at ≤ length f → at + length (bodyText stop at f) ≤ length f
+unfolding linesIn
+body-most stop at f h =
+    let x = lines-past f at (cut (drop at f) .lines) [] h (sym (append-nil (cut (drop at f) .lines))) in
+    omega (arith, x .within, linesTo-most stop at (cut (drop at f) .lines), linesText-most (linesTo stop at (cut (drop at f) .lines)))

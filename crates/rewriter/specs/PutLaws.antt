@@ -1,0 +1,230 @@
+-- A dataset number spelled plainly, the length of a file rewritten, and its sets one by one.
+use mathlib.Core.Path.{_≡_, refl, sym, ap, subst, _∙_}
+use mathlib.Core.Bool.{true, false}
+use mathlib.Core.List.{List, [], _∷_, _++_, append-assoc, append-nil}
+use Prim.Native.Nat.{ℕ, zero, suc, _+_, _-_, _*_, _/_, _≤_, _<_}
+use native.Mathlib.Numerals.{add-one}
+use native.Mathlib.Omega.{arith}
+use borrow.Author.Tests.{lt-ltb, le-ltb, ne-eqb}
+use lib.ListN.{length, drop, set, length-append, length-set}
+use lib.Seq.{drop-cons, drop-set-lt, getD-set-same, drop-length}
+use Rattle.parts.specs.Parts.{bytesIn, Part, partsOf, numberOf, lineStart, closingStart, pastOf, throughOf}
+use Rattle.parts.specs.PartsLaws.{bytesIn-append}
+use Rattle.parts.specs.declared.Extent.{Extent}
+use Rattle.parts.specs.Scan.{firstOf}
+use Rattle.parts.specs.ScanLaws.{found-none}
+use Rattle.parts.specs.SetLaws.{remaining, Standing, standing}
+use Rattle.parts.specs.TurnLaws as Turns
+use Rattle.judge.specs.declared.Reply.{Reply}
+use Rattle.judge.specs.Judge.{judged, reply}
+use Rattle.rewriter.specs.Rewriter.{digitOrBlank, plainIn, plainNumber, delimiterLine, ended, linesText, headText, setText, rewrittenSet, rewritten, rewrittenFile, rewriteReply, rewriteOut}
+use Rattle.rewriter.specs.Output.{placed, linesIn, bodyText}
+use Rattle.rewriter.specs.OutputLaws.{Put, put-start, put-done, put-room, put-next, linesText-most, lines-own}
+
+-- a number has as many columns as it is given
+pub plainIn-length : (w v : ℕ) → length (plainIn w v) ≡ w
+unfolding plainIn
+plainIn-length zero v = refl
+plainIn-length (suc w) v = length-append (plainIn w (v / 10)) _ ∙ rw (plainIn-length w (v / 10), add-one) refl
+
+pub plainNumber-length : (v : ℕ) → length (plainNumber v) ≡ 6
+unfolding plainNumber
+plainNumber-length v = plainIn-length 6 v
+
+-- a loop that lays out digits from the last: one column more, all of them
+plain-digit : (i v : ℕ) (row : List ℕ) → i < length row → plainIn i (v / 10) ++ drop i (set row i (digitOrBlank v)) ≡ plainIn (suc i) v ++ drop (suc i) row
+unfolding plainIn
+plain-digit i v row h =
+    let l : i < length (set row i (digitOrBlank v)) = simp length-set h in
+    let q : i < suc i = omega arith in
+    rw (drop-cons (set row i (digitOrBlank v)) i 0 l, getD-set-same, drop-set-lt, append-assoc) refl
+
+pub plain-next : (i v : ℕ) (row : List ℕ) → 0 < i → i ≤ length row
+    → plainIn (i - 1) (v / 10) ++ drop (i - 1) (set row (i - 1) (digitOrBlank v)) ≡ plainIn i v ++ drop i row
+plain-next i v row p h = let e : suc (i - 1) ≡ i = omega arith in plain-digit (i - 1) v row (omega arith) ∙ rw e refl
+
+pub plain-start : (v : ℕ) (row : List ℕ) → length row ≡ 6 → plainIn 6 v ++ drop 6 row ≡ plainNumber v
+unfolding plainNumber
+plain-start v row h = rw (← h, drop-length, append-nil) refl
+
+pub plain-done : (i v : ℕ) (row : List ℕ) → i ≤ 0 → row ≡ plainIn i v ++ drop i row
+unfolding plainIn
+plain-done i v row h = let e : i ≡ 0 = omega arith in rw e refl
+
+-- the length of a set
+headText-length : (v : ℕ) → length (headText v) ≡ 14
+unfolding headText
+headText-length v = let n : length (plainNumber v) ≡ 6 = plainNumber-length v in simp length-append (omega arith)
+
+pub setText-length : (v : ℕ) (ls : List (List ℕ)) → length (setText v ls) ≡ length (linesText ls) + 21
+unfolding setText
+setText-length v ls = let n : length (headText v) ≡ 14 = headText-length v in simp length-append (omega arith)
+
+-- the lines that open a set, put one after the other
+module _ (at v : ℕ) (out : List ℕ) (fits : at + length (headText v) ≤ length out) where
+  head-pieces : headText v ≡ delimiterLine ++ ended (plainNumber v)
+  unfolding headText
+  head-pieces = refl
+
+  pub delimiter-room : at + length delimiterLine ≤ length out
+  delimiter-room = put-room at (headText v) out at (headText v) out (put-start at (headText v) out) fits delimiterLine (ended (plainNumber v)) head-pieces
+
+  module _ (r : ℕ) (now row : List ℕ) (q : r ≡ at + length delimiterLine) (o : now ≡ placed at delimiterLine out) (n : row ≡ plainNumber v) where
+    opened : Put at (headText v) out r (ended row) now
+    opened =
+        put-next at (headText v) out at (headText v) out (put-start at (headText v) out) fits delimiterLine (ended row)
+        (head-pieces ∙ rw n refl) r now q o
+
+    pub number-room : r + length (ended row) ≤ length now
+    number-room = put-room at (headText v) out r (ended row) now opened fits (ended row) [] (sym (append-nil (ended row)))
+
+    pub head-done : (past : ℕ) (then : List ℕ) → past ≡ r + length (ended row) → then ≡ placed r (ended row) now
+        → (past ≡ at + length (headText v)) × (then ≡ placed at (headText v) out)
+    head-done past then e p =
+        put-done at (headText v) out past [] then
+        (put-next at (headText v) out r (ended row) now opened fits (ended row) [] (sym (append-nil (ended row))) past then e p) refl
+
+-- a set, put piece by piece
+module _ (at v : ℕ) (ls : List (List ℕ)) (out : List ℕ) (fits : at + length (setText v ls) ≤ length out) where
+  set-pieces : setText v ls ≡ headText v ++ (linesText ls ++ delimiterLine)
+  unfolding setText
+  set-pieces = refl
+
+  pub head-room : at + length (headText v) ≤ length out
+  head-room = put-room at (setText v ls) out at (setText v ls) out (put-start at (setText v ls) out) fits (headText v) (linesText ls ++ delimiterLine) set-pieces
+
+  module _ (r : ℕ) (now : List ℕ) (q : r ≡ at + length (headText v)) (o : now ≡ placed at (headText v) out) where
+    headed : Put at (setText v ls) out r (linesText ls ++ delimiterLine) now
+    headed =
+        put-next at (setText v ls) out at (setText v ls) out (put-start at (setText v ls) out) fits (headText v) (linesText ls ++ delimiterLine)
+        set-pieces r now q o
+
+    pub lines-room : r + length (linesText ls) ≤ length now
+    lines-room = put-room at (setText v ls) out r (linesText ls ++ delimiterLine) now headed fits (linesText ls) delimiterLine refl
+
+    module _ (s : ℕ) (then : List ℕ) (f : s ≡ r + length (linesText ls)) (p : then ≡ placed r (linesText ls) now) where
+      filled : Put at (setText v ls) out s delimiterLine then
+      filled = put-next at (setText v ls) out r (linesText ls ++ delimiterLine) now headed fits (linesText ls) delimiterLine refl s then f p
+
+      pub closing-room : s + length delimiterLine ≤ length then
+      closing-room = put-room at (setText v ls) out s delimiterLine then filled fits delimiterLine [] refl
+
+      pub set-done : (past : ℕ) (last : List ℕ) → past ≡ s + length delimiterLine → last ≡ placed s delimiterLine then
+          → (past ≡ at + length (setText v ls)) × (last ≡ placed at (setText v ls) out)
+      set-done past last e l =
+          put-done at (setText v ls) out past [] last (put-next at (setText v ls) out s delimiterLine then filled fits delimiterLine [] refl past last e l) refl
+
+-- the bytes of a set
+pastOf-most : (p : Part) → p .bytes + (bytesIn (p .body) + 3) ≤ pastOf p
+unfolding pastOf bytesIn
+pastOf-most p = rw (bytesIn-append (p .body) (p .closing ∷ [])) (omega arith)
+
+-- sets rewritten are at most seven times as long
+set-most : (p : Part) → length (rewrittenSet p) ≤ bytesIn (p .body) + 21
+unfolding rewrittenSet
+set-most p = omega (arith, setText-length (numberOf p) (p .body), linesText-most (p .body))
+
+pub rewritten-most : (file : List ℕ) (n at : ℕ) (ps : List Part) → at ≤ length file → remaining file n at ≡ ps → length (rewritten ps) ≤ 7 * (length file - at)
+unfolding rewritten
+rewritten-most file n at [] a e = omega arith
+rewritten-most file n at (p ∷ ps) a e =
+    let s = standing file n at p ps a e in
+    let m : length (rewritten ps) ≤ 7 * (length file - pastOf p) = rewritten-most file (throughOf p) (pastOf p) ps (s .past) (sym (s .rest)) in
+    simp length-append (omega (arith, set-most p, pastOf-most p, s .from, s .past))
+
+pub remaining-file : (file : List ℕ) → remaining file 0 0 ≡ partsOf file
+unfolding partsOf
+remaining-file file = refl
+
+pub rewritten-start : (file : List ℕ) → rewritten (remaining file 0 0) ≡ rewrittenFile file
+rewritten-start file = ap rewritten (remaining-file file)
+
+pub file-most : (file : List ℕ) → length (rewrittenFile file) ≤ 7 * length file
+file-most file = omega (arith, rewritten-most file 0 0 (partsOf file) (omega arith) (remaining-file file))
+
+-- one turn of the loop over sets: from the byte at on, the set that stands where e says
+pub record Turn (file : List ℕ) (n at : ℕ) (e : Extent) : Type 0 where
+  pub text : rewritten (remaining file n at) ≡ setText (e .number) (linesIn (e .closing) (e .body) file) ++ rewritten (remaining file (e .through) (e .past))
+  pub body : e .body ≤ length file
+  pub later : at < e .past
+  pub past : e .past ≤ length file
+  pub lines : e .through ≤ e .past
+
+module _ (file : List ℕ) (n at : ℕ) (e : Extent) (a : at ≤ length file) (q : e ≡ firstOf (remaining file n at)) where
+  text-of : (p : Part) (ps : List Part) → remaining file n at ≡ p ∷ ps → Standing file n at p ps → ps ≡ remaining file (e .through) (e .past)
+      → e .number ≡ numberOf p → e .body ≡ lineStart p 0 → e .closing ≡ closingStart p
+      → rewritten (remaining file n at) ≡ setText (e .number) (linesIn (e .closing) (e .body) file) ++ rewritten (remaining file (e .through) (e .past))
+  unfolding rewritten rewrittenSet
+  text-of p ps sets s rest number body closing = rw (sets, ← rest, number, body, closing, lines-own file n at p ps s) refl
+
+  pub set-turn : n ≤ at → e .found ≡ true → Turn file n at e
+  set-turn l h =
+      let t = Turns.turn file n at e a l q h in
+      let f = t .first in
+      record {
+        text = text-of (f .set) (f .others) (f .sets) (t .stands) (t .others) (f .number) (f .body) (f .closing);
+        body = subst (λ (x : ℕ). x ≤ length file) (sym (f .body)) (t .stands .inside);
+        later = t .onward;
+        past = t .within;
+        lines = t .lines;
+      }
+
+  pub set-none : e .found ≡ false → rewritten (remaining file n at) ≡ []
+  unfolding rewritten
+  set-none h = rw (found-none (remaining file n at) e q h) refl
+
+pub turn-length : (file : List ℕ) (n at : ℕ) (e : Extent) → Turn file n at e
+    → length (rewritten (remaining file n at)) ≡ (length (bodyText (e .closing) (e .body) file) + 21) + length (rewritten (remaining file (e .through) (e .past)))
+turn-length file n at e t =
+    omega (arith, ap length (t .text), length-append (setText (e .number) (linesIn (e .closing) (e .body) file)) (rewritten (remaining file (e .through) (e .past))), setText-length (e .number) (linesIn (e .closing) (e .body) file))
+
+-- the set that stands there, put into the buffer
+module _ (file out : List ℕ) (fits : length (rewrittenFile file) ≤ length out) (n at : ℕ) (e : Extent) (t : Turn file n at e) (past : ℕ) (now : List ℕ)
+    (p : Put 0 (rewrittenFile file) out past (rewritten (remaining file n at)) now) where
+  pub set-room : past + length (setText (e .number) (linesIn (e .closing) (e .body) file)) ≤ length now
+  set-room =
+      put-room 0 (rewrittenFile file) out past (rewritten (remaining file n at)) now p (omega arith) (setText (e .number) (linesIn (e .closing) (e .body) file))
+      (rewritten (remaining file (e .through) (e .past))) (t .text)
+
+  pub set-next : (r : ℕ) (then : List ℕ) → r ≡ past + length (setText (e .number) (linesIn (e .closing) (e .body) file))
+      → then ≡ placed past (setText (e .number) (linesIn (e .closing) (e .body) file)) now
+      → Put 0 (rewrittenFile file) out r (rewritten (remaining file (e .through) (e .past))) then
+  set-next r then q o =
+      put-next 0 (rewrittenFile file) out past (rewritten (remaining file n at)) now p (omega arith) (setText (e .number) (linesIn (e .closing) (e .body) file))
+      (rewritten (remaining file (e .through) (e .past))) (t .text) r then q o
+
+-- the buffer after a refusal, and after a text
+refused-out : (file out : List ℕ) (r : Reply) → r ≡ rewriteReply file (length out) → 0 < r .number → out ≡ rewriteOut file out
+unfolding rewriteOut
+refused-out file out r q h = rw (← q, ne-eqb (r .number) 0 (λ e. omega arith)) refl
+
+accepted-out : (file out : List ℕ) (r : Reply) → r ≡ rewriteReply file (length out) → r .number ≡ 0 → placed 0 (rewrittenFile file) out ≡ rewriteOut file out
+unfolding rewriteOut placed
+accepted-out file out r q h =
+    let z : 0 + length (rewrittenFile file) ≡ length (rewrittenFile file) = omega arith in
+    rw (← q, h, z) refl
+
+-- the three replies, and the buffer after each
+module _ (file out : List ℕ) (j : Reply) (q : j ≡ judged file) where
+  refused-reply : 0 < j .number → j ≡ rewriteReply file (length out)
+  unfolding rewriteReply
+  refused-reply h = rw (← q, lt-ltb 0 (j .number) h) refl
+
+  pub refused-both : 0 < j .number → (j ≡ rewriteReply file (length out)) × (out ≡ rewriteOut file out)
+  refused-both h = (refused-reply h, refused-out file out j (refused-reply h) h)
+
+  module _ (h : j .number ≤ 0) (n : ℕ) (e : n ≡ length (rewrittenFile file)) where
+    short-reply : length out < n → reply 20 0 ≡ rewriteReply file (length out)
+    unfolding rewriteReply
+    short-reply s = rw (← q, le-ltb 0 (j .number) h, ← e, lt-ltb (length out) n s) refl
+
+    pub short-both : length out < n → (reply 20 0 ≡ rewriteReply file (length out)) × (out ≡ rewriteOut file out)
+    short-both s = (short-reply s, refused-out file out (reply 20 0) (short-reply s) (omega arith))
+
+    accepted-reply : n ≤ length out → reply 0 n ≡ rewriteReply file (length out)
+    unfolding rewriteReply
+    accepted-reply s = rw (← q, le-ltb 0 (j .number) h, ← e, le-ltb (length out) n s) refl
+
+    pub accepted-both : n ≤ length out → (now : List ℕ) → now ≡ placed 0 (rewrittenFile file) out
+        → (reply 0 n ≡ rewriteReply file (length out)) × (now ≡ rewriteOut file out)
+    accepted-both s now o = (accepted-reply s, o ∙ accepted-out file out (reply 0 n) (accepted-reply s) refl)

@@ -1,0 +1,6 @@
+pub mod Form
+pub mod NumberLaws
+pub mod OwnLaws
+pub mod KeptLaws
+pub mod LaidLaws
+pub mod RewritingLaws

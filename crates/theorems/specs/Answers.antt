@@ -1,0 +1,45 @@
+-- What the reader's questions answer by the list alone, and a stored number as it stands in a text.
+use mathlib.Core.Path.{_≡_}
+use mathlib.Core.Bool.{Bool}
+use mathlib.Core.List.{List, [], _∷_}
+use Prim.Native.Nat.{ℕ, _-_}
+use lib.IntN.{ℤ, natAbs}
+use Rattle.real.specs.Real.{belowZero}
+use lib.Ieee.{Float}
+use lib.ListN.{take, drop}
+use Rattle.real.specs.Spelling.{RealSpelling}
+use Rattle.real.specs.declared.Real.{Real}
+use Rattle.real.specs.declared.Real.the-variants.{Blank, Value}
+use Rattle.real.specs.Real as Real
+use Rattle.field.specs.Item.{Item}
+use Rattle.parts.specs.Parts.{Part}
+use Rattle.parts.specs.Function.{firstByte, pastByte}
+use Rattle.reader.specs.Reader.{Said, said, shown, valueWith, numberOf}
+use Rattle.theory.specs.Sets.{Set}
+use Rattle.places.specs.Declared.{caseOf}
+use Rattle.places.specs.Stored.{storedItem}
+
+-- an item that is a real, as a number; no stored number is any other item
+abbrev pub realOfItem : Item → Real
+realOfItem (Item.text t) = Blank
+realOfItem (Item.integer z) = Blank
+realOfItem Item.blank = Blank
+realOfItem (Item.real n c s) = Value (Real.numberOf n c s)
+
+-- value i of a 58 of the list: what the reader's rule makes of its stored numbers
+unfoldable pub valueSaid : Set → ℕ → Said Float
+valueSaid s i = valueWith (λ (j : ℕ). realOfItem (storedItem s j)) (caseOf s) i
+
+-- the bytes of a stored number's own columns
+unfoldable pub ownBytes : List ℕ → Part → ℕ → List ℕ
+ownBytes bytes p j = take (pastByte p j - firstByte p j) (drop (firstByte p j) bytes)
+
+-- stored number j of a set of the list that is this part of the text, as the reader answers for set k, from 1: the first and past byte of its own
+-- columns, and the sign, coefficient and scale of the list's item, which the bytes there spell
+pub record Answered (bytes : List ℕ) (k j : ℕ) (s : Set) (p : Part) : Type 0 where
+  pub sign : Bool
+  pub coefficient : ℕ
+  pub scale : ℤ
+  pub answer : numberOf bytes k j ≡ said 0 0 (shown (firstByte p j) (pastByte p j) sign coefficient (belowZero scale) (natAbs scale) ∷ [])
+  pub item : storedItem s j ≡ Item.real sign coefficient scale
+  pub spelled : RealSpelling sign coefficient scale (ownBytes bytes p j)

@@ -1,0 +1,160 @@
+-- The reader answers from the list.
+use mathlib.Core.Path.{_≡_, refl, sym, ap, subst, _∙_}
+use mathlib.Core.Bool.{Bool, true, false}
+use mathlib.Core.List.{List, [], _∷_}
+use Prim.Native.Nat.{ℕ, zero, suc, _+_, _-_, _*_, _<_, _≤_}
+use native.Mathlib.Nat.{suc-mul, zero-mul, mul-le-mul-right}
+use native.Mathlib.Omega.{arith}
+use borrow.Author.Tests.{lt-ltb, le-ltb, le-leb, ne-eqb}
+use lib.Dec.{ltb}
+use lib.ListN.{length, take, drop}
+use Rattle.laws.specs.Choice.{pick, pick-same}
+use Rattle.real.specs.declared.Real.the-variants.{Blank, Malformed, Value}
+use Rattle.real.specs.declared.Real.{Real}
+use Rattle.real.specs.Real as Real
+use Rattle.real.specs.RealLaws.{realOf-complete}
+use Rattle.real.specs.EndLaws.{signed-size}
+use Rattle.real.specs.declared.Number.{Number}
+use Rattle.text.specs.Parts.{signed}
+use Rattle.field.specs.Item.{Item}
+use Rattle.layout.specs.Layout.{numbersOf}
+use Rattle.judge.specs.Judge.{judged, reply}
+use Rattle.parts.specs.Parts as Parts
+use Rattle.parts.specs.Function as Function
+use Rattle.parts.specs.SetLaws.{Somewhere}
+use Rattle.reader.specs.Reader.{Said, said, refused, readIn, realIn, shownOf, numberFrom, setsFrom, numberOf, readOf, reads, whole, kindOf, valueWith, valuesIn, valueFrom, valueOf}
+use Rattle.theory.specs.Sets.{Set}
+use Rattle.places.specs.Holds.{Holds}
+use Rattle.places.specs.Declared.{declared, caseOf}
+use Rattle.places.specs.DeclaredLaws.{declared-held, case-held}
+use Rattle.places.specs.Stored.{storedCount, storedItem}
+use Rattle.places.specs.StoredLaws.{stored-case}
+use Rattle.places.specs.CaseLaws.{case-eight}
+use Rattle.places.specs.FieldLaws.{Spelled}
+use Rattle.places.specs.ShownLaws.{stored-held, stored-shown}
+use Rattle.places.specs.OrderLaws.{columns-inside}
+use Rattle.theorems.specs.Answers.{realOfItem, valueSaid, ownBytes}
+
+-- the numbers of a value by two accounts that agree on them
+pub reads-same : (g f : ℕ → Real) (i j k : ℕ) → ((r : ℕ) → r < k → g (i + r) ≡ f (j + r)) → reads g i k ≡ reads f j k
+unfolding reads
+reads-same g f i j zero h = refl
+reads-same g f i j (suc k) h =
+    let a : g i ≡ f j = sum-zero i j (h 0 (omega arith)) in
+    rw (a, reads-same g f (suc i) (suc j) k (λ r l. sum-next i j r (h (suc r) (omega arith)))) refl
+  where
+    sum-zero : (i j : ℕ) → g (i + 0) ≡ f (j + 0) → g i ≡ f j
+    sum-zero i j e = let p : i + 0 ≡ i = omega arith in let q : j + 0 ≡ j = omega arith in rw (p, q) at e
+
+    sum-next : (i j r : ℕ) → g (i + suc r) ≡ f (j + suc r) → g (suc i + r) ≡ f (suc j + r)
+    sum-next i j r e = let p : i + suc r ≡ suc i + r = omega arith in let q : j + suc r ≡ suc j + r = omega arith in rw (p, q) at e
+
+-- a 58 of the list as it stands in a text
+module _ {s : Set} {p : Parts.Part} (bytes : List ℕ) (ps : List Parts.Part) (w : Somewhere bytes p ps) (h : Holds s p) (e : s .number ≡ 58) where
+  pub past-within : (j : ℕ) → j < storedCount s → Function.pastByte p j ≤ length bytes
+  past-within j l = omega (arith, columns-inside h e j l .1 .1, w .stands .later, w .stands .past)
+
+  -- what stands in a stored number's columns
+  pub realIn-held : (j : ℕ) → j < storedCount s → realIn bytes p j ≡ realOfItem (storedItem s j)
+  unfolding readIn
+  realIn-held j l =
+      let x : Spelled (storedItem s j) (take (Function.pastByte p j - Function.firstByte p j) (drop (Function.firstByte p j) bytes)) = stored-shown bytes ps w h e j l in
+      rw (le-leb (Function.pastByte p j) (length bytes) (past-within j l), realOf-complete (x .spelling), x .item) refl
+
+  -- its answer, by index
+  pub number-answered : (j : ℕ) → j < storedCount s → numberFrom bytes (p ∷ ps) j ≡ shownOf (Function.firstByte p j) (Function.pastByte p j) (realOfItem (storedItem s j))
+  number-answered j l =
+      let m : j < Function.storedOf p = rw (stored-held h e) l in
+      rw (lt-ltb j (Function.storedOf p) m, realIn-held j l) refl
+
+  pub number-past : (j : ℕ) → storedCount s ≤ j → numberFrom bytes (p ∷ ps) j ≡ refused 18 0
+  number-past j l = let m : Function.storedOf p ≤ j = rw (stored-held h e) l in rw (le-ltb j (Function.storedOf p) m) refl
+
+  -- as many values as the list declares
+  pub values-held : valuesIn p ≡ declared s
+  unfolding valuesIn
+  values-held = rw (case-held h e, lt-ltb (caseOf s) 8 (case-eight (h .lines) e)) (declared-held h)
+
+  -- the numbers of a value are stored numbers
+  pub value-stored : (i r : ℕ) → i < declared s → r < numbersOf (caseOf s) → i * numbersOf (caseOf s) + r < storedCount s
+  unfolding storedCount
+  value-stored i r l m =
+      let a : suc i * numbersOf (caseOf s) ≤ declared s * numbersOf (caseOf s) = mul-le-mul-right (numbersOf (caseOf s)) l in
+      let b : suc i * numbersOf (caseOf s) ≡ i * numbersOf (caseOf s) + numbersOf (caseOf s) = suc-mul i (numbersOf (caseOf s)) in
+      omega arith
+
+  -- a value's answer, by index
+  pub value-answered : (i : ℕ) → i < declared s → valueFrom bytes (p ∷ ps) i ≡ valueSaid s i
+  unfolding valueSaid valueWith
+  value-answered i l =
+      let m : i < valuesIn p = rw values-held l in
+      rw (lt-ltb i (valuesIn p) m, case-held h e)
+      (ap (whole (kindOf (caseOf s)) []) (reads-same (realIn bytes p) (λ (j : ℕ). realOfItem (storedItem s j)) (i * numbersOf (caseOf s)) (i * numbersOf (caseOf s)) (numbersOf (caseOf s)) (λ r q. realIn-held (i * numbersOf (caseOf s) + r) (value-stored i r l q))))
+
+  pub value-past : (i : ℕ) → declared s ≤ i → valueFrom bytes (p ∷ ps) i ≡ refused 18 0
+  value-past i l = let m : valuesIn p ≤ i = rw values-held l in rw (le-ltb i (valuesIn p) m) refl
+
+-- an accepted file's questions go to its sets
+pub number-asked : (bytes : List ℕ) (k j : ℕ) → judged bytes .number ≡ 0 → numberOf bytes k j ≡ numberFrom bytes (setsFrom bytes k) j
+unfolding numberOf
+number-asked bytes k j h = rw (le-ltb 0 (judged bytes .number) (omega arith)) refl
+
+pub value-asked : (bytes : List ℕ) (k i : ℕ) → judged bytes .number ≡ 0 → valueOf bytes k i ≡ valueFrom bytes (setsFrom bytes k) i
+unfolding valueOf
+value-asked bytes k i h = rw (le-ltb 0 (judged bytes .number) (omega arith)) refl
+
+-- what stands in a number's columns, by their bytes
+pub realIn-own : (bytes : List ℕ) (p : Parts.Part) (j : ℕ) → Function.pastByte p j ≤ length bytes → realIn bytes p j ≡ Real.realOf (ownBytes bytes p j)
+unfolding readIn ownBytes
+realIn-own bytes p j h = rw (le-leb (Function.pastByte p j) (length bytes) h) refl
+
+-- a set that is no 58 has no numbers
+module _ {s : Set} {p : Parts.Part} (bytes : List ℕ) (ps : List Parts.Part) (h : Holds s p) (n : s .number ≡ 58 → ⊥) where
+  no-count : Function.countOf p ≡ 0
+  unfolding declared
+  no-count = declared-held h ∙ rw (ne-eqb (s .number) 58 n) refl
+
+  no-stored : Function.storedOf p ≡ 0
+  unfolding Function.storedOf
+  no-stored = rw no-count (zero-mul _)
+
+  no-values : valuesIn p ≡ 0
+  unfolding valuesIn
+  no-values = rw no-count (pick-same (ltb (Function.caseOf p) 8) 0)
+
+  pub number-other : (j : ℕ) → numberFrom bytes (p ∷ ps) j ≡ refused 18 0
+  number-other j = rw (le-ltb j (Function.storedOf p) (omega (arith, no-stored))) refl
+
+  pub value-other : (i : ℕ) → valueFrom bytes (p ∷ ps) i ≡ refused 18 0
+  value-other i = rw (le-ltb i (valuesIn p) (omega (arith, no-values))) refl
+
+-- a value's answer, by the bytes of its own columns
+pub value-own : {s : Set} {p : Parts.Part} (bytes : List ℕ) (ps : List Parts.Part) → Somewhere bytes p ps → Holds s p → s .number ≡ 58 → (i : ℕ) → i < declared s
+    → valueFrom bytes (p ∷ ps) i ≡ valueWith (λ (j : ℕ). Real.realOf (ownBytes bytes p j)) (caseOf s) i
+unfolding valueWith
+value-own {s} {p} bytes ps w h e i l =
+    let m : i < valuesIn p = rw (values-held bytes ps w h e) l in
+    rw (lt-ltb i (valuesIn p) m, case-held h e)
+    (ap (whole (kindOf (caseOf s)) []) (reads-same (realIn bytes p) (λ (j : ℕ). Real.realOf (ownBytes bytes p j)) (i * numbersOf (caseOf s)) (i * numbersOf (caseOf s)) (numbersOf (caseOf s))
+    (λ r q. realIn-own bytes p (i * numbersOf (caseOf s) + r) (past-within bytes ps w h e (i * numbersOf (caseOf s) + r) (value-stored bytes ps w h e i r l q)))))
+
+-- values by two accounts that agree on their numbers
+pub valueWith-same : (g f : ℕ → Real) (c i j : ℕ) → ((r : ℕ) → r < numbersOf c → g (i * numbersOf c + r) ≡ f (j * numbersOf c + r)) → valueWith g c i ≡ valueWith f c j
+unfolding valueWith
+valueWith-same g f c i j h = ap (whole (kindOf c) []) (reads-same g f (i * numbersOf c) (j * numbersOf c) (numbersOf c) h)
+
+-- a number's item, by the bytes of its own columns
+pub item-own : {s : Set} {p : Parts.Part} (bytes : List ℕ) (ps : List Parts.Part) → Somewhere bytes p ps → Holds s p → s .number ≡ 58 → (j : ℕ) → j < storedCount s
+    → (Spelled (storedItem s j) (ownBytes bytes p j)) × (realOfItem (storedItem s j) ≡ Real.realOf (ownBytes bytes p j))
+unfolding ownBytes
+item-own bytes ps w h e j l = let x = stored-shown bytes ps w h e j l in (x, rw (x .item, realOf-complete (x .spelling)) refl)
+
+-- two reals that are one number are one item
+pub real-same : (i j : Item) (cols cols′ : List ℕ) → Spelled i cols → Spelled j cols′ → realOfItem i ≡ realOfItem j → i ≡ j
+real-same i j cols cols′ x y e =
+    let q : Value (Real.numberOf (x .minus) (x .coefficient) (x .scale)) ≡ Value (Real.numberOf (y .minus) (y .coefficient) (y .scale)) = ap realOfItem (sym (x .item)) ∙ e ∙ ap realOfItem (y .item) in
+    let v : Real.numberOf (x .minus) (x .coefficient) (x .scale) ≡ Real.numberOf (y .minus) (y .coefficient) (y .scale) = cc in
+    let a : x .minus ≡ y .minus = ap (λ (n : Number). n .minus) v in
+    let b : x .coefficient ≡ y .coefficient = ap (λ (n : Number). n .coefficient) v in
+    let c : x .scale ≡ y .scale = sym (signed-size (x .scale)) ∙ ap (λ (n : Number). signed (n .below) (n .scale)) v ∙ signed-size (y .scale) in
+    x .item ∙ rw (a, b, c) (sym (y .item))

@@ -1,0 +1,576 @@
+//! Fixed files with the answers that the papers give them, typed by hand. Byte places are typed too,
+//! or counted here from the literal text by line and column, never through the reader.
+
+use crate::reader::Number;
+
+/// What a question about a value is answered: kind and f64, or the refusal's number.
+type Value = Result<(u32, Vec<f64>), u32>;
+
+pub struct Fixed {
+    pub name: &'static str,
+    pub file: String,
+    pub rows: Vec<[u32; 6]>,
+    /// Set, index and the stored number there, or the refusal's number.
+    pub numbers: Vec<(u32, u32, Result<Number, u32>)>,
+    pub values: Vec<(u32, u32, Value)>,
+    pub rewritten: String,
+}
+
+/// All fixed files.
+pub fn fixed() -> Vec<Fixed> {
+    vec![
+        example(),
+        example_untidy(),
+        real_uneven(),
+        complex_even(),
+        complex_uneven(),
+        double_touching(),
+        double_uneven(),
+        double_complex_even(),
+        double_complex_uneven(),
+        exact_path(),
+        plain_sets(),
+        messy(),
+    ]
+}
+
+/// Coefficient and scale (negative or not) and what document 01's exact path makes of them.
+pub fn exact() -> Vec<((bool, u64, i16), Option<f64>)> {
+    vec![
+        ((false, 100_000, -6), Some(0.1)),
+        ((true, 5, -1), Some(-0.5)),
+        ((false, 1, 0), Some(1.0)),
+        ((false, 0, 0), Some(0.0)),
+        ((true, 0, 0), Some(-0.0)),
+        ((true, 0, 22), Some(-0.0)),
+        ((true, 0, -22), Some(-0.0)),
+        ((false, 0, 23), None),
+        ((false, 0, -23), None),
+        ((false, 1, 22), Some(1e22)),
+        ((false, 1, 23), None),
+        ((true, 1, -22), Some(-1e-22)),
+        ((true, 1, -23), None),
+        ((false, 9_007_199_254_740_992, 0), Some(9_007_199_254_740_992.0)),
+        ((false, 9_007_199_254_740_993, 0), None),
+        ((true, 9_007_199_254_740_992, 22), Some(-9_007_199_254_740_992e22)),
+        ((false, 9_007_199_254_740_991, -22), Some(9_007_199_254_740_991e-22)),
+        ((false, 123_456_789_012_345, -22), Some(1.234_567_890_123_45e-8)),
+        ((false, u64::MAX, 0), None),
+        ((false, 1, i16::MAX), None),
+        ((false, 1, i16::MIN), None),
+    ]
+}
+
+/// The byte at which a line (from 1) begins; one line past the last gives the length.
+fn begins(text: &str, line: usize) -> u32 {
+    text.split_inclusive('\n').take(line - 1).map(str::len).sum::<usize>() as u32
+}
+
+/// A stored number on a line in its columns (both from 1, the last column included).
+fn number(
+    text: &str,
+    (line, from, to): (usize, u32, u32),
+    negative: bool,
+    coefficient: u64,
+    scale: i16,
+) -> Result<Number, u32> {
+    let line = begins(text, line);
+    Ok(Number { first: line + from - 1, past: line + to, negative, coefficient, scale })
+}
+
+fn real(y: f64) -> Value {
+    Ok((1, vec![y]))
+}
+
+fn pair(y: f64, z: f64) -> Value {
+    Ok((2, vec![y, z]))
+}
+
+fn point(x: f64, y: f64) -> Value {
+    Ok((3, vec![x, y]))
+}
+
+fn point_pair(x: f64, y: f64, z: f64) -> Value {
+    Ok((4, vec![x, y, z]))
+}
+
+const EXAMPLE: &str = "    -1
+   164
+         1SI: Meter (newton)           2
+  1.00000000000000000D+00  1.00000000000000000D+00  1.00000000000000000D+00
+  2.73150000000000000D+02
+    -1
+    -1
+    58
+Drive end bearing
+NONE
+NONE
+NONE
+NONE
+    1         1    0         0 NONE               7   3 NONE               0   0
+         2         7         1  0.00000E+00  1.00000E-03  0.00000E+00
+        17    0    0    0 Time                 s
+        12    0    0    0 Acceleration         m/s2
+         0    0    0    0 NONE                 NONE
+         0    0    0    0 NONE                 NONE
+  1.00000E-01 -2.00000E-01  3.00000E-01 -4.00000E-01  5.00000E-01 -6.00000E-01
+  7.00000E-01
+    -1
+";
+
+/// Document 01's example, its byte places typed.
+fn example() -> Fixed {
+    let typed = |first, past, negative, coefficient| {
+        Ok(Number { first, past, negative, coefficient, scale: -6 })
+    };
+    Fixed {
+        name: "example",
+        file: EXAMPLE.to_string(),
+        rows: vec![[1, 164, 0, 0, 164, 0], [7, 58, 7, 164, 672, 572]],
+        numbers: vec![
+            (2, 0, typed(572, 585, false, 100_000)),
+            (2, 1, typed(585, 598, true, 200_000)),
+            (2, 2, typed(598, 611, false, 300_000)),
+            (2, 5, typed(637, 650, true, 600_000)),
+            (2, 6, typed(651, 664, false, 700_000)),
+            (2, 7, Err(18)),
+            (2, u32::MAX, Err(18)),
+            (1, 0, Err(18)),
+            (0, 0, Err(18)),
+            (3, 0, Err(18)),
+            (u32::MAX, 0, Err(18)),
+        ],
+        values: vec![
+            (2, 0, real(0.1)),
+            (2, 1, real(-0.2)),
+            (2, 2, real(0.3)),
+            (2, 3, real(-0.4)),
+            (2, 4, real(0.5)),
+            (2, 5, real(-0.6)),
+            (2, 6, real(0.7)),
+            (2, 7, Err(18)),
+            (2, u32::MAX, Err(18)),
+            (1, 0, Err(18)),
+            (0, 0, Err(18)),
+            (3, 0, Err(18)),
+            (u32::MAX, 0, Err(18)),
+        ],
+        rewritten: EXAMPLE.to_string(),
+    }
+}
+
+/// The example with CR LF on every second line, every third filled to column 80, and blank lines.
+fn example_untidy() -> Fixed {
+    let mut file = String::from("\r\n   \n");
+    for (n, line) in EXAMPLE.lines().enumerate() {
+        let width = if n % 3 == 0 { 80 } else { line.len() };
+        let end = if n % 2 == 0 { "\r\n" } else { "\n" };
+        file += &format!("{line:width$}{end}");
+    }
+    file += "\n \r\n";
+    // Two lines more than in the example stand before each line.
+    let at = |line| begins(&file, line);
+    let rows = vec![[3, 164, 0, at(3), at(9), 0], [9, 58, 7, at(9), at(25), at(22)]];
+    let numbers = vec![
+        (2, 0, number(&file, (22, 1, 13), false, 100_000, -6)),
+        (2, 1, number(&file, (22, 14, 26), true, 200_000, -6)),
+        (2, 5, number(&file, (22, 66, 78), true, 600_000, -6)),
+        (2, 6, number(&file, (23, 1, 13), false, 700_000, -6)),
+        (2, 7, Err(18)),
+        (1, 0, Err(18)),
+    ];
+    let values = vec![(2, 0, real(0.1)), (2, 6, real(0.7)), (2, 7, Err(18)), (3, 0, Err(18))];
+    let rewritten = EXAMPLE.to_string();
+    Fixed { name: "example, untidy", file, rows, numbers, values, rewritten }
+}
+
+/// A 58 of its own: its data begin at line 14.
+fn function(ordinate: u32, count: u32, spacing: u32, data: &[&str]) -> String {
+    format!(
+        "    -1
+    58
+Drive end bearing
+NONE
+NONE
+NONE
+NONE
+    1         1    0         0 NONE               7   3 NONE               0   0
+{ordinate:10}{count:10}{spacing:10}  0.00000E+00  0.00000E+00  0.00000E+00
+        17    0    0    0 Time                 s
+        12    0    0    0 Acceleration         m/s2
+         0    0    0    0 NONE                 NONE
+         0    0    0    0 NONE                 NONE
+{}
+    -1
+",
+        data.join("\n")
+    )
+}
+
+/// A file of one 58 in plain form: the rewriter changes nothing.
+fn alone(
+    name: &'static str,
+    file: String,
+    count: u32,
+    numbers: Vec<(u32, Result<Number, u32>)>,
+    values: Vec<(u32, Value)>,
+) -> Fixed {
+    Fixed {
+        name,
+        rows: vec![[1, 58, count, 0, file.len() as u32, begins(&file, 14)]],
+        numbers: numbers.into_iter().map(|(index, number)| (1, index, number)).collect(),
+        values: values.into_iter().map(|(index, value)| (1, index, value)).collect(),
+        rewritten: file.clone(),
+        file,
+    }
+}
+
+/// Case 2: three values a line, four values, a minus zero.
+fn real_uneven() -> Fixed {
+    let file = function(2, 4, 0, &[
+        "  1.00000E+00 -2.50000E-01  2.00000E+00  5.00000E-01  3.00000E+00 -0.00000E+00",
+        "  4.00000E+00      -.5E+00",
+    ]);
+    let numbers = vec![
+        (0, number(&file, (14, 1, 13), false, 100_000, -5)),
+        (1, number(&file, (14, 14, 26), true, 250_000, -6)),
+        (5, number(&file, (14, 66, 78), true, 0, -5)),
+        (6, number(&file, (15, 1, 13), false, 400_000, -5)),
+        (7, number(&file, (15, 14, 26), true, 5, -1)),
+        (8, Err(18)),
+    ];
+    let values = vec![
+        (0, point(1.0, -0.25)),
+        (1, point(2.0, 0.5)),
+        (2, point(3.0, -0.0)),
+        (3, point(4.0, -0.5)),
+        (4, Err(18)),
+        // Twice this index wraps to 0 in 32 bits.
+        (0x8000_0000, Err(18)),
+    ];
+    alone("case 2", file, 4, numbers, values)
+}
+
+/// Case 3: count 3 stores six numbers.
+fn complex_even() -> Fixed {
+    let file = function(5, 3, 1, &[
+        "  3.00000E+00  4.00000E+00 -1.50000E+02  2.00000E-03  0.00000E+00       1.E+00",
+    ]);
+    let numbers = vec![
+        (0, number(&file, (14, 1, 13), false, 300_000, -5)),
+        (2, number(&file, (14, 27, 39), true, 150_000, -3)),
+        (3, number(&file, (14, 40, 52), false, 200_000, -8)),
+        (4, number(&file, (14, 53, 65), false, 0, -5)),
+        (5, number(&file, (14, 66, 78), false, 1, 0)),
+        (6, Err(18)),
+    ];
+    let values = vec![
+        (0, pair(3.0, 4.0)),
+        (1, pair(-150.0, 0.002)),
+        (2, pair(0.0, 1.0)),
+        (3, Err(18)),
+        (5, Err(18)),
+        (0x8000_0001, Err(18)),
+    ];
+    alone("case 3", file, 3, numbers, values)
+}
+
+/// Case 4: two values a line, three values.
+fn complex_uneven() -> Fixed {
+    let file = function(5, 3, 0, &[
+        "  1.00000E-03  1.00000E+00 -1.00000E+00  2.00000E-03  2.00000E+00 -2.00000E+00",
+        "  3.00000E-03     3.2D+000 -3.00000E+00",
+    ]);
+    let numbers = vec![
+        (0, number(&file, (14, 1, 13), false, 100_000, -8)),
+        (3, number(&file, (14, 40, 52), false, 200_000, -8)),
+        (5, number(&file, (14, 66, 78), true, 200_000, -5)),
+        (7, number(&file, (15, 14, 26), false, 32, -1)),
+        (8, number(&file, (15, 27, 39), true, 300_000, -5)),
+        (9, Err(18)),
+    ];
+    let values = vec![
+        (0, point_pair(0.001, 1.0, -1.0)),
+        (1, point_pair(0.002, 2.0, -2.0)),
+        (2, point_pair(0.003, 3.2, -3.0)),
+        (3, Err(18)),
+        // Three times this index wraps to 2 in 32 bits.
+        (0x5555_5556, Err(18)),
+    ];
+    alone("case 4", file, 3, numbers, values)
+}
+
+/// Case 5: fields that touch, 15 digits, a minus zero.
+fn double_touching() -> Fixed {
+    let file = function(4, 5, 1, &[
+        "-1.2345678901234E+00-9.8765432109876E-01123456789012345.E+00.000000000000001E-07",
+        "            -0.0E-21",
+    ]);
+    let numbers = vec![
+        (0, number(&file, (14, 1, 20), true, 12_345_678_901_234, -13)),
+        (1, number(&file, (14, 21, 40), true, 98_765_432_109_876, -14)),
+        (2, number(&file, (14, 41, 60), false, 123_456_789_012_345, 0)),
+        (3, number(&file, (14, 61, 80), false, 1, -22)),
+        (4, number(&file, (15, 1, 20), true, 0, -22)),
+        (5, Err(18)),
+    ];
+    let values = vec![
+        (0, real(-1.234_567_890_123_4)),
+        (1, real(-0.987_654_321_098_76)),
+        (2, real(123_456_789_012_345.0)),
+        (3, real(1e-22)),
+        (4, real(-0.0)),
+        (5, Err(18)),
+    ];
+    alone("case 5", file, 5, numbers, values)
+}
+
+/// Case 6: fields of 13 and 20 columns in turn, the second pair touching.
+fn double_uneven() -> Fixed {
+    let file = function(4, 3, 0, &[
+        "  1.00000E+00  1.234567890123E+00-1.000000E+00-1.2345678901234E-05",
+        "  3.00000E+00  0.000000000000E+00",
+    ]);
+    let numbers = vec![
+        (0, number(&file, (14, 1, 13), false, 100_000, -5)),
+        (1, number(&file, (14, 14, 33), false, 1_234_567_890_123, -12)),
+        (2, number(&file, (14, 34, 46), true, 1_000_000, -6)),
+        (3, number(&file, (14, 47, 66), true, 12_345_678_901_234, -18)),
+        (4, number(&file, (15, 1, 13), false, 300_000, -5)),
+        (5, number(&file, (15, 14, 33), false, 0, -12)),
+        (6, Err(18)),
+    ];
+    let values = vec![
+        (0, point(1.0, 1.234_567_890_123)),
+        (1, point(-1.0, -1.234_567_890_123_4e-5)),
+        (2, point(3.0, 0.0)),
+        (3, Err(18)),
+    ];
+    alone("case 6", file, 3, numbers, values)
+}
+
+/// Case 7: an imaginary part outside the exact path takes its real part with it.
+fn double_complex_even() -> Fixed {
+    let file = function(6, 3, 1, &[
+        "  1.000000000000E+00 -2.000000000000E+00-3.3000000000000E+01+4.4000000000000E+01",
+        "  5.000000000000E+00  6.000000000000E+40",
+    ]);
+    let numbers = vec![
+        (0, number(&file, (14, 1, 20), false, 1_000_000_000_000, -12)),
+        (1, number(&file, (14, 21, 40), true, 2_000_000_000_000, -12)),
+        (2, number(&file, (14, 41, 60), true, 33_000_000_000_000, -12)),
+        (3, number(&file, (14, 61, 80), false, 44_000_000_000_000, -12)),
+        (4, number(&file, (15, 1, 20), false, 5_000_000_000_000, -12)),
+        (5, number(&file, (15, 21, 40), false, 6_000_000_000_000, 28)),
+        (6, Err(18)),
+    ];
+    let values =
+        vec![(0, pair(1.0, -2.0)), (1, pair(-33.0, 44.0)), (2, Err(21)), (3, Err(18))];
+    alone("case 7", file, 3, numbers, values)
+}
+
+/// Case 8: one value a line; an abscissa outside the exact path takes its ordinate with it.
+fn double_complex_uneven() -> Fixed {
+    let file = function(6, 2, 0, &[
+        "  5.00000E-01  1.500000000000E+00 -2.500000000000E+00",
+        "  1.00000E+30  3.500000000000E+00 -4.500000000000E+00",
+    ]);
+    let numbers = vec![
+        (0, number(&file, (14, 1, 13), false, 500_000, -6)),
+        (1, number(&file, (14, 14, 33), false, 1_500_000_000_000, -12)),
+        (2, number(&file, (14, 34, 53), true, 2_500_000_000_000, -12)),
+        (3, number(&file, (15, 1, 13), false, 100_000, 25)),
+        (5, number(&file, (15, 34, 53), true, 4_500_000_000_000, -12)),
+        (6, Err(18)),
+    ];
+    let values = vec![(0, point_pair(0.5, 1.5, -2.5)), (1, Err(21)), (2, Err(18))];
+    alone("case 8", file, 2, numbers, values)
+}
+
+/// The ends of the exact path, for zero too.
+fn exact_path() -> Fixed {
+    let file = function(4, 8, 1, &[
+        "              1.E+22              1.E+23              1.E-22              1.E-23",
+        "             0.0E+99           -0.0E+023            0.0E-022  123.4567890123E+12",
+    ]);
+    let numbers = vec![
+        (0, number(&file, (14, 1, 20), false, 1, 22)),
+        (1, number(&file, (14, 21, 40), false, 1, 23)),
+        (3, number(&file, (14, 61, 80), false, 1, -23)),
+        (4, number(&file, (15, 1, 20), false, 0, 98)),
+        (5, number(&file, (15, 21, 40), true, 0, 22)),
+        (6, number(&file, (15, 41, 60), false, 0, -23)),
+        (7, number(&file, (15, 61, 80), false, 1_234_567_890_123, 2)),
+    ];
+    let values = vec![
+        (0, real(1e22)),
+        (1, Err(21)),
+        (2, real(1e-22)),
+        (3, Err(21)),
+        (4, Err(21)),
+        (5, real(-0.0)),
+        (6, Err(21)),
+        (7, real(123_456_789_012_300.0)),
+        (8, Err(18)),
+    ];
+    alone("exact path", file, 8, numbers, values)
+}
+
+/// Blank lines outside sets, an empty plain set, blank lines inside a plain one; places typed.
+fn plain_sets() -> Fixed {
+    let file = concat!(
+        "\n",
+        "   \r\n",
+        "    -1\n",
+        "     1\n",
+        "    -1\n",
+        "\n",
+        "    -1   \r\n",
+        "+00015  \n",
+        "    -1x\n",
+        "\n",
+        "   \n",
+        "    -1\n",
+        " \n",
+    );
+    let rewritten = concat!(
+        "    -1\n",
+        "     1\n",
+        "    -1\n",
+        "    -1\n",
+        "    15\n",
+        "    -1x\n",
+        "\n",
+        "\n",
+        "    -1\n",
+    );
+    Fixed {
+        name: "plain sets",
+        file: file.to_string(),
+        rows: vec![[3, 1, 0, 6, 27, 0], [7, 15, 0, 28, 68, 0]],
+        numbers: vec![(0, 0, Err(18)), (1, 0, Err(18)), (2, 0, Err(18)), (3, 0, Err(18))],
+        values: vec![(0, 0, Err(18)), (1, 0, Err(18)), (2, 0, Err(18)), (3, 0, Err(18))],
+        rewritten: rewritten.to_string(),
+    }
+}
+
+/// Odd spellings, ends and blanks everywhere, and what the rewriter makes of them.
+fn messy() -> Fixed {
+    let file = concat!(
+        "\r\n",
+        "          \n",
+        "    -1          \r\n",
+        "000151\r\n",
+        "  model file   \r\n",
+        "\r\n",
+        "   \n",
+        "prog      ver               +1      -002         0     \n",
+        "12-MAR-99 08:30:00  \r\n",
+        "I-DEAS\n",
+        "                    \n",
+        "    -1 \n",
+        "\n",
+        "    -1\r\n",
+        "   +58   \r\n",
+        " leading blank kept   \r\n",
+        "NONE \n",
+        "x\n",
+        "   -1 \n",
+        "~!last  ID\r\n",
+        "   +1        -000000        +0                   07  +3 NONE               0  -6\r\n",
+        "        +5         2         0       .0E+99     -0.D-000  1.00000e+00   \n",
+        "        17    0  -00   +1 Time                 s     \r\n",
+        "         0    0    0    0                                      \n",
+        "         0    0    0    0                      m/s2\n",
+        "         0    0    0    0 NONE\n",
+        "  1.00000E-03       2.E+00     -3.0d+0012345678.E+00.12345678E+00-1.000000E-99  \r\n",
+        "    -1                                                                          \n",
+        "    -1\n",
+        "    82  \n",
+        "         1        +9        00   \r\n",
+        "  trace \n",
+        "         1         2         3         4         0         6         70000000008\n",
+        "        +9 \r\n",
+        "    -1  \r\n",
+        "    -1\n",
+        "999999\n",
+        "\r\n",
+        "   kept   so   \r\n",
+        " \n",
+        "    -1\n",
+        "                                                                                \r\n",
+    );
+    let rewritten = concat!(
+        "    -1\n",
+        "   151\n",
+        "  model file\n",
+        "\n",
+        "\n",
+        "prog      ver               +1      -002         0\n",
+        "12-MAR-99 08:30:00\n",
+        "I-DEAS\n",
+        "\n",
+        "    -1\n",
+        "    -1\n",
+        "    58\n",
+        " leading blank kept\n",
+        "NONE\n",
+        "x\n",
+        "   -1\n",
+        "~!last  ID\n",
+        "   +1        -000000        +0                   07  +3 NONE               0  -6\n",
+        "        +5         2         0       .0E+99     -0.D-000  1.00000e+00\n",
+        "        17    0  -00   +1 Time                 s\n",
+        "         0    0    0    0\n",
+        "         0    0    0    0                      m/s2\n",
+        "         0    0    0    0 NONE\n",
+        "  1.00000E-03       2.E+00     -3.0d+0012345678.E+00.12345678E+00-1.000000E-99\n",
+        "    -1\n",
+        "    -1\n",
+        "    82\n",
+        "         1        +9        00\n",
+        "  trace\n",
+        "         1         2         3         4         0         6         70000000008\n",
+        "        +9\n",
+        "    -1\n",
+        "    -1\n",
+        "999999\n",
+        "\n",
+        "   kept   so\n",
+        "\n",
+        "    -1\n",
+    );
+    let at = |line| begins(file, line);
+    let numbers = vec![
+        (2, 0, number(file, (27, 1, 13), false, 100_000, -8)),
+        (2, 1, number(file, (27, 14, 26), false, 2, 0)),
+        (2, 2, number(file, (27, 27, 39), true, 30, -1)),
+        (2, 3, number(file, (27, 40, 52), false, 12_345_678, 0)),
+        (2, 4, number(file, (27, 53, 65), false, 12_345_678, -8)),
+        (2, 5, number(file, (27, 66, 78), true, 1_000_000, -105)),
+        (2, 6, Err(18)),
+        (1, 0, Err(18)),
+        (3, 0, Err(18)),
+        (4, 0, Err(18)),
+        (5, 0, Err(18)),
+    ];
+    Fixed {
+        name: "messy",
+        file: file.to_string(),
+        rows: vec![
+            [3, 151, 0, at(3), at(13), 0],
+            [14, 58, 2, at(14), at(29), at(27)],
+            [29, 82, 0, at(29), at(36), 0],
+            [36, 999_999, 0, at(36), at(42), 0],
+        ],
+        numbers,
+        values: vec![
+            (2, 0, point_pair(0.001, 2.0, -3.0)),
+            (2, 1, Err(21)),
+            (2, 2, Err(18)),
+            (3, 0, Err(18)),
+            (5, 0, Err(18)),
+        ],
+        rewritten: rewritten.to_string(),
+    }
+}
