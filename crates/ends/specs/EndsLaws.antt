@@ -65,7 +65,7 @@ unfolding cut joined
 joined-case b bs true e h = rw e (rw (eqb-true b 10 e, h) refl)
 joined-case b bs false e h = rw e (onto-joined b (cut bs .lines) (cut bs .rest) ∙ ap (_∷_ b) h)
 
-cut-joined : (bytes : List ℕ) → Joined bytes
+pub cut-joined : (bytes : List ℕ) → Joined bytes
 unfolding cut joined
 cut-joined [] = refl
 cut-joined (b ∷ bs) = joined-case b bs (eqb b 10) refl (cut-joined bs)

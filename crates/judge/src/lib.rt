@@ -14,7 +14,7 @@ pub struct Reply {
 }
 
 // The step of a line that has its LF, by the bytes before it: its own refusals first, then those of its place.
-fn line_step(s: State, line: &[u8]) -> Outcome
+pub fn line_step(s: State, line: &[u8]) -> Outcome
     ensures { λ r. ⌜ r ≡ lineStep s (now (line .entry)) ⌝ }
 {
     let n = line::columns_len(line, true);

@@ -2,18 +2,14 @@
 -- first byte, byte past the closing line, first byte of the data lines, bytes from 0. The third and sixth are 0 unless it is a 58.
 -- Later places keep their contents. It answers the number of sets.").
 use mathlib.Core.List.{List, [], _∷_, _++_}
-use Prim.Native.Nat.{ℕ, suc, _+_, _*_}
-use lib.Dec.{ltb, eqb}
+use Prim.Native.Nat.{ℕ, suc, _*_}
+use lib.Dec.{ltb}
 use lib.ListN.{length, drop}
 use Rattle.laws.specs.Choice.{pick}
 use Rattle.judge.specs.declared.Reply.{Reply}
 use Rattle.judge.specs.Judge.{judged, reply}
 use Rattle.parts.specs.Parts.{Part, partsOf, numberOf, pastOf}
-use Rattle.parts.specs.Function.{countOf, dataStart, lineFrom}
-use Rattle.parts.specs.Scan.{skipTo}
-use Rattle.parts.specs.declared.Extent.{Extent}
-use Rattle.walk.specs.Due.{numberIn}
-use Rattle.laws.specs.Cut.{cut}
+use Rattle.parts.specs.Function.{countOf, dataStart}
 
 -- the six numbers of a set
 unfoldable pub entry : Part → List ℕ
@@ -34,13 +30,3 @@ unfoldable pub listRows : List ℕ → List ℕ → List ℕ
 listRows file rows =
     pick (ltb 0 (judged file .number)) rows
     (pick (ltb (length rows) (6 * length (partsOf file))) rows (rowsOf (partsOf file) ++ drop (6 * length (partsOf file)) rows))
-
--- the same by where a set stands
-unfoldable pub declaredAt : List ℕ → Extent → ℕ
-declaredAt file e = pick (eqb (e .number) 58) (numberIn 10 20 (lineFrom (e .closing) (e .body) file 6)) 0
-
-unfoldable pub dataAt : List ℕ → Extent → ℕ
-dataAt file e = pick (eqb (e .number) 58) (skipTo 11 (e .closing) (e .body) (cut (drop (e .body) file) .lines)) 0
-
-unfoldable pub entryAt : List ℕ → Extent → List ℕ
-entryAt file e = (e .lines + 1) ∷ e .number ∷ declaredAt file e ∷ e .first ∷ e .past ∷ dataAt file e ∷ []

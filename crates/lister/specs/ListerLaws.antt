@@ -15,10 +15,11 @@ use Rattle.judge.specs.declared.Reply.{Reply}
 use Rattle.judge.specs.Judge.{judged, reply}
 use Rattle.parts.specs.declared.Extent.{Extent}
 use Rattle.parts.specs.Parts.{Part, outside, partsFrom, partsOf, numberOf, lineStart, closingStart, pastOf, throughOf, lineOf}
-use Rattle.parts.specs.Function.{countOf, dataStart, lineFrom}
+use Rattle.parts.specs.Function.{countOf, dataStart}
 use Rattle.parts.specs.FunctionLaws.{lineFrom-own}
-use Rattle.parts.specs.Scan.{firstOf, skipTo}
-use Rattle.lister.specs.Lister.{listReply, listRows, entry, rowsOf, declaredAt, dataAt, entryAt}
+use Rattle.parts.specs.Scan.{firstOf, skipTo, lineFrom}
+use Rattle.lister.specs.Lister.{listReply, listRows, entry, rowsOf}
+use Rattle.lister.specs.Found.{declaredAt, dataAt, entryAt}
 use Rattle.parts.specs.ScanLaws.{First, found-none}
 use Rattle.parts.specs.SetLaws.{remaining, line-at}
 use Rattle.parts.specs.TurnLaws.{Turn, closing-from}

@@ -4,7 +4,8 @@ ghost use mathlib.Core.List.{_++_};
 ghost use Prim.Native.Nat.{_*_, _≤_, _<_};
 ghost use lib.ListN.{length, drop};
 ghost use Rattle.parts.specs.Parts.{partsOf};
-ghost use Rattle.lister.specs.Lister.{declaredAt, dataAt, entryAt, rowsOf, listReply, listRows};
+ghost use Rattle.lister.specs.Lister.{rowsOf, listReply, listRows};
+ghost use Rattle.lister.specs.Found.{declaredAt, dataAt, entryAt};
 use judge::Reply;
 use parts::Extent;
 

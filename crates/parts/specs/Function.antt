@@ -1,15 +1,11 @@
 -- A 58 as it stands in a file: its declared count, its case, and the columns of its stored numbers (01, "Records": "stored number j has as
 -- its own columns those of field j mod n on data line j / n (whole part), all from 0").
-use mathlib.Core.List.{List}
 use Prim.Native.Nat.{ℕ, _+_, _*_}
 use Rattle.laws.specs.Choice.{pick}
-use Rattle.laws.specs.Cut.{cut}
-use lib.ListN.{drop}
 use Rattle.layout.specs.Columns as Columns
 use Rattle.layout.specs.Layout.{layoutOf, fieldsOf, numbersOf}
 use Rattle.walk.specs.Due.{numberIn, caseIn}
 use Rattle.parts.specs.Parts.{Part, isFunction, lineStart, lineOf}
-use Rattle.parts.specs.Scan.{skipTo, columnsAt}
 
 -- its case, from its line 7, from 0
 unfoldable pub caseOf : Part → ℕ
@@ -37,7 +33,3 @@ firstByte p j = dataLine p j + Columns.fieldStart (layoutOf (caseOf p) .widths) 
 
 unfoldable pub pastByte : Part → ℕ → ℕ
 pastByte p j = dataLine p j + Columns.fieldPast (layoutOf (caseOf p) .widths) (Columns.fieldOf (fieldsOf (caseOf p)) j)
-
--- the 80 columns of line k of lines that begin at the byte from and stop before the byte stop
-unfoldable pub lineFrom : ℕ → ℕ → List ℕ → ℕ → List ℕ
-lineFrom stop from file k = columnsAt stop (skipTo k stop from (cut (drop from file) .lines)) file

@@ -4,7 +4,7 @@ use mathlib.Core.List.{List, [], _∷_}
 use Prim.Native.Nat.{ℕ, zero, suc, _+_}
 use lib.Dec.{leb, eqb}
 use lib.ListN.{length, take, drop}
-use Rattle.laws.specs.Cut.{lineLen}
+use Rattle.laws.specs.Cut.{cut, lineLen}
 use Rattle.laws.specs.Choice.{pick}
 use Rattle.kind.specs.Kind.{datasetNumber}
 use Rattle.parts.specs.declared.Seen.{Seen}
@@ -48,3 +48,7 @@ skipTo (suc k) stop at (l ∷ ls) = pick (leb stop at) at (skipTo k stop (at + s
 -- the 80 columns of the first of lines that begin at the byte at and stop before the byte stop; blanks if there is none
 unfoldable pub columnsAt : ℕ → ℕ → List ℕ → List ℕ
 columnsAt stop at file = columnsIn (pick (leb stop at) [] (take (lineLen (drop at file)) (drop at file)))
+
+-- the 80 columns of line k of lines that begin at the byte from and stop before the byte stop
+unfoldable pub lineFrom : ℕ → ℕ → List ℕ → ℕ → List ℕ
+lineFrom stop from file k = columnsAt stop (skipTo k stop from (cut (drop from file) .lines)) file

@@ -8,8 +8,7 @@ ghost use lib.ListN.{length, drop};
 ghost use Rattle.laws.specs.Cut.{cut};
 ghost use Rattle.parts.specs.Parts.{columnsIn, closes, outside, partsFrom};
 ghost use Rattle.walk.specs.Due.{numberIn, caseIn};
-ghost use Rattle.parts.specs.Function.{lineFrom};
-ghost use Rattle.parts.specs.Scan.{firstOf, seenStep, skipTo, columnsAt};
+ghost use Rattle.parts.specs.Scan.{lineFrom, firstOf, seenStep, skipTo, columnsAt};
 
 // Where the next set is looked for: 0 outside sets, 1 after its opening delimiter, 2 inside it; how many lines and bytes
 // come before it, its number, and the first byte of its lines.

@@ -1,5 +1,6 @@
 pub mod Holds
 pub mod HoldsLaws
+pub mod TextLaws
 pub mod Declared
 pub mod DeclaredLaws
 pub mod CaseLaws

@@ -10,11 +10,11 @@ use lib.Seq.{drop-drop, drop-nil}
 use Rattle.walk.specs.Due.{numberIn, caseIn}
 use Rattle.parts.specs.declared.Extent.{Extent}
 use Rattle.parts.specs.Parts.{Part, partsOf, numberOf, isFunction, lineOf, closingStart}
-use Rattle.parts.specs.Scan.{firstOf}
+use Rattle.parts.specs.Scan.{lineFrom, firstOf}
 use Rattle.parts.specs.ScanLaws.{First, found-first, found-none}
 use Rattle.parts.specs.SetLaws.{remaining, Somewhere, somewhere}
 use Rattle.parts.specs.TurnLaws as Turns
-use Rattle.parts.specs.Function.{caseOf, countOf, lineFrom}
+use Rattle.parts.specs.Function.{caseOf, countOf}
 use Rattle.parts.specs.FunctionLaws.{lineFrom-own}
 use Rattle.reader.specs.Reader.{setsFrom}
 use Rattle.reader.specs.Find.{data58, nothing, dataOf}

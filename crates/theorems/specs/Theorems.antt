@@ -24,6 +24,7 @@ use Rattle.rewriting.specs.Form.{InForm, KeepsSpellings}
 use Rattle.rewriting.specs.RewritingLaws.{rewritten-proper, rewritten-form, rewritten-keeps, rewritten-only}
 use Rattle.places.specs.Holds.{Stand}
 use Rattle.places.specs.HoldsLaws.{lines-stand}
+use Rattle.places.specs.TextLaws.{linesOf, part-bytes}
 use Rattle.places.specs.Declared.{declared, caseOf}
 use Rattle.places.specs.DeclaredLaws.{number-held, declared-held, case-held, all-held, as-many, Found, stand-at}
 use Rattle.places.specs.Stored.{storedCount, storedItem}
@@ -32,7 +33,7 @@ use Rattle.places.specs.CaseLaws.{case-eight, declared-some}
 use Rattle.places.specs.WholeLaws.{Owned, byte-owned}
 use Rattle.theory.specs.Sets.{Set}
 use Rattle.theory.specs.Proper.{Ended, Proper}
-use Rattle.ends.specs.Ends.{CutInto}
+use Rattle.ends.specs.Ends.{CutInto, joined}
 use Rattle.ends.specs.EndsLaws.{ended-complete, ended-sound}
 use Rattle.theorems.specs.Reader.{outside, readLines}
 use Rattle.ends.specs.ShortLaws.{ended-short}
@@ -84,6 +85,11 @@ unfolding partsOf
 lister-places {sets} {bytes} p =
     let c : CutInto (p .columns) bytes = ended-complete (p .ends) in
     lines-stand (p .lines) (ended-short (p .ends)) 0 0 (cut bytes .lines) (c .same)
+
+-- The bytes from a part's first to the byte past its closing line are its lines: a delimiter, the number line, its own, a delimiter, each with its LF.
+pub lister-bytes : {sets : List Set} {bytes : List ℕ} → Proper sets bytes → (k : ℕ) (q : Parts.Part) (qs : List Parts.Part) → drop k (partsOf bytes) ≡ q ∷ qs
+    → take (Parts.pastOf q - q .bytes) (drop (q .bytes) bytes) ≡ joined (linesOf q) []
+lister-bytes {bytes = bytes} p k q qs e = part-bytes bytes k q qs (lister-places p) e
 
 -- It answers the number of sets of the list, and its rows are those parts', set by set.
 pub lister-answers : {sets : List Set} {bytes : List ℕ} → Proper sets bytes → (rows : List ℕ) → 6 * length sets ≤ length rows

@@ -1,7 +1,7 @@
 -- `lister::declared_count` meets its contract.
 use mathlib.Core.Path.{refl, _∙_}
 use borrow.Author.Tests.{eq-eqb, ne-eqb}
-use Rattle.lister.specs.Lister.{declaredAt}
+use Rattle.lister.specs.Found.{declaredAt}
 use native.Mathlib.Omega.{arith}
 use borrow.Author.Needs.{needs}
 use Rattle.lister.proofs.declared_count.Statement.{statement}

@@ -1,7 +1,7 @@
 -- `lister::put_row` meets its contract.
 use mathlib.Core.Path.{refl, _∙_}
 use lib.ListN.{length-set}
-use Rattle.lister.specs.Lister.{entryAt}
+use Rattle.lister.specs.Found.{entryAt}
 use Rattle.lister.specs.ListerLaws.{six}
 use native.Mathlib.Omega.{arith}
 use borrow.Author.Needs.{needs}

@@ -1,8 +1,8 @@
 -- `parts::put_line_at` meets its contract.
 use mathlib.Core.Path.{refl, ap, _∙_}
-use Rattle.parts.specs.Function.{lineFrom}
 use native.Mathlib.Omega.{arith}
 use borrow.Author.Needs.{needs}
+use Rattle.parts.specs.Scan.{lineFrom}
 use Rattle.parts.proofs.put_line_at.Statement.{statement}
 use Rattle.parts.proofs.put_line_at.Tie as tie
 

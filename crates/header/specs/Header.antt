@@ -1,0 +1,50 @@
+-- The writer's header judged (01, "Writer": "It is lent eleven header lines, judged as lines 1 to 11 of a set with lines counted from 1 (a twelfth
+-- is 8; 1 isn't given)"). Fewer lines are 7 at lines + 1; a twelfth is 8 whatever it is, after its own 2, 3, 4.
+use mathlib.Core.Bool.{true, false}
+use mathlib.Core.List.{List, [], _∷_}
+use Prim.Native.Nat.{ℕ, zero, suc, _+_}
+use lib.Dec.{ltb}
+use Rattle.laws.specs.Choice.{pick}
+use Rattle.laws.specs.Cut as Cut
+use Rattle.line.specs.Line.{columns, lineFault}
+use Rattle.walk.specs.declared.Place.{Place}
+use Rattle.walk.specs.declared.Place.the-variants.{Outside, Number, Plain, Typed}
+use Rattle.walk.specs.declared.State.{State}
+use Rattle.walk.specs.Due.{opening}
+use Rattle.walk.specs.Step.{state}
+use Rattle.judge.specs.Judge.{lineStep, Run, going, refused, onOutcome, reply}
+use Rattle.header.specs.declared.Header.{Header}
+
+-- number and place, and where the number is 0 the case of the 58 and how many numbers it stores
+abbrev pub answer : ℕ → ℕ → ℕ → ℕ → Header
+answer n p c s = record { number = n; place = p; case = c; stored = s }
+
+-- a 58 opens, before its line 1
+abbrev pub opened : State
+opened = state (Typed (opening 0)) 1
+
+-- the number of a line past the eleventh: its own refusal's, otherwise 8
+abbrev pub pastNumber : ℕ → ℕ
+pastNumber zero = 8
+pastNumber (suc m) = suc m
+
+-- one line more
+abbrev pub headerStep : Run → List ℕ → Run
+headerStep (going s n) l = pick (ltb n 11) (onOutcome n (lineStep s l)) (refused (reply (pastNumber (lineFault true (columns true l) .number)) (n + 1)))
+headerStep (refused r) l = refused r
+
+-- what eleven lines leave due: the numbers of the data lines
+abbrev pub leaves : Place → Header
+leaves Outside = answer 7 0 0 0
+leaves Number = answer 7 0 0 0
+leaves Plain = answer 7 0 0 0
+leaves (Typed d) = answer 0 0 (d .case) (d .left)
+
+-- at the end, with the bytes after the last LF
+abbrev pub headerEnd : Run → List ℕ → Header
+headerEnd (going s n) [] = pick (ltb n 11) (answer 7 (n + 1) 0 0) (leaves (s .place))
+headerEnd (going s n) (b ∷ bs) = answer (lineFault false (b ∷ bs) .number) (n + 1) 0 0
+headerEnd (refused r) rest = answer (r .number) (r .place) 0 0
+
+unfoldable pub headerOf : List ℕ → Header
+headerOf bytes = Cut.judge headerStep headerEnd (going opened 0) bytes

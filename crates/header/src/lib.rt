@@ -1,0 +1,105 @@
+// The writer's header: eleven lines of a 58, judged as lines 1 to 11 of a set.
+ghost use mathlib.Core.Path.{_≡_};
+ghost use mathlib.Core.Bool.{true};
+ghost use Prim.Native.Nat.{_≤_};
+ghost use Rattle.judge.specs.Judge.{going};
+ghost use Rattle.line.specs.Line.{columns, lineFault};
+ghost use Rattle.header.specs.Header.{answer, pastNumber, headerEnd, headerOf};
+use walk::Due;
+use walk::Outcome;
+use walk::Place;
+use walk::State;
+
+// Document 01's number and place; where the number is 0, the case of the 58 from 0, and how many numbers it stores.
+pub struct Header {
+    pub number: u8,
+    pub place: usize,
+    pub case: usize,
+    pub stored: usize,
+}
+
+// A header refused at a line.
+fn refuse(number: u8, place: usize) -> Header
+    ensures { λ r. ⌜ r ≡ answer number place 0 0 ⌝ }
+{
+    Header {
+        number,
+        place,
+        case: 0,
+        stored: 0,
+    }
+}
+
+// The refusal of a line past the eleventh: its own, otherwise 8.
+fn past_fault(line: &[u8]) -> u8
+    ensures { λ r. ⌜ r ≡ pastNumber (lineFault true (columns true (now (line .entry))) .number) ⌝ }
+{
+    let n = line::columns_len(line, true);
+    let fault = line::line_fault(&line[..n], true);
+    if 0 < fault.number {
+        return fault.number;
+    }
+    8
+}
+
+// The end of a header that was not refused before, with the bytes after its last LF.
+fn finish(s: State, lines: usize, rest: &[u8]) -> Header
+    requires { ⌜ lines ≤ 11 ⌝ }
+    ensures { λ r. ⌜ r ≡ headerEnd (going s lines) (now (rest .entry)) ⌝ }
+{
+    if 0 < rest.len() {
+        let fault = line::line_fault(rest, false);
+        return refuse(fault.number, lines + 1);
+    }
+    if lines < 11 {
+        return refuse(7, lines + 1);
+    }
+    let place = s.place;
+    match place {
+        Place::Outside => refuse(7, 0),
+        Place::Number => refuse(7, 0),
+        Place::Plain => refuse(7, 0),
+        Place::Typed(d) => Header {
+            number: 0,
+            place: 0,
+            case: d.case,
+            stored: d.left,
+        },
+    }
+}
+
+// The header judged: eleven lines, no more and no fewer.
+pub fn judge_header(header: &[u8]) -> Header
+    ensures { λ r. ⌜ r ≡ headerOf (now (header .entry)) ⌝ }
+{
+    let mut s = State {
+        place: Place::Typed(Due {
+            kind: 0,
+            at: 0,
+            case: 0,
+            left: 0,
+            second: 0,
+        }),
+        sets: 1,
+    };
+    let mut lines = 0;
+    let mut at = 0;
+    let mut end = line::find_end(header, at);
+    while end < header.len() {
+        if 11 <= lines {
+            return refuse(past_fault(&header[at..end]), lines + 1);
+        }
+        match judge::line_step(s, &header[at..end]) {
+            Outcome::Next(next) => {
+                s = next;
+            }
+            Outcome::Refused(fault) => {
+                return refuse(fault.number, lines + 1);
+            }
+        }
+        lines += 1;
+        at = end + 1;
+        end = line::find_end(header, at);
+    }
+    finish(s, lines, &header[at..])
+}

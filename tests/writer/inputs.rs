@@ -1,0 +1,181 @@
+//! Headers and numbers to lend to the writer, all from one seed. Headers are those of the sets 58
+//! that the judge's generator writes, proper, faulty or damaged.
+
+use crate::generate::{self, Random};
+use crate::writer::Form;
+
+/// The lines between the first number line of a 58 in a file and its data, so many at most.
+fn cut(file: &[u8], most: usize) -> Option<Vec<u8>> {
+    let lines: Vec<&[u8]> = file.split_inclusive(|&b| b == b'\n').collect();
+    let opens = |pair: &[&[u8]]| {
+        let delimiter = pair[0].trim_ascii_end() == b"    -1";
+        let digits = pair[1].trim_ascii().iter().skip_while(|b| b"+0".contains(b));
+        delimiter && digits.eq(b"58")
+    };
+    let opening = lines.windows(2).position(opens)?;
+    Some(lines[opening + 2..].iter().take(most).copied().collect::<Vec<_>>().concat())
+}
+
+/// The first header that the files have.
+fn first(mut file: impl FnMut() -> Vec<u8>, most: usize) -> Vec<u8> {
+    loop {
+        if let Some(header) = cut(&file(), most) {
+            return header;
+        }
+    }
+}
+
+/// Eleven good lines in any spelling.
+pub fn proper(random: &mut Random) -> Vec<u8> {
+    first(|| generate::proper(random).file, 11)
+}
+
+/// Wrong fields, lines and counts; now and then a line more or less.
+pub fn faulty(random: &mut Random) -> Vec<u8> {
+    let most = [9, 10, 11, 11, 11, 11, 11, 11, 12, 13][random.below(10)];
+    first(|| generate::faulty(random, 25), most)
+}
+
+/// Eleven good lines, changed once, twice or three times.
+pub fn damaged(random: &mut Random) -> Vec<u8> {
+    let mut header = proper(random);
+    generate::damage(random, &mut header);
+    while random.one_in(3) {
+        generate::damage(random, &mut header);
+    }
+    header
+}
+
+/// Numbers lent together.
+pub struct Numbers {
+    pub coefficients: Vec<i64>,
+    pub scales: Vec<i16>,
+}
+
+/// As many numbers as a header asks for, all of which can be written.
+pub fn writable(random: &mut Random, form: &Form) -> Numbers {
+    let decimals = (0..form.stored).map(|j| form.fields[j % form.fields.len()].decimals);
+    let (coefficients, scales) = decimals.map(|decimals| good(random, decimals)).unzip();
+    Numbers { coefficients, scales }
+}
+
+/// So many numbers of all sorts, for a header that is refused.
+pub fn any(random: &mut Random, stored: usize) -> Numbers {
+    let number = |random: &mut Random| {
+        if random.one_in(2) {
+            good(random, 12)
+        } else {
+            bad(random, 5)
+        }
+    };
+    let (coefficients, scales) = (0..stored).map(|_| number(random)).unzip();
+    Numbers { coefficients, scales }
+}
+
+/// Puts one to three numbers that can't be written among the others.
+pub fn spoil(random: &mut Random, numbers: &mut Numbers, form: &Form) {
+    for _ in 0..1 + random.below(3) {
+        let j = random.below(numbers.coefficients.len());
+        let decimals = form.fields[j % form.fields.len()].decimals;
+        (numbers.coefficients[j], numbers.scales[j]) = bad(random, decimals);
+    }
+}
+
+/// Makes one of the lengths wrong, or both.
+pub fn misfit(random: &mut Random, numbers: &mut Numbers) {
+    let (coefficients, scales) = (&mut numbers.coefficients, &mut numbers.scales);
+    match random.below(7) {
+        0 => coefficients.push(1),
+        1 => scales.push(0),
+        2 => {
+            coefficients.push(i64::MIN);
+            scales.push(0);
+        }
+        3 => coefficients.truncate(coefficients.len() - 1),
+        4 => scales.truncate(scales.len() - 1),
+        5 => {
+            coefficients.truncate(coefficients.len() - 1);
+            scales.truncate(scales.len() - 1);
+        }
+        _ => {
+            coefficients.clear();
+            scales.clear();
+        }
+    }
+}
+
+/// A scale of any size, often at an end of its range.
+fn any_scale(random: &mut Random) -> i16 {
+    match random.below(8) {
+        0 => i16::MIN,
+        1 => i16::MAX,
+        2 => -100,
+        3 => 100,
+        4 => 0,
+        _ => random.next() as i16,
+    }
+}
+
+/// A size of so many digits, none of them a zero at the end.
+fn digits(random: &mut Random, count: usize) -> i64 {
+    let most = 10i64.pow(count as u32) - 1;
+    let least = 10i64.pow(count as u32 - 1);
+    match random.below(6) {
+        0 => most,
+        1 if count > 1 => least + 1,
+        _ => {
+            let size = least + (random.next() >> 2) as i64 % (most - least + 1);
+            size + i64::from(size % 10 == 0)
+        }
+    }
+}
+
+/// A number of so many digits and this exponent, with zeros at its end and a sign at will.
+fn number(random: &mut Random, count: usize, exponent: i32) -> (i64, i16) {
+    let zeros = if random.one_in(2) { random.below(19 - count) } else { 0 };
+    let size = digits(random, count) * 10i64.pow(zeros as u32);
+    let coefficient = if random.one_in(3) { -size } else { size };
+    (coefficient, (exponent - (count + zeros) as i32 + 1) as i16)
+}
+
+/// A number that can be written with so many decimals.
+fn good(random: &mut Random, decimals: usize) -> (i64, i16) {
+    let exponent = match random.below(12) {
+        0 => 99,
+        1 => -99,
+        2 => 0,
+        3 => -1,
+        _ => random.below(199) as i32 - 99,
+    };
+    match random.below(16) {
+        0 | 1 => (0, any_scale(random)),
+        2 => number(random, decimals + 1, exponent),
+        // A power of ten, as far as i64 goes.
+        3 => {
+            let zeros = random.below(19);
+            (10i64.pow(zeros as u32), (exponent - zeros as i32) as i16)
+        }
+        _ => {
+            let count = 1 + random.below(decimals + 1);
+            number(random, count, exponent)
+        }
+    }
+}
+
+/// A number that can't be written with so many decimals.
+fn bad(random: &mut Random, decimals: usize) -> (i64, i16) {
+    let exponent = random.below(199) as i32 - 99;
+    match random.below(8) {
+        0 => number(random, decimals + 2, exponent),
+        1 => {
+            let count = decimals + 2 + random.below(17 - decimals);
+            number(random, count, exponent)
+        }
+        2 => number(random, 1 + decimals, 100),
+        3 => number(random, 1, -100),
+        4 => (i64::MIN, any_scale(random)),
+        5 => (i64::MAX, -18),
+        6 => (10i64.pow(random.below(19) as u32), i16::MAX),
+        _ => (-(10i64.pow(random.below(19) as u32)), i16::MIN),
+    }
+}
