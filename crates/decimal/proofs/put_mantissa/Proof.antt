@@ -1,0 +1,48 @@
+-- `decimal::put_mantissa` meets its contract.
+use Prim.Native.Nat.{_*_, _^_}
+use borrow.Author.Needs.{needs}
+use lib.ListN.{length-set}
+use Rattle.decimal.specs.PutLaws.{mantissa-laid}
+use Rattle.decimal.proofs.put_mantissa.Statement.{statement}
+use Rattle.decimal.proofs.put_mantissa.Tie as tie
+
+sub-put-digits : tie.Need-sub-put-digits
+sub-put-digits c = search needs
+
+part-put-digits-start : tie.Need-part-put-digits-start
+part-put-digits-start c = search needs
+
+part-put-digits-end : tie.Need-part-put-digits-end
+part-put-digits-end c = search needs
+
+put-digits-requires : tie.Need-put-digits-requires
+put-digits-requires c κs = search needs
+
+slice-read-out : tie.Need-slice-read-out
+slice-read-out c = search needs
+
+slice-write-out : tie.Need-slice-write-out
+slice-write-out c = search needs
+
+slice-write-out-2 : tie.Need-slice-write-out-2
+slice-write-out-2 c = simp length-set (search needs)
+
+same-length : tie.Need-same-length
+same-length c = search needs
+
+returns : tie.Need-returns
+returns c = mantissa-laid (c .before .before .before .before .before .before .args .out .now) (c .before .before .before .put-digits .last .0) (c .before .before .before .before .before .before .args .number * 10 ^ c .before .before .before .before .before .before .args .zeros) (c .before .before .before .before .before .before .pre) (c .before .before .before .put-digits .ensures)
+
+pub put-mantissa-spec : {M : Type 1} → statement M
+put-mantissa-spec =
+    tie.close
+    (tie.spec
+    sub-put-digits
+    part-put-digits-start
+    part-put-digits-end
+    put-digits-requires
+    slice-read-out
+    slice-write-out
+    slice-write-out-2
+    same-length
+    returns)

@@ -1,0 +1,79 @@
+-- `decimal::put_parts` meets its contract.
+use mathlib.Core.Path.{_∙_, ap}
+use Prim.Native.Nat.{_*_, _^_}
+use borrow.Author.Needs.{needs}
+use mir.Syntax.{w64}
+use mir.ValLaws.{toZ-ofZ}
+use Rattle.decimal.specs.Decimal.{exponentText}
+use Rattle.decimal.specs.PutLaws.{lead-room, lead-some, parts-laid}
+use Rattle.decimal.proofs.put_parts.Statement.{statement}
+use Rattle.decimal.proofs.put_parts.Tie as tie
+
+add-at : tie.Need-add-at
+add-at c = search needs
+
+sub-at : tie.Need-sub-at
+sub-at c = search needs
+
+sub-end : tie.Need-sub-end
+sub-end c = search needs
+
+slice-relend-prefix-put-lead : tie.Need-slice-relend-prefix-put-lead
+slice-relend-prefix-put-lead c = search needs
+
+slice-aggregate-put-lead : tie.Need-slice-aggregate-put-lead
+slice-aggregate-put-lead c = lead-room (c .before .before .args .out .now) (c .before .before .args .decimals) (c .before .before .pre)
+
+put-lead-requires : tie.Need-put-lead-requires
+put-lead-requires c κs = lead-some (c .before .before .args .out .now) (c .before .before .args .decimals) (c .before .before .pre)
+
+sub-put-mantissa : tie.Need-sub-put-mantissa
+sub-put-mantissa c = search needs
+
+part-put-mantissa-start : tie.Need-part-put-mantissa-start
+part-put-mantissa-start c = search needs
+
+part-put-mantissa-end : tie.Need-part-put-mantissa-end
+part-put-mantissa-end c = search needs
+
+put-mantissa-requires : tie.Need-put-mantissa-requires
+put-mantissa-requires c κs = search needs
+
+sub-put-exponent : tie.Need-sub-put-exponent
+sub-put-exponent c = search needs
+
+part-put-exponent-start : tie.Need-part-put-exponent-start
+part-put-exponent-start c = search needs
+
+part-put-exponent-end : tie.Need-part-put-exponent-end
+part-put-exponent-end c = search needs
+
+put-exponent-requires : tie.Need-put-exponent-requires
+put-exponent-requires c κs = search needs
+
+same-length : tie.Need-same-length
+same-length c = search needs
+
+returns : tie.Need-returns
+returns c = parts-laid (c .before .before .before .before .before .before .before .before .before .before .before .before .before .args .out .now) (c .before .before .before .before .before .before .before .before .before .before .before .before .before .args .decimals) (c .before .before .before .before .before .before .before .before .before .before .before .before .before .pre) (c .before .before .before .before .before .before .before .before .before .before .put-lead .last .0) (c .before .before .before .before .before .before .put-mantissa .last .0) (c .before .before .put-exponent .last .0) (c .before .before .before .before .before .before .before .before .before .before .before .before .before .args .number * 10 ^ c .before .before .before .before .before .before .before .before .before .before .before .before .before .args .zeros) (c .before .before .before .before .before .before .before .before .before .before .before .before .before .args .minus) (c .before .before .before .before .before .before .before .before .before .before .before .before .before .args .x) (c .before .before .before .before .before .before .before .before .before .before .put-lead .ensures) (c .before .before .before .before .before .before .put-mantissa .ensures) (c .before .before .put-exponent .ensures ∙ ap exponentText (toZ-ofZ w64 (c .before .before .before .before .before .before .before .before .before .before .before .before .before .args .x) (c .before .before .before .before .before .before .before .before .before .before .before .before .before .fits .x)))
+
+pub put-parts-spec : {M : Type 1} → statement M
+put-parts-spec =
+    tie.close
+    (tie.spec
+    add-at
+    sub-at
+    sub-end
+    slice-relend-prefix-put-lead
+    slice-aggregate-put-lead
+    put-lead-requires
+    sub-put-mantissa
+    part-put-mantissa-start
+    part-put-mantissa-end
+    put-mantissa-requires
+    sub-put-exponent
+    part-put-exponent-start
+    part-put-exponent-end
+    put-exponent-requires
+    same-length
+    returns)
