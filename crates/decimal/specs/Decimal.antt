@@ -41,7 +41,8 @@ unfoldable pub digitsOf : ℕ → ℕ → List ℕ
 digitsOf zero v = []
 digitsOf (suc w) v = (48 + v / 10 ^ w % 10) ∷ digitsOf w v
 
--- the d + 1 digits shown, as one number: the number without the zeros at its end, then zeros. Where it needs more digits its last ones stand.
+-- the d + 1 digits shown, as one number: the number without the zeros at its end, then zeros. Where it needs more digits this is all of
+-- them, and `coefficientText` shows the last d + 1.
 unfoldable pub shown : ℕ → ℕ → ℕ
 shown d n = short n * 10 ^ (d + 1 - count (short n))
 
@@ -49,9 +50,9 @@ shown d n = short n * 10 ^ (d + 1 - count (short n))
 unfoldable pub minusText : ℤ → List ℕ
 minusText c = pick (belowZero c) (45 ∷ []) []
 
--- "one digit .., the point, d digits"
-unfoldable pub mantissaText : ℕ → ℕ → List ℕ
-mantissaText d v = (48 + v / 10 ^ d % 10) ∷ 46 ∷ digitsOf d v
+-- "one digit .., the point, d digits": the last d + 1 digits of a number
+unfoldable pub coefficientText : ℕ → ℕ → List ℕ
+coefficientText d v = (48 + v / 10 ^ d % 10) ∷ 46 ∷ digitsOf d v
 
 -- the exponent's sign (true: minus)
 abbrev pub signByte : Bool → ℕ
@@ -63,9 +64,9 @@ exponentText x = 69 ∷ signByte (belowZero x) ∷ digitsOf 2 (natAbs x)
 
 -- the number with d decimals
 unfoldable pub numberText : ℕ → ℤ → ℤ → List ℕ
-numberText d c s = minusText c ++ (mantissaText d (shown d (natAbs c)) ++ exponentText (exponentOf (natAbs c) s))
+numberText d c s = minusText c ++ (coefficientText d (shown d (natAbs c)) ++ exponentText (exponentOf (natAbs c) s))
 
--- the number "right-aligned" in w columns; fewer than d + 7, which a number below zero needs, are left blank
+-- the number "right-aligned" in w columns; fewer than d + 7, which a number below zero needs, are filled with blanks, for any other too
 unfoldable pub fieldText : ℕ → ℕ → ℤ → ℤ → List ℕ
 fieldText w d c s =
     pick (ltb w (d + 7)) (replicate w 32) (replicate (w - length (numberText d c s)) 32 ++ numberText d c s)

@@ -21,7 +21,7 @@ use Rattle.real.specs.Spelling.{Letter, ExponentSign, TwoOrThree, RealSpelling,
 use Rattle.real.specs.Real.{belowZero, numberOf, realOf}
 use Rattle.real.specs.RealLaws.{realOf-complete}
 use Rattle.real.specs.EndLaws.{signed-size}
-use Rattle.decimal.specs.Decimal.{shortIn, count, short, exponentOf, fits, digitsOf, shown, minusText, mantissaText, signByte, exponentText, numberText, fieldText, leadText}
+use Rattle.decimal.specs.Decimal.{shortIn, count, short, exponentOf, fits, digitsOf, shown, minusText, coefficientText, signByte, exponentText, numberText, fieldText, leadText}
 use Rattle.decimal.specs.CountLaws.{countIn-least, countIn-above, countIn-below, shortIn-most, shortIn-above, Zeros, shortIn-zeros}
 use Rattle.decimal.specs.DigitLaws.{digitsOf-length}
 use Rattle.decimal.specs.PutLaws.{leadText-length, tail-length, field-blank, field-parts}
@@ -35,7 +35,7 @@ fieldText-length w d c s = ⊎-elim
     (below-or-not w (d + 7))
 
 -- the last digits of a number spell what is left of it
-ten-above : (w : ℕ) → 0 < 10 ^ w
+pub ten-above : (w : ℕ) → 0 < 10 ^ w
 ten-above w = one-le-pow w 10 (zero-lt-suc 9)
 
 next-digit : (m w v : ℕ) → (m * 10 + (48 + v / 10 ^ w % 10 - 48)) * 10 ^ w + v % 10 ^ w ≡ m * 10 ^ suc w + v % 10 ^ suc w
@@ -109,7 +109,7 @@ first-digit d n p h g =
 -- the field spells what it shows
 field-spelled : (w d : ℕ) (c s : ℤ) → d + 7 ≤ w → d ≤ 17 → shown d (natAbs c) < 10 ^ suc d → natAbs (exponentOf (natAbs c) s) < 100
     → RealSpelling (belowZero c) (shown d (natAbs c)) (exponentOf (natAbs c) s -ℤ pos d) (fieldText w d c s)
-unfolding fieldText numberText mantissaText exponentText
+unfolding fieldText numberText coefficientText exponentText
 field-spelled w d c s h g v x =
     let y : ℤ = exponentOf (natAbs c) s in
     let n : ℕ = shown d (natAbs c) in
@@ -128,7 +128,7 @@ pub data SameNumber : ℕ → ℤ → ℕ → ℤ → Type 0 where
   zeros : {s t : ℤ} → SameNumber 0 s 0 t
   moved : {n m : ℕ} {s t : ℤ} (a b : ℕ) → n * 10 ^ a ≡ m * 10 ^ b → s +ℤ pos b ≡ t +ℤ pos a → SameNumber n s m t
 
-move : (s : ℤ) (p a z d : ℕ) → p + a ≡ z + d → s +ℤ pos z ≡ s +ℤ pos p -ℤ pos d +ℤ pos a
+pub move : (s : ℤ) (p a z d : ℕ) → p + a ≡ z + d → s +ℤ pos z ≡ s +ℤ pos p -ℤ pos d +ℤ pos a
 move s p a z d h =
     let swap : s +ℤ pos p -ℤ pos d +ℤ pos a ≡ s +ℤ pos p +ℤ pos a -ℤ pos d =
     +ℤ-assoc (s +ℤ pos p) (negℤ (pos d)) (pos a)

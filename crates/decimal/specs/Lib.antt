@@ -5,4 +5,5 @@ pub mod SignLaws
 pub mod FitsLaws
 pub mod PutLaws
 pub mod DecimalLaws
+pub mod CompleteLaws
 pub mod Cases

@@ -16,7 +16,7 @@ use mir.Val.{SFits, toZ, ofZ}
 use mir.ValLaws.{toZ-ofZ}
 use Rattle.laws.specs.Choice.{pick}
 use Rattle.real.specs.Real.{belowZero}
-use Rattle.decimal.specs.Decimal.{leadText, digitsOf, signByte, mantissaText, minusText, exponentText, exponentOf, shown, short, count, numberText, fieldText}
+use Rattle.decimal.specs.Decimal.{leadText, digitsOf, signByte, coefficientText, minusText, exponentText, exponentOf, shown, short, count, numberText, fieldText}
 use Rattle.decimal.specs.SignLaws.{back, exponent-back}
 use Rattle.decimal.specs.DigitLaws.{digitsOf-length}
 
@@ -45,19 +45,19 @@ lead-minus l w m h e t =
     ∙ set-at (replicate (w - 1) 32) 32 [] 45 (w - 1) (length-replicate (w - 1) 32))
 
 -- the first of the digits goes one column to the left, and the point is put in its place
-pub mantissa-laid : (l ys : List ℕ) (v : ℕ) → 2 ≤ length l → ys ≡ digitsOf (length (take (length l - 1) (drop 1 l))) v
-    → set (set (putMid 1 (length l - 1) l ys) 0 (getD (putMid 1 (length l - 1) l ys) 1 0)) 1 46 ≡ mantissaText (length l - 2) v
-unfolding digitsOf mantissaText
-mantissa-laid [] ys v h e = absurd (omega arith)
-mantissa-laid (x ∷ []) ys v h e = absurd (omega arith)
-mantissa-laid (x ∷ y ∷ l) ys v h e =
+pub coefficient-laid : (l ys : List ℕ) (v : ℕ) → 2 ≤ length l → ys ≡ digitsOf (length (take (length l - 1) (drop 1 l))) v
+    → set (set (putMid 1 (length l - 1) l ys) 0 (getD (putMid 1 (length l - 1) l ys) 1 0)) 1 46 ≡ coefficientText (length l - 2) v
+unfolding digitsOf coefficientText
+coefficient-laid [] ys v h e = absurd (omega arith)
+coefficient-laid (x ∷ []) ys v h e = absurd (omega arith)
+coefficient-laid (x ∷ y ∷ l) ys v h e =
     let a : length (x ∷ y ∷ l) - 1 ≡ suc (length l) = omega arith in
     let b : length (x ∷ y ∷ l) - 2 ≡ length l = omega arith in
     let q : length (take (length (x ∷ y ∷ l) - 1) (y ∷ l)) ≡ suc (length l) = length-take-le (length (x ∷ y ∷ l) - 1) (y ∷ l) (omega arith) ∙ a in
     let z : drop (length (x ∷ y ∷ l) - 1) (y ∷ l) ≡ [] = rw a (drop-length l) in
     let p : putMid 1 (length (x ∷ y ∷ l) - 1) (x ∷ y ∷ l) ys ≡ x ∷ digitsOf (suc (length l)) v =
     rw (e, q) (ap (λ (r : List ℕ). x ∷ (digitsOf (suc (length l)) v ++ r)) z ∙ ap (λ (r : List ℕ). x ∷ r) (append-nil (digitsOf (suc (length l)) v))) in
-    ap (λ (m : List ℕ). set (set m 0 (getD m 1 0)) 1 46) p ∙ sym (ap (λ (k : ℕ). mantissaText k v) b)
+    ap (λ (m : List ℕ). set (set m 0 (getD m 1 0)) 1 46) p ∙ sym (ap (λ (k : ℕ). coefficientText k v) b)
 
 -- four columns are filled
 four : (l : List ℕ) (a b c d : ℕ) → length l ≡ 4 → set (set (set (set l 0 a) 1 b) 2 c) 3 d ≡ a ∷ b ∷ c ∷ d ∷ []
@@ -78,9 +78,9 @@ pub leadText-length : (w : ℕ) (m : Bool) → 0 < w → length (leadText w m) �
 unfolding leadText
 leadText-length w m h = length-append (replicate (w - 1) 32) (pick m 45 32 ∷ []) ∙ rw (length-replicate {A = ℕ} (w - 1) 32) (omega arith)
 
-mantissaText-length : (d v : ℕ) → length (mantissaText d v) ≡ d + 2
-unfolding mantissaText
-mantissaText-length d v = rw (digitsOf-length d v) (omega arith)
+coefficientText-length : (d v : ℕ) → length (coefficientText d v) ≡ d + 2
+unfolding coefficientText
+coefficientText-length d v = rw (digitsOf-length d v) (omega arith)
 
 exponentText-length : (x : ℤ) → length (exponentText x) ≡ 4
 unfolding exponentText digitsOf
@@ -113,11 +113,11 @@ module _ (l : List ℕ) (d : ℕ) (room : d + 7 ≤ length l) where
   lead-some = omega (arith, lead-room)
 
   pub parts-laid : (a m x : List ℕ) (v : ℕ) (b : Bool) (z : ℤ) → a ≡ leadText (length (take (length l - (d + 6)) l)) b
-      → m ≡ mantissaText (length (take (length l - 4 - (length l - (d + 6))) (drop (length l - (d + 6)) (a ++ drop (length l - (d + 6)) l))) - 2) v
+      → m ≡ coefficientText (length (take (length l - 4 - (length l - (d + 6))) (drop (length l - (d + 6)) (a ++ drop (length l - (d + 6)) l))) - 2) v
       → x ≡ exponentText z
       → putMid (length l - 4) (length (putMid (length l - (d + 6)) (length l - 4 - (length l - (d + 6))) (a ++ drop (length l - (d + 6)) l) m) - (length l - 4))
       (putMid (length l - (d + 6)) (length l - 4 - (length l - (d + 6))) (a ++ drop (length l - (d + 6)) l) m) x
-      ≡ leadText (length l - (d + 6)) b ++ (mantissaText d v ++ exponentText z)
+      ≡ leadText (length l - (d + 6)) b ++ (coefficientText d v ++ exponentText z)
   parts-laid a m x v b z p q r =
       let at : ℕ = length l - (d + 6) in
       let p′ : a ≡ leadText at b = rw lead-room p in
@@ -128,8 +128,8 @@ module _ (l : List ℕ) (d : ℕ) (room : d + 7 ≤ length l) where
       ap (λ (t : List ℕ). length (take (length l - 4 - at) t) - 2) f
       ∙ ap (λ (t : ℕ). t - 2) (length-take-le (length l - 4 - at) (drop at l) (rw (length-drop at l) (omega arith)))
       ∙ omega arith in
-      let q′ : m ≡ mantissaText d v = q ∙ ap (λ (t : ℕ). mantissaText t v) g in
-      three l a m x at (length l - 4) k (ap length q′ ∙ mantissaText-length d v ∙ sym w) (omega arith) ∙ rw (p′, q′, r) refl
+      let q′ : m ≡ coefficientText d v = q ∙ ap (λ (t : ℕ). coefficientText t v) g in
+      three l a m x at (length l - 4) k (ap length q′ ∙ coefficientText-length d v ∙ sym w) (omega arith) ∙ rw (p′, q′, r) refl
 
 -- a field with too few columns
 pub field-blank : (w d : ℕ) (c s : ℤ) → w < d + 7 → replicate w 32 ≡ fieldText w d c s
@@ -145,17 +145,17 @@ aligned w k true r e h =
     rw q (sym (append-assoc (replicate (w - k - 1) 32) (45 ∷ []) r))
 aligned w k false r e h = rw e (ap (λ (t : List ℕ). t ++ r) (lead-plain (w - k) false (omega arith) refl))
 
-pub tail-length : (d v : ℕ) (x : ℤ) → length (mantissaText d v ++ exponentText x) ≡ d + 6
-tail-length d v x = length-append (mantissaText d v) (exponentText x) ∙ rw (mantissaText-length d v, exponentText-length x) (omega arith)
+pub tail-length : (d v : ℕ) (x : ℤ) → length (coefficientText d v ++ exponentText x) ≡ d + 6
+tail-length d v x = length-append (coefficientText d v) (exponentText x) ∙ rw (coefficientText-length d v, exponentText-length x) (omega arith)
 
 pub field-parts : (w d : ℕ) (c s : ℤ) → d + 7 ≤ w
-    → fieldText w d c s ≡ leadText (w - (d + 6)) (belowZero c) ++ (mantissaText d (shown d (natAbs c)) ++ exponentText (exponentOf (natAbs c) s))
+    → fieldText w d c s ≡ leadText (w - (d + 6)) (belowZero c) ++ (coefficientText d (shown d (natAbs c)) ++ exponentText (exponentOf (natAbs c) s))
 unfolding fieldText numberText minusText
 field-parts w d c s h = rw (le-ltb w (d + 7) h) (aligned w (d + 6) (belowZero c) _ (tail-length d _ _) (omega arith))
 
 pub field-laid : (w d : ℕ) (c s : ℤ) (b : Bool) (n h k z : ℕ) (x : ℤ) → d + 7 ≤ w → SFits w64 c → SFits w16 s
     → b ≡ belowZero (back c) → n ≡ natAbs (back c) → h ≡ short n → k ≡ count h → z ≡ d + 1 - k → x ≡ exponentOf n (toZ w16 (ofZ w16 s))
-    → leadText (w - (d + 6)) b ++ (mantissaText d (h * 10 ^ z) ++ exponentText (back x)) ≡ fieldText w d c s
+    → leadText (w - (d + 6)) b ++ (coefficientText d (h * 10 ^ z) ++ exponentText (back x)) ≡ fieldText w d c s
 unfolding shown
 field-laid w d c s b n h k z x g f f′ p q r t u v =
     let p′ : b ≡ belowZero c = p ∙ ap belowZero (toZ-ofZ w64 c f) in

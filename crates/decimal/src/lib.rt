@@ -6,7 +6,7 @@ ghost use Prim.Native.Nat.{_+_, _-_, _*_, _≤_, _<_, _^_};
 ghost use lib.IntN.{natAbs};
 ghost use lib.ListN.{length, replicate};
 ghost use Rattle.real.specs.Real.{belowZero};
-ghost use Rattle.decimal.specs.Decimal.{count, short, exponentOf, fits, digitsOf, mantissaText, signByte, exponentText, fieldText, leadText};
+ghost use Rattle.decimal.specs.Decimal.{count, short, exponentOf, fits, digitsOf, coefficientText, signByte, exponentText, fieldText, leadText};
 
 // Whether the number is below zero.
 pub fn is_below(x: i64) -> bool
@@ -133,9 +133,9 @@ fn put_digits(out: &mut [u8], number: u64, zeros: usize)
 }
 
 // Fills the columns with one digit, the point and the other digits of the number with so many zeros after it.
-fn put_mantissa(out: &mut [u8], number: u64, zeros: usize)
+fn put_coefficient(out: &mut [u8], number: u64, zeros: usize)
     requires { ⌜ 2 ≤ length (now out) ⌝ }
-    ensures { λ _. ⌜ now (out .exit) ≡ mantissaText (length (now (out .entry)) - 2) (number * 10 ^ zeros) ⌝ }
+    ensures { λ _. ⌜ now (out .exit) ≡ coefficientText (length (now (out .entry)) - 2) (number * 10 ^ zeros) ⌝ }
 {
     put_digits(&mut out[1..], number, zeros);
     out[0] = out[1];
@@ -167,12 +167,12 @@ fn put_exponent(out: &mut [u8], x: i64)
 // Fills the columns with the parts of a number of so many decimals: what stands before it, its digits and its exponent.
 fn put_parts(out: &mut [u8], decimals: usize, minus: bool, number: u64, zeros: usize, x: i64)
     requires { ⌜ decimals + 7 ≤ length (now out) ⌝ }
-    ensures { λ _. ⌜ now (out .exit) ≡ leadText (length (now (out .entry)) - (decimals + 6)) minus ++ (mantissaText decimals (number * 10 ^ zeros) ++ exponentText x) ⌝ }
+    ensures { λ _. ⌜ now (out .exit) ≡ leadText (length (now (out .entry)) - (decimals + 6)) minus ++ (coefficientText decimals (number * 10 ^ zeros) ++ exponentText x) ⌝ }
 {
     let at = out.len() - (decimals + 6);
     let end = out.len() - 4;
     put_lead(&mut out[..at], minus);
-    put_mantissa(&mut out[at..end], number, zeros);
+    put_coefficient(&mut out[at..end], number, zeros);
     put_exponent(&mut out[end..], x);
 }
 

@@ -33,7 +33,7 @@ abbrev pub headerStep : Run → List ℕ → Run
 headerStep (going s n) l = pick (ltb n 11) (onOutcome n (lineStep s l)) (refused (reply (pastNumber (lineFault true (columns true l) .number)) (n + 1)))
 headerStep (refused r) l = refused r
 
--- what eleven lines leave due: the numbers of the data lines
+-- what eleven lines leave due: the numbers of the data lines. No other place is left (`writing`: `refused-place`)
 abbrev pub leaves : Place → Header
 leaves Outside = answer 7 0 0 0
 leaves Number = answer 7 0 0 0

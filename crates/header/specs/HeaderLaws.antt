@@ -49,7 +49,7 @@ module _ (s : State) (n : ℕ) where
   end-place (b ∷ bs) p h l e = absurd (omega arith)
 
 -- a refused run stays refused
-over-refused : (r : Reply) (ls : List (List ℕ)) → over headerStep headerEnd (refused r) ls ≡ refused r
+pub over-refused : (r : Reply) (ls : List (List ℕ)) → over headerStep headerEnd (refused r) ls ≡ refused r
 unfolding over
 over-refused r [] = refl
 over-refused r (l ∷ ls) = over-refused r ls

@@ -10,6 +10,7 @@ ghost use Rattle.text.specs.Parts.{signed};
 ghost use Rattle.judge.specs.Judge.{judged};
 ghost use Rattle.lister.specs.Lister.{listReply, listRows};
 ghost use Rattle.rewriter.specs.Rewriter.{rewriteReply, rewriteOut};
+ghost use Rattle.writer.specs.Writer.{writeReply, writeOut};
 ghost use Rattle.reader.specs.Reader.{said, shown, paper, paperNumber, numberOf, valueOf};
 use exact::bits;
 use exact::put_bytes;
@@ -172,5 +173,19 @@ pub extern "C" fn uff_rewrite(file: &[u8], out: &mut [u8]) -> u64
     ensures { λ r. ⌜ (r ≡ word (rewriteReply (now (file .entry)) (length (now (out .entry))))) × (now (out .exit) ≡ rewriteOut (now (file .entry)) (now (out .entry))) ⌝ }
 {
     let found = rewriter::rewrite(file, out);
+    pack(found.number, found.place)
+}
+
+// Document 01's writer: one 58, from its eleven header lines and its numbers, into the bytes lent; its length.
+#[no_mangle]
+pub extern "C" fn uff_write(
+    header: &[u8],
+    coefficients: &[i64],
+    scales: &[i16],
+    out: &mut [u8],
+) -> u64
+    ensures { λ r. ⌜ (r ≡ word (writeReply (now (header .entry)) (now (coefficients .entry)) (now (scales .entry)) (length (now (out .entry))))) × (now (out .exit) ≡ writeOut (now (header .entry)) (now (coefficients .entry)) (now (scales .entry)) (now (out .entry))) ⌝ }
+{
+    let found = writer::write(header, coefficients, scales, out);
     pack(found.number, found.place)
 }

@@ -1,7 +1,7 @@
 -- Bytes cut into finished lines and an open rest, and the laws that a loop over lines needs.
 use mathlib.Core.Path.{_≡_, refl, _∙_}
 use mathlib.Core.Bool.{Bool, true, false}
-use mathlib.Core.List.{List, [], _∷_}
+use mathlib.Core.List.{List, [], _∷_, _++_}
 use Prim.Native.Nat.{ℕ, suc, _+_, _-_, _≤_, _<_}
 use native.Mathlib.Numerals.{add-one}
 use native.Mathlib.Nat.{not-suc-le-zero, le-of-suc-le-suc}
@@ -60,6 +60,25 @@ unfolding cut
 cut-open [] h = refl
 cut-open (b ∷ bs) h = open-case b bs (eqb b 10) refl (cut-open bs) h
 
+-- bytes after a text: its finished lines, and then those of its rest with what follows
+abbrev further : Text → List ℕ → Text
+further t b = text (t .lines ++ cut (t .rest ++ b) .lines) (cut (t .rest ++ b) .rest)
+
+onto-further : (x : ℕ) (ls : List (List ℕ)) (r b : List ℕ) → eqb x 10 ≡ false → onto x (further (text ls r) b .lines) (further (text ls r) b .rest) ≡ further (onto x ls r) b
+unfolding cut
+onto-further x [] r b e = simp e
+onto-further x (l ∷ ls) r b e = refl
+
+byte-further : (x : ℕ) (a b : List ℕ) (t : Bool) → eqb x 10 ≡ t → cut (a ++ b) ≡ further (cut a) b → cut (x ∷ (a ++ b)) ≡ further (cut (x ∷ a)) b
+unfolding cut
+byte-further x a b true e ih = simp e (rw ih refl)
+byte-further x a b false e ih = simp e (rw ih (onto-further x (cut a .lines) (cut a .rest) b e))
+
+pub cut-append : (a b : List ℕ) → cut (a ++ b) ≡ text (cut a .lines ++ cut (cut a .rest ++ b) .lines) (cut (cut a .rest ++ b) .rest)
+unfolding cut
+cut-append [] b = refl
+cut-append (x ∷ a) b = byte-further x a b (eqb x 10) refl (cut-append a b)
+
 -- a loop that looks for LF: what is left to find from i on
 pub len-next : (l : List ℕ) (i : ℕ) → i < length l → (getD l i 0 ≡ 10 → ⊥) → lineLen (drop i l) ≡ suc (lineLen (drop (i + 1) l))
 unfolding lineLen
@@ -82,6 +101,11 @@ module _ {S A : Type 0} (step : S → List ℕ → S) (fin : S → List ℕ → 
   unfoldable pub over : S → List (List ℕ) → S
   over s [] = s
   over s (l ∷ ls) = over (step s l) ls
+
+  pub over-append : (s : S) (x y : List (List ℕ)) → over s (x ++ y) ≡ over (over s x) y
+  unfolding over
+  over-append s [] y = refl
+  over-append s (l ∷ x) y = over-append (step s l) x y
 
   unfoldable pub judge : S → List ℕ → A
   judge s l = fin (over s (cut l .lines)) (cut l .rest)

@@ -23,6 +23,7 @@ use Rattle.walk.specs.Due.{rowDue, isClosed, after}
 use Rattle.walk.specs.Step.{state, start, unless, outsideStep, numberStep, plainStep, typedStep, placeStep, stepOf}
 use Rattle.judge.specs.declared.Reply.{Reply}
 use Rattle.judge.specs.Judge.{judged, reply, lineOutcome, lineStep, Run, going, refused, onOutcome, runStep, runEnd}
+use Rattle.judge.specs.JudgeLaws.{over-refused}
 use Rattle.rewriter.specs.Rewriter.{rewrittenFile}
 use Rattle.rewriter.specs.RewriterLaws.{Fair, fair-passed, FairLines, none, more, rewritten-fair, file-fair, file-again}
 
@@ -60,7 +61,8 @@ data Met (l : List ℕ) (o : Outcome) : Type 0 where
   fair : Fair l → Sure o → Met l o
   stopped : (f : Refusal) → o ≡ Refused f → 0 < f .number → Met l o
 
-no-fault : (cs : List ℕ) → lineFault true cs .number ≡ 0 → lineFault true cs ≡ passed
+-- a line with no refusal of its own passes
+pub no-fault : (cs : List ℕ) → lineFault true cs .number ≡ 0 → lineFault true cs ≡ passed
 unfolding lineFault
 no-fault cs h = by (ltb 0 (firstBad 1 cs)) (ltb 80 (length cs)) h
   where
@@ -77,12 +79,6 @@ line-met s l = by (lineFault true (columns true l) .number) refl
     by : (n : ℕ) → lineFault true (columns true l) .number ≡ n → Met l (lineOutcome s (lineFault true (columns true l)) (columns true l))
     by zero e = fair (fair-passed l (no-fault (columns true l) e)) (rw e (sure-step s (filled (columns true l))))
     by (suc n) e = stopped (lineFault true (columns true l)) (rw e refl) (omega arith)
-
--- a refused run stays refused
-over-refused : (r : Reply) (ls : List (List ℕ)) → over runStep runEnd (refused r) ls ≡ refused r
-unfolding over
-over-refused r [] = refl
-over-refused r (l ∷ ls) = over-refused r ls
 
 -- after a line that is refused no file is accepted
 not-accepted : {A : Type 0} (f : Refusal) (n : ℕ) (ls : List (List ℕ)) (rest : List ℕ) → 0 < f .number

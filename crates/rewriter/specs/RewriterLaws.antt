@@ -89,25 +89,25 @@ module _ (l : List ℕ) (f : Fair l) where
   kept-closes = ap (λ (x : List ℕ). isDelimiter (filled x)) kept-same ∙ ap isDelimiter (filled-text (trimmed-sound (columns true l)) (f .short))
 
 -- the lines of a text
-cut-ended : {t : List ℕ} → Allowed t → (rest : List ℕ) → cut (ended t ++ rest) ≡ text (t ∷ cut rest .lines) (cut rest .rest)
+pub cut-ended : {t : List ℕ} → Allowed t → (rest : List ℕ) → cut (ended t ++ rest) ≡ text (t ∷ cut rest .lines) (cut rest .rest)
 unfolding cut
 cut-ended no-byte rest = refl
 cut-ended (byte {b} l u a) rest = rw (ne-eqb b 10 (λ e. omega arith), cut-ended a rest) refl
 
-cut-lines : {ls : List (List ℕ)} → Inner ls → (rest : List ℕ) → cut (linesText ls ++ rest) ≡ text (map keptOf ls ++ cut rest .lines) (cut rest .rest)
+pub cut-lines : {ls : List (List ℕ)} → Inner ls → (rest : List ℕ) → cut (linesText ls ++ rest) ≡ text (map keptOf ls ++ cut rest .lines) (cut rest .rest)
 unfolding linesText
 cut-lines none rest = refl
 cut-lines (more {l} {ls} f c i) rest = rw (append-assoc, cut-ended (kept-allowed l f) (linesText ls ++ rest), cut-lines i rest) refl
 
 -- a delimiter spelled plainly, without its LF
-abbrev plainDelimiter : List ℕ
+abbrev pub plainDelimiter : List ℕ
 plainDelimiter = 32 ∷ 32 ∷ 32 ∷ 32 ∷ 45 ∷ 49 ∷ []
 
 cut-delimiter : (rest : List ℕ) → cut (delimiterLine ++ rest) ≡ text (plainDelimiter ∷ cut rest .lines) (cut rest .rest)
 unfolding cut
 cut-delimiter rest = refl
 
-delimiter-closes : closes plainDelimiter ≡ true
+pub delimiter-closes : closes plainDelimiter ≡ true
 unfolding closes columns withoutReturn filled isDelimiter thenBlank allBlank
 delimiter-closes = refl
 
@@ -189,7 +189,7 @@ FairStand outside = Unit {0}
 FairStand (opened m b o) = Unit {0}
 FairStand (inside m b o v ls) = Inner ls
 
-inner-append : {a b : List (List ℕ)} → Inner a → Inner b → Inner (a ++ b)
+pub inner-append : {a b : List (List ℕ)} → Inner a → Inner b → Inner (a ++ b)
 inner-append none r = r
 inner-append (more f c i) r = more f c (inner-append i r)
 

@@ -39,7 +39,7 @@ fn kept_len(line: &[u8]) -> usize
 }
 
 // Puts a text and an LF at byte `at`; answers the byte past them.
-fn put_line(out: &mut [u8], at: usize, s: &[u8]) -> usize
+pub fn put_line(out: &mut [u8], at: usize, s: &[u8]) -> usize
     requires { ⌜ at + length (ended (now s)) ≤ length (now out) ⌝ }
     ensures { λ r. ⌜ (r ≡ at + length (ended (now (s .entry)))) × (now (out .exit) ≡ placed at (ended (now (s .entry))) (now (out .entry))) ⌝ }
 {
@@ -55,7 +55,7 @@ fn put_line(out: &mut [u8], at: usize, s: &[u8]) -> usize
 }
 
 // The length of what is kept of the lines that begin at byte `from` and stop before byte `closing`.
-fn body_len(file: &[u8], from: usize, closing: usize) -> usize
+pub fn body_len(file: &[u8], from: usize, closing: usize) -> usize
     requires { ⌜ from ≤ length (now file) ⌝ }
     ensures { λ r. ⌜ r ≡ length (bodyText closing from (now (file .entry))) ⌝ }
 {
@@ -73,7 +73,7 @@ fn body_len(file: &[u8], from: usize, closing: usize) -> usize
 }
 
 // Puts what is kept of these lines at byte `at`; answers the byte past it.
-fn put_body(out: &mut [u8], at: usize, file: &[u8], from: usize, closing: usize) -> usize
+pub fn put_body(out: &mut [u8], at: usize, file: &[u8], from: usize, closing: usize) -> usize
     requires { ⌜ (from ≤ length (now file)) × (at + length (bodyText closing from (now file)) ≤ length (now out)) ⌝ }
     ensures { λ r. ⌜ (r ≡ at + length (bodyText closing from (now (file .entry)))) × (now (out .exit) ≡ placed at (bodyText closing from (now (file .entry))) (now (out .entry))) ⌝ }
 {
@@ -92,7 +92,7 @@ fn put_body(out: &mut [u8], at: usize, file: &[u8], from: usize, closing: usize)
 }
 
 // Puts the lines that open a set of this number at byte `at`; answers the byte past them.
-fn put_head(out: &mut [u8], at: usize, number: u32) -> usize
+pub fn put_head(out: &mut [u8], at: usize, number: u32) -> usize
     requires { ⌜ at + length (headText number) ≤ length (now out) ⌝ }
     ensures { λ r. ⌜ (r ≡ at + length (headText number)) × (now (out .exit) ≡ placed at (headText number) (now (out .entry))) ⌝ }
 {

@@ -1,8 +1,12 @@
--- Document 01's example listed, an untidy file rewritten, and the kinds of the eight cases, computed from the definitions.
-use mathlib.Core.Path.{_≡_, refl}
+-- Document 01's example listed and its 58 written, an untidy file rewritten, and the kinds of the eight cases, computed from the definitions.
+use mathlib.Core.Path.{_≡_, refl, ap}
 use mathlib.Core.List as L
 use mathlib.Core.List.{List, _++_}
 use Prim.Native.Nat.{ℕ}
+use Prim.Native.String.{String}
+use lib.IntN.{ℤ, pos, negsuc}
+use native.Mathlib.Omega.{arith}
+use lib.ListN.{getD, drop, replicate}
 use mathlib.Core.List.{map}
 use Rattle.laws.specs.Run.{run}
 use Rattle.laws.specs.Cut.{cut, over, judge}
@@ -31,6 +35,9 @@ use Rattle.lister.specs.Lister.{entry, rowsOf, listReply, listRows}
 use Rattle.reader.specs.Reader as Reader
 use Rattle.rewriter.specs.Rewriter as W
 use Rattle.judge.specs.Judge.{reply}
+use Rattle.header.specs.Header.{answer, headerOf}
+use Rattle.decimal.specs.Decimal.{countIn, shortIn, exponentOf, fits, digitsOf, shown, minusText, coefficientText, exponentText, numberText, fieldText}
+use Rattle.writer.specs.Writer.{decimalsOf, widthAt, fitsAt, firstUnfit, dataText, writtenSet, laidReply, writeReply, writeOut}
 use Rattle.theorems.specs.Text.{none, _⊕_}
 use Rattle.judge.specs.Judge.{lineStep, judged}
 
@@ -67,3 +74,59 @@ untidy-rewritten = refl
 pub kinds : map Reader.kindOf (0 ◂ 1 ◂ 2 ◂ 3 ◂ 4 ◂ 5 ◂ 6 ◂ 7 ◂ L.[]) ≡ 1 ◂ 3 ◂ 2 ◂ 4 ◂ 1 ◂ 3 ◂ 2 ◂ 4 ◂ L.[]
 unfolding layouts layoutOf Reader.kindOf Reader.isComplex Reader.isUneven
 kinds = refl
+
+-- a header, by its line 7; with blanks at the end of a line
+abbrev headed : String → List ℕ
+headed seventh =
+    "Drive end bearing"
+    ⊕ "NONE" ⊕ "NONE   " ⊕ "NONE"
+    ⊕ "NONE" ⊕ "    1         1    0         0 NONE               7   3 NONE               0   0" ⊕ seventh
+    ⊕ "        17    0    0    0 Time                 s" ⊕ "        12    0    0    0 Acceleration         m/s2" ⊕ "         0    0    0    0 NONE                 NONE"
+    ⊕ "         0    0    0    0 NONE                 NONE" ⊕ none
+
+-- the example's, and its numbers
+abbrev header : List ℕ
+header = headed "         2         7         1  0.00000E+00  1.00000E-03  0.00000E+00"
+
+abbrev coefficients : List ℤ
+coefficients = L._∷_ (pos 1) (L._∷_ (negsuc 1) (L._∷_ (pos 3) (L._∷_ (negsuc 3) (L._∷_ (pos 500) (L._∷_ (negsuc 5) (L._∷_ (pos 7) L.[]))))))
+
+abbrev scales : List ℤ
+scales = L._∷_ (negsuc 0) (L._∷_ (negsuc 0) (L._∷_ (negsuc 0) (L._∷_ (negsuc 0) (L._∷_ (negsuc 2) (L._∷_ (negsuc 0) (L._∷_ (negsuc 0) L.[]))))))
+
+-- they are written as its text, from the byte 164 on, in 508 bytes; 507 are too few; a scale too few is 22; a number of seven digits is 19 at its index,
+-- before 20; with a number too few, one that does not fit and no room it is 22; of a header that is refused, its refusal
+pub example-written : (headerOf header ≡ answer 0 0 0 7)
+    × ((writtenSet header 0 coefficients scales ≡ drop 164 example)
+    × ((writeReply header coefficients scales 508 ≡ reply 0 508)
+    × ((writeReply header coefficients scales 507 ≡ reply 20 0)
+    × ((writeReply header coefficients (drop 1 scales) 508 ≡ reply 22 0)
+    × ((writeReply header (L._∷_ (pos 1) (L._∷_ (pos 1000001) (drop 2 coefficients))) scales 0 ≡ reply 19 1)
+    × ((writeReply header (L._∷_ (pos 1000001) L.[]) scales 0 ≡ reply 22 0)
+    × (writeReply (headed "         3") L.[] scales 0 ≡ reply 11 7)))))))
+unfolding judged judge over cut run allBlank trimmed isDigit I.push stepInteger endInteger integerOf R.push R.next R.onCoefficient R.onExponent R.onDigit R.onSign R.onPoint R.onLetter R.onBlank R.isLetter R.scanStep R.realEnd R.realOf isAllowed withoutReturn columns firstBad lineFault filled thenBlank isDelimiter datasetNumber keeps fieldStart layouts layoutOf caseOf numbersOf mayBlank fieldNumber firstNotAbove breach records recordOf dataRow kindOf isTyped sequences sequence fieldsFault firstByte stray itemsOf conditionFault fieldsRefusal rowRefusal recordDue listRow rowDue isClosed settled numberIn caseIn afterRecord afterList after opened outsideStep numberStep plainStep typedStep stepOf lineStep P.closes P.bytesIn P.partsFrom P.partsOf P.numberOf P.lineStart P.lineOf F.caseOf F.countOf F.storedOf F.dataLine F.firstByte F.pastByte fieldsOf C.lineOf C.fieldOf C.fieldPast F.dataStart P.pastOf P.throughOf entry rowsOf listReply listRows W.digitOrBlank W.plainIn W.plainNumber W.keptOf W.linesText W.headText W.setText W.rewrittenSet W.rewritten headerOf countIn shortIn exponentOf fits digitsOf shown minusText coefficientText exponentText numberText fieldText decimalsOf widthAt fitsAt firstUnfit dataText writtenSet laidReply writeReply
+example-written = (refl, (refl, (refl, (refl, (refl, (refl, (refl, refl)))))))
+
+-- the data lines of each case from 5 to 8 for the numbers 0, -0.5, 0.001 and 2500: fields of 13 and of 20 columns
+pub double-lines : map (λ (c : ℕ). dataText c 0 (L._∷_ (pos 0) (L._∷_ (negsuc 4) (L._∷_ (pos 1) (L._∷_ (pos 25) L.[])))) (L._∷_ (pos 9) (L._∷_ (negsuc 0) (L._∷_ (negsuc 2) (L._∷_ (pos 2) L.[]))))) (4 ◂ 5 ◂ 6 ◂ 7 ◂ L.[])
+    ≡ L._∷_ ("  0.000000000000E+00 -5.000000000000E-01  1.000000000000E-03  2.500000000000E+03" ⊕ none)
+    (L._∷_ ("  0.00000E+00 -5.000000000000E-01  1.00000E-03  2.500000000000E+03" ⊕ none)
+    (L._∷_ ("  0.000000000000E+00 -5.000000000000E-01  1.000000000000E-03  2.500000000000E+03" ⊕ none)
+    (L._∷_ ("  0.00000E+00 -5.000000000000E-01  1.000000000000E-03" ⊕ "  2.50000E+03" ⊕ none) L.[])))
+unfolding layouts layoutOf fieldsOf C.fieldOf countIn shortIn exponentOf digitsOf shown minusText coefficientText exponentText numberText fieldText decimalsOf widthAt dataText
+double-lines = refl
+
+-- A writer that touches nothing differs there in the first byte; one that has laid the opening lines before it finds the room too short differs too.
+pub touches-nothing : replicate 508 0 ≡ writeOut header coefficients scales (replicate 508 0) → ⊥
+unfolding writeOut
+touches-nothing e =
+    let w = example-written in
+    let z : _≡_ {A = ℕ} 0 32 = ap (λ (l : List ℕ). getD l 0 0) (rw (w .1 .1 .0, w .0, w .1 .0) at e) in
+    omega arith
+
+pub writing-began : W.headText 58 ++ drop 14 (replicate 507 0) ≡ writeOut header coefficients scales (replicate 507 0) → ⊥
+unfolding writeOut W.headText
+writing-began e =
+    let w = example-written in
+    let z : _≡_ {A = ℕ} 32 0 = ap (λ (l : List ℕ). getD l 0 0) (rw (w .1 .1 .1 .0) at e) in
+    omega arith

@@ -15,6 +15,8 @@ pub mod Answers
 pub mod AnswersLaws
 pub mod Columns
 pub mod ColumnsLaws
+pub mod LaidOut
+pub mod LaidOutLaws
 pub mod Theorems
 pub mod Text
 pub mod Named

@@ -6,6 +6,7 @@ use mathlib.Core.List.{List, [], _∷_, _++_, map}
 use Prim.Native.Nat.{ℕ, suc, _+_, _*_, _-_, _<_, _≤_}
 use native.Mathlib.Omega.{arith}
 use borrow.Author.Tests.{le-ltb}
+use lib.IntN.{ℤ, pos}
 use lib.ListN.{length, getD, take, drop, drop-of-length-le}
 use Rattle.laws.specs.Cut.{cut}
 use Rattle.line.specs.Line.{columns}
@@ -22,6 +23,13 @@ use Rattle.reader.specs.Reader.{said, refused, setsFrom, shownOf, numberOf, val
 use Rattle.rewriter.specs.Rewriter.{rewrittenFile, rewriteReply, rewriteOut}
 use Rattle.rewriting.specs.Form.{InForm, KeepsSpellings}
 use Rattle.rewriting.specs.RewritingLaws.{rewritten-proper, rewritten-form, rewritten-keeps, rewritten-only}
+use Rattle.header.specs.declared.Header.{Header}
+use Rattle.header.specs.Header.{headerOf}
+use Rattle.writer.specs.Writer.{writtenSet, writeReply, writeOut}
+use Rattle.writing.specs.DataLines.{lentFile}
+use Rattle.writing.specs.HeaderRunLaws.{header-passed}
+use Rattle.writing.specs.LentLaws.{lent-accepted}
+use Rattle.writing.specs.ReplyLaws.{Coefficients, Answered, answered, answered-fit}
 use Rattle.places.specs.Holds.{Stand}
 use Rattle.places.specs.HoldsLaws.{lines-stand}
 use Rattle.places.specs.TextLaws.{linesOf, part-bytes}
@@ -39,10 +47,13 @@ use Rattle.theorems.specs.Reader.{outside, readLines}
 use Rattle.ends.specs.ShortLaws.{ended-short}
 use Rattle.theorems.specs.ReaderComplete.{reader-complete}
 use Rattle.theorems.specs.ReaderSound.{reader-sound}
-use Rattle.theorems.specs.Answers.{realOfItem, valueSaid, ownBytes, Answered}
+use Rattle.theorems.specs.Answers as Answers
+use Rattle.theorems.specs.Answers.{realOfItem, valueSaid, ownBytes}
 use Rattle.theorems.specs.AnswersLaws.{value-own, valueWith-same, number-answered, number-past, number-other, number-asked, value-answered, value-past, value-other, value-asked, item-own, real-same}
 use Rattle.theorems.specs.Columns.{Within, Columns, OfValue}
 use Rattle.theorems.specs.ColumnsLaws.{owned-within, data-start, inside-data, within-once, of-value}
+use Rattle.theorems.specs.LaidOut.{LaidOut, ReadAs}
+use Rattle.theorems.specs.LaidOutLaws.{laid-out, read-as}
 use Rattle.theorems.specs.Accepted.{Accepted}
 use Rattle.theorems.specs.AcceptedLaws.{judged-accepted, accepted-judged}
 
@@ -148,7 +159,7 @@ same-part f c = let q : f .part ∷ f .others ≡ c .part ∷ c .others = sym (f
 -- READER. Stored number j of set k of the list, a 58: its answer shows its own columns and the sign, coefficient and scale of the list's item,
 -- and the bytes of those columns spell just that.
 pub reader-numbers : {sets : List Set} {bytes : List ℕ} → Proper sets bytes → (k : ℕ) (s : Set) (rest : List Set) → drop k sets ≡ s ∷ rest → s .number ≡ 58
-    → (c : Columns bytes k s) (j : ℕ) → j < storedCount s → Answered bytes (suc k) j s (c .part)
+    → (c : Columns bytes k s) (j : ℕ) → j < storedCount s → Answers.Answered bytes (suc k) j s (c .part)
 unfolding setsFrom
 reader-numbers {sets} {bytes} p k s rest d e c j l =
     let f = set-found p k s rest d in
@@ -156,7 +167,7 @@ reader-numbers {sets} {bytes} p k s rest d e c j l =
     let x = item-own bytes (f .others) w (f .holds) e j l .0 in
     let a : numberOf bytes (suc k) j ≡ shownOf (Function.firstByte (f .part) j) (Function.pastByte (f .part) j) (realOfItem (storedItem s j))
     = number-asked bytes (suc k) j (accepted-zero p) ∙ rw (f .sets) (number-answered bytes (f .others) w (f .holds) e j l) in
-    subst (Answered bytes (suc k) j s) (same-part f c)
+    subst (Answers.Answered bytes (suc k) j s) (same-part f c)
     (record {
       sign = x .minus;
       coefficient = x .coefficient;
@@ -260,3 +271,36 @@ pub rewriter-answers : {sets : List Set} {bytes : List ℕ} → Proper sets byte
     → (rewriteReply bytes (length out) ≡ reply 0 (length (rewrittenFile bytes))) × (rewriteOut bytes out ≡ rewrittenFile bytes ++ drop (length (rewrittenFile bytes)) out)
 unfolding rewriteOut rewriteReply
 rewriter-answers {sets} {bytes} p out h = (rw (proper-accepted p, le-ltb (length out) (length (rewrittenFile bytes)) h) refl, rw (proper-accepted p, le-ltb (length out) (length (rewrittenFile bytes)) h) refl)
+
+-- WRITER. Where it answers a length, with coefficients of a size that an i64 can have, the text is a proper writing of one 58 with the header's items, and
+-- the stored numbers are the given ones, index by index; it is in rewritten form (LaidOut.antt).
+pub writer-lays : (header : List ℕ) (xs ss : List ℤ) (room : ℕ) → Coefficients xs → writeReply header xs ss room .number ≡ 0 → LaidOut header xs ss
+writer-lays header xs ss room k z =
+    let a = answered header xs ss room z in
+    let f = answered-fit header xs ss room k a in
+    let p = header-passed header (a .passes) in
+    let q = accepted-proper (lentFile header (headerOf header .case) xs ss) _ (lent-accepted header p xs ss (a .stored) f) in
+    laid-out header p xs ss (a .stored) f (q .1) (lister-places (q .1))
+
+-- The length that it answers is that text's, and the bytes lent hold it and then their own rest.
+pub writer-answers : (header : List ℕ) (xs ss : List ℤ) (out : List ℕ) → writeReply header xs ss (length out) .number ≡ 0
+    → (length (writtenSet header (headerOf header .case) xs ss) ≤ length out)
+    × ((writeReply header xs ss (length out) ≡ reply 0 (length (writtenSet header (headerOf header .case) xs ss)))
+    × (writeOut header xs ss out ≡ writtenSet header (headerOf header .case) xs ss ++ drop (length (writtenSet header (headerOf header .case) xs ss)) out))
+unfolding writeOut
+writer-answers header xs ss out z =
+    let a = answered header xs ss (length out) z in
+    (a .short, (a .reply-is, rw (a .reply-is) refl))
+
+-- The judge accepts the text, and rewriting it changes nothing.
+pub writer-accepted : {header : List ℕ} {xs ss : List ℤ} → LaidOut header xs ss
+    → (judged (writtenSet header (headerOf header .case) xs ss) .number ≡ 0)
+    × (rewrittenFile (writtenSet header (headerOf header .case) xs ss) ≡ writtenSet header (headerOf header .case) xs ss)
+writer-accepted l = (accepted-zero (l .proper), l .again)
+
+-- The reader, asked for stored number j of its only set, shows a number of the given sign that is the given number.
+pub writer-read : {header : List ℕ} {xs ss : List ℤ} (l : LaidOut header xs ss) (j : ℕ) → j < length xs
+    → ReadAs (writtenSet header (headerOf header .case) xs ss) j (getD xs j (pos 0)) (getD ss j (pos 0))
+writer-read {header} {xs} {ss} l j h =
+    let c = values-in-columns (l .proper) 0 (l .set) [] refl (l .number) in
+    read-as (l .back j h) (reader-numbers (l .proper) 0 (l .set) [] refl (l .number) c j (rw (l .count) h))

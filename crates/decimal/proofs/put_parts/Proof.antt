@@ -27,17 +27,17 @@ slice-aggregate-put-lead c = lead-room (c .before .before .args .out .now) (c .b
 put-lead-requires : tie.Need-put-lead-requires
 put-lead-requires c κs = lead-some (c .before .before .args .out .now) (c .before .before .args .decimals) (c .before .before .pre)
 
-sub-put-mantissa : tie.Need-sub-put-mantissa
-sub-put-mantissa c = search needs
+sub-put-coefficient : tie.Need-sub-put-coefficient
+sub-put-coefficient c = search needs
 
-part-put-mantissa-start : tie.Need-part-put-mantissa-start
-part-put-mantissa-start c = search needs
+part-put-coefficient-start : tie.Need-part-put-coefficient-start
+part-put-coefficient-start c = search needs
 
-part-put-mantissa-end : tie.Need-part-put-mantissa-end
-part-put-mantissa-end c = search needs
+part-put-coefficient-end : tie.Need-part-put-coefficient-end
+part-put-coefficient-end c = search needs
 
-put-mantissa-requires : tie.Need-put-mantissa-requires
-put-mantissa-requires c κs = search needs
+put-coefficient-requires : tie.Need-put-coefficient-requires
+put-coefficient-requires c κs = search needs
 
 sub-put-exponent : tie.Need-sub-put-exponent
 sub-put-exponent c = search needs
@@ -55,7 +55,7 @@ same-length : tie.Need-same-length
 same-length c = search needs
 
 returns : tie.Need-returns
-returns c = parts-laid (c .before .before .before .before .before .before .before .before .before .before .before .before .before .args .out .now) (c .before .before .before .before .before .before .before .before .before .before .before .before .before .args .decimals) (c .before .before .before .before .before .before .before .before .before .before .before .before .before .pre) (c .before .before .before .before .before .before .before .before .before .before .put-lead .last .0) (c .before .before .before .before .before .before .put-mantissa .last .0) (c .before .before .put-exponent .last .0) (c .before .before .before .before .before .before .before .before .before .before .before .before .before .args .number * 10 ^ c .before .before .before .before .before .before .before .before .before .before .before .before .before .args .zeros) (c .before .before .before .before .before .before .before .before .before .before .before .before .before .args .minus) (c .before .before .before .before .before .before .before .before .before .before .before .before .before .args .x) (c .before .before .before .before .before .before .before .before .before .before .put-lead .ensures) (c .before .before .before .before .before .before .put-mantissa .ensures) (c .before .before .put-exponent .ensures ∙ ap exponentText (toZ-ofZ w64 (c .before .before .before .before .before .before .before .before .before .before .before .before .before .args .x) (c .before .before .before .before .before .before .before .before .before .before .before .before .before .fits .x)))
+returns c = parts-laid (c .before .before .before .before .before .before .before .before .before .before .before .before .before .args .out .now) (c .before .before .before .before .before .before .before .before .before .before .before .before .before .args .decimals) (c .before .before .before .before .before .before .before .before .before .before .before .before .before .pre) (c .before .before .before .before .before .before .before .before .before .before .put-lead .last .0) (c .before .before .before .before .before .before .put-coefficient .last .0) (c .before .before .put-exponent .last .0) (c .before .before .before .before .before .before .before .before .before .before .before .before .before .args .number * 10 ^ c .before .before .before .before .before .before .before .before .before .before .before .before .before .args .zeros) (c .before .before .before .before .before .before .before .before .before .before .before .before .before .args .minus) (c .before .before .before .before .before .before .before .before .before .before .before .before .before .args .x) (c .before .before .before .before .before .before .before .before .before .before .put-lead .ensures) (c .before .before .before .before .before .before .put-coefficient .ensures) (c .before .before .put-exponent .ensures ∙ ap exponentText (toZ-ofZ w64 (c .before .before .before .before .before .before .before .before .before .before .before .before .before .args .x) (c .before .before .before .before .before .before .before .before .before .before .before .before .before .fits .x)))
 
 pub put-parts-spec : {M : Type 1} → statement M
 put-parts-spec =
@@ -67,10 +67,10 @@ put-parts-spec =
     slice-relend-prefix-put-lead
     slice-aggregate-put-lead
     put-lead-requires
-    sub-put-mantissa
-    part-put-mantissa-start
-    part-put-mantissa-end
-    put-mantissa-requires
+    sub-put-coefficient
+    part-put-coefficient-start
+    part-put-coefficient-end
+    put-coefficient-requires
     sub-put-exponent
     part-put-exponent-start
     part-put-exponent-end

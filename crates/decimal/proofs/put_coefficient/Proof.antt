@@ -1,10 +1,10 @@
--- `decimal::put_mantissa` meets its contract.
+-- `decimal::put_coefficient` meets its contract.
 use Prim.Native.Nat.{_*_, _^_}
 use borrow.Author.Needs.{needs}
 use lib.ListN.{length-set}
-use Rattle.decimal.specs.PutLaws.{mantissa-laid}
-use Rattle.decimal.proofs.put_mantissa.Statement.{statement}
-use Rattle.decimal.proofs.put_mantissa.Tie as tie
+use Rattle.decimal.specs.PutLaws.{coefficient-laid}
+use Rattle.decimal.proofs.put_coefficient.Statement.{statement}
+use Rattle.decimal.proofs.put_coefficient.Tie as tie
 
 sub-put-digits : tie.Need-sub-put-digits
 sub-put-digits c = search needs
@@ -31,10 +31,10 @@ same-length : tie.Need-same-length
 same-length c = search needs
 
 returns : tie.Need-returns
-returns c = mantissa-laid (c .before .before .before .before .before .before .args .out .now) (c .before .before .before .put-digits .last .0) (c .before .before .before .before .before .before .args .number * 10 ^ c .before .before .before .before .before .before .args .zeros) (c .before .before .before .before .before .before .pre) (c .before .before .before .put-digits .ensures)
+returns c = coefficient-laid (c .before .before .before .before .before .before .args .out .now) (c .before .before .before .put-digits .last .0) (c .before .before .before .before .before .before .args .number * 10 ^ c .before .before .before .before .before .before .args .zeros) (c .before .before .before .before .before .before .pre) (c .before .before .before .put-digits .ensures)
 
-pub put-mantissa-spec : {M : Type 1} → statement M
-put-mantissa-spec =
+pub put-coefficient-spec : {M : Type 1} → statement M
+put-coefficient-spec =
     tie.close
     (tie.spec
     sub-put-digits

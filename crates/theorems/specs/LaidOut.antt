@@ -1,0 +1,52 @@
+-- What the writer lays out from a header and numbers.
+use mathlib.Core.Path.{_≡_}
+use mathlib.Core.List.{List, [], _∷_}
+use Prim.Native.Nat.{ℕ, _<_}
+use lib.IntN.{ℤ, pos, natAbs}
+use lib.ListN.{length, getD}
+use Rattle.laws.specs.Cut.{cut}
+use Rattle.rows.specs.Records.{recordOf}
+use Rattle.rows.specs.Sequence.{sequence}
+use Rattle.record.specs.Written.{Written}
+use Rattle.parts.specs.Parts.{columnsIn}
+use Rattle.header.specs.declared.Header.{Header}
+use Rattle.header.specs.Header.{headerOf}
+use Rattle.real.specs.Real.{belowZero}
+use Rattle.decimal.specs.DecimalLaws.{SameNumber}
+use Rattle.reader.specs.Reader.{said, shown, numberOf}
+use Rattle.rewriter.specs.Rewriter.{rewrittenFile}
+use Rattle.rewriting.specs.Form.{InForm}
+use Rattle.writer.specs.Writer.{writtenSet}
+use Rattle.writing.specs.DataLines.{lentFile}
+use Rattle.writing.specs.BackLaws.{Back}
+use Rattle.theory.specs.Sets.{Set}
+use Rattle.theory.specs.Proper.{Proper}
+use Rattle.places.specs.Declared.{caseOf}
+use Rattle.places.specs.Stored.{storedCount, storedItem}
+
+-- the text is a proper writing of one 58, in rewritten form. The items of its first eleven lines are written in the header's lines, which are eleven, each
+-- with its LF; the file with those lines as they are lent is a proper writing of the same set, and the text is what that file is rewritten to. The
+-- stored numbers are the given ones, index by index: of the same sign, and the same decimal number.
+pub record LaidOut (header : List ℕ) (xs ss : List ℤ) : Type 0 where
+  pub set : Set
+  pub number : set .number ≡ 58
+  pub proper : Proper (set ∷ []) (writtenSet header (headerOf header .case) xs ss)
+  pub eleven : length (cut header .lines) ≡ 11
+  pub ended : cut header .rest ≡ []
+  pub items : (i : ℕ) → i < 11 → Written (recordOf (getD (sequence 0) i 30)) (getD (set .lines) i []) (columnsIn (getD (cut header .lines) i []))
+  pub lent : Proper (set ∷ []) (lentFile header (headerOf header .case) xs ss)
+  pub rewritten : rewrittenFile (lentFile header (headerOf header .case) xs ss) ≡ writtenSet header (headerOf header .case) xs ss
+  pub form : InForm (set ∷ []) (writtenSet header (headerOf header .case) xs ss)
+  pub again : rewrittenFile (writtenSet header (headerOf header .case) xs ss) ≡ writtenSet header (headerOf header .case) xs ss
+  pub case : caseOf set ≡ headerOf header .case
+  pub count : storedCount set ≡ length xs
+  pub back : (j : ℕ) → j < length xs → Back (getD xs j (pos 0)) (getD ss j (pos 0)) (storedItem set j)
+
+-- the reader's answer for stored number j of a file's first set shows the number x × 10^s
+pub record ReadAs (bytes : List ℕ) (j : ℕ) (x s : ℤ) : Type 0 where
+  pub first : ℕ
+  pub past : ℕ
+  pub coefficient : ℕ
+  pub scale : ℤ
+  pub answer : numberOf bytes 1 j ≡ said 0 0 (shown first past (belowZero x) coefficient (belowZero scale) (natAbs scale) ∷ [])
+  pub same : SameNumber (natAbs x) s coefficient scale

@@ -1,0 +1,51 @@
+-- `writer::data_fits` meets its contract.
+use mathlib.Core.Path.{sym, _≡_}
+use Prim.Native.Nat.{_≤_, _+_, _-_}
+use native.Mathlib.Omega.{arith}
+use borrow.Author.Tests.{le-leb, lt-leb}
+use borrow.Author.Needs.{needs}
+use Rattle.writer.specs.WriterLaws.{dataLen-start, dataLen-next, dataLen-end}
+use Rattle.writer.specs.Lines.{dataLen}
+use Rattle.writer.proofs.data_fits.Statement.{statement}
+use Rattle.writer.proofs.data_fits.Tie as tie
+
+abbrev Inv-loop : tie.InvT-loop
+Inv-loop case count room left₀ j₀ left j = (j ≤ count) × (dataLen case 0 count + left ≡ room + dataLen case j (count - j))
+
+abbrev μ-loop : tie.MeasureT-loop
+μ-loop case count room left₀ j₀ left j = count - j
+
+loop-holds : tie.Need-loop-holds Inv-loop μ-loop
+loop-holds c = (search needs, dataLen-start (c .args .case) (c .args .count) (c .args .room))
+
+stored-len-requires : tie.Need-stored-len-requires Inv-loop μ-loop
+stored-len-requires c κs = search needs
+
+returns : tie.Need-returns Inv-loop μ-loop
+returns c = sym (lt-leb (dataLen (c .before .before .before .before .args .case) 0 (c .before .before .before .before .args .count)) (c .before .before .before .before .args .room) (omega (arith, c .before .before .before .loop .inv .1, c .before .stored-len .ensures, c .if1 .taken, dataLen-next (c .before .before .before .before .args .case) (c .before .before .before .loop .j) (c .before .before .before .before .args .count) (c .before .before .loop-test .taken))))
+
+add-j : tie.Need-add-j Inv-loop μ-loop
+add-j c = search needs
+
+loop-less : tie.Need-loop-less Inv-loop μ-loop
+loop-less c = search needs
+
+loop-again : tie.Need-loop-again Inv-loop μ-loop
+loop-again c = (search needs, omega (arith, c .before .before .before .loop .inv .1, c .before .stored-len .ensures, c .if1 .left, dataLen-next (c .before .before .before .before .args .case) (c .before .before .before .loop .j) (c .before .before .before .before .args .count) (c .before .before .loop-test .taken)))
+
+returns-2 : tie.Need-returns-2 Inv-loop μ-loop
+returns-2 c = sym (le-leb (dataLen (c .before .before .args .case) 0 (c .before .before .args .count)) (c .before .before .args .room) (omega (arith, c .before .loop .inv .1, dataLen-end (c .before .before .args .case) (c .before .loop .j) (c .before .before .args .count) (c .loop-test .left))))
+
+pub data-fits-spec : {M : Type 1} → statement M
+data-fits-spec =
+    tie.close
+    (tie.spec
+    Inv-loop
+    μ-loop
+    loop-holds
+    stored-len-requires
+    returns
+    add-j
+    loop-less
+    loop-again
+    returns-2)

@@ -1,0 +1,77 @@
+-- `writer::first_unfit` meets its contract.
+use mathlib.Core.Path.{sym, _∙_, _≡_, refl}
+use Prim.Native.Nat.{_≤_, _-_}
+use borrow.Author.Tests.{not-true, not-false}
+use borrow.Author.Needs.{needs}
+use lib.ListN.{length, drop}
+use mir.Syntax.{w16, w64}
+use mir.ValLaws.{toZ-ofZ}
+use Rattle.writer.specs.WriterLaws.{unfit-next, unfit-here, unfit-end, fits-is}
+use Rattle.writer.specs.Writer.{firstUnfit}
+use Rattle.writer.proofs.first_unfit.Statement.{statement}
+use Rattle.writer.proofs.first_unfit.Tie as tie
+
+abbrev Inv-loop : tie.InvT-loop
+Inv-loop case coefficients scales j₀ j = (j ≤ length coefficients) × (firstUnfit case j (drop j coefficients) (drop j scales) ≡ firstUnfit case 0 coefficients scales)
+
+abbrev μ-loop : tie.MeasureT-loop
+μ-loop case coefficients scales j₀ j = length coefficients - j
+
+loop-holds : tie.Need-loop-holds Inv-loop μ-loop
+loop-holds c = (search needs, refl)
+
+width-at-requires : tie.Need-width-at-requires Inv-loop μ-loop
+width-at-requires c κs = search needs
+
+decimals-of-requires : tie.Need-decimals-of-requires Inv-loop μ-loop
+decimals-of-requires c κs = search needs
+
+mul-fits : tie.Need-mul-fits Inv-loop μ-loop
+mul-fits c = search needs
+
+shared-slice-copy-out-fits : tie.Need-shared-slice-copy-out-fits Inv-loop μ-loop
+shared-slice-copy-out-fits c = search needs
+
+mul-fits-2 : tie.Need-mul-fits-2 Inv-loop μ-loop
+mul-fits-2 c = search needs
+
+shared-slice-copy-out-fits-2 : tie.Need-shared-slice-copy-out-fits-2 Inv-loop μ-loop
+shared-slice-copy-out-fits-2 c = search needs
+
+fits-requires : tie.Need-fits-requires Inv-loop μ-loop
+fits-requires c κs = search needs
+
+returns : tie.Need-returns Inv-loop μ-loop
+returns c = sym (unfit-here (c .before .before .before .before .before .before .before .before .args .case) (c .before .before .before .before .before .before .before .loop .j) (c .before .before .before .before .before .before .before .before .args .coefficients .now) (c .before .before .before .before .before .before .before .before .args .scales .now) (c .before .before .before .before .before .before .loop-test .taken) (c .before .before .before .before .before .before .before .before .pre) _ _ (toZ-ofZ w64 _ (record { sfits = c .before .before .before .fits-arg .given })) (toZ-ofZ w16 _ (record { sfits = c .before .before .fits-arg2 .given })) (fits-is _ _ _ _ _ _ _ (c .before .before .before .before .before .width-at .ensures) (c .before .before .before .before .decimals-of .ensures) (c .before .fits2 .ensures) ∙ not-true _ (c .if1 .taken))) ∙ c .before .before .before .before .before .before .before .loop .inv .1
+
+add-j : tie.Need-add-j Inv-loop μ-loop
+add-j c = search needs
+
+loop-less : tie.Need-loop-less Inv-loop μ-loop
+loop-less c = search needs
+
+loop-again : tie.Need-loop-again Inv-loop μ-loop
+loop-again c = (search needs, sym (unfit-next (c .before .before .before .before .before .before .before .before .args .case) (c .before .before .before .before .before .before .before .loop .j) (c .before .before .before .before .before .before .before .before .args .coefficients .now) (c .before .before .before .before .before .before .before .before .args .scales .now) (c .before .before .before .before .before .before .loop-test .taken) (c .before .before .before .before .before .before .before .before .pre) _ _ (toZ-ofZ w64 _ (record { sfits = c .before .before .before .fits-arg .given })) (toZ-ofZ w16 _ (record { sfits = c .before .before .fits-arg2 .given })) (fits-is _ _ _ _ _ _ _ (c .before .before .before .before .before .width-at .ensures) (c .before .before .before .before .decimals-of .ensures) (c .before .fits2 .ensures) ∙ not-false _ (c .if1 .left))) ∙ c .before .before .before .before .before .before .before .loop .inv .1)
+
+returns-2 : tie.Need-returns-2 Inv-loop μ-loop
+returns-2 c = sym (unfit-end _ _ _ _ (c .loop-test .left)) ∙ c .before .loop .inv .1
+
+pub first-unfit-spec : {M : Type 1} → statement M
+first-unfit-spec =
+    tie.close
+    (tie.spec
+    Inv-loop
+    μ-loop
+    loop-holds
+    width-at-requires
+    decimals-of-requires
+    mul-fits
+    shared-slice-copy-out-fits
+    mul-fits-2
+    shared-slice-copy-out-fits-2
+    fits-requires
+    returns
+    add-j
+    loop-less
+    loop-again
+    returns-2)

@@ -1,0 +1,68 @@
+-- `writer::put_data` meets its contract.
+use Prim.Native.Nat.{_≤_, _-_}
+use borrow.Author.Needs.{needs}
+use lib.ListN.{drop}
+use mir.Syntax.{w16, w64}
+use mir.ValLaws.{toZ-ofZ}
+use Rattle.writer.specs.WriterLaws.{stored-room, stored-next, data-end}
+use Rattle.writer.specs.Writer.{dataText}
+use Rattle.rewriter.specs.OutputLaws.{Put, put-start, put-done}
+use Rattle.writer.proofs.put_data.Statement.{statement}
+use Rattle.writer.proofs.put_data.Tie as tie
+
+abbrev Inv-loop : tie.InvT-loop
+Inv-loop out₀ at case coefficients scales count past₀ j₀ out past j = (j ≤ count) × Put at (dataText case 0 coefficients scales) out₀ past (dataText case j (drop j coefficients) (drop j scales)) out
+
+abbrev μ-loop : tie.MeasureT-loop
+μ-loop out₀ at case coefficients scales count past₀ j₀ out past j = count - j
+
+loop-holds : tie.Need-loop-holds Inv-loop μ-loop
+loop-holds c = (search needs, put-start _ _ _)
+
+mul-put-stored : tie.Need-mul-put-stored Inv-loop μ-loop
+mul-put-stored c = search needs
+
+shared-slice-copy-out-put-stored : tie.Need-shared-slice-copy-out-put-stored Inv-loop μ-loop
+shared-slice-copy-out-put-stored c = search needs
+
+mul-put-stored-2 : tie.Need-mul-put-stored-2 Inv-loop μ-loop
+mul-put-stored-2 c = search needs
+
+shared-slice-copy-out-put-stored-2 : tie.Need-shared-slice-copy-out-put-stored-2 Inv-loop μ-loop
+shared-slice-copy-out-put-stored-2 c = search needs
+
+put-stored-requires : tie.Need-put-stored-requires Inv-loop μ-loop
+put-stored-requires c κs = (c .before .before .before .loop-test .taken, stored-room _ (c .before .before .before .before .loop .j) (c .before .before .before .before .before .before .args .coefficients .now) (c .before .before .before .before .before .before .args .scales .now) (c .before .before .before .loop-test .taken) (c .before .before .before .before .before .before .pre .0) _ _ (toZ-ofZ w64 _ (record { sfits = c .before .put-stored-arg2 .given })) (toZ-ofZ w16 _ (record { sfits = c .put-stored-arg3 .given })) _ _ _ _ (c .before .before .before .before .loop .inv .1) (c .before .before .before .before .before .before .pre .1))
+
+add-j : tie.Need-add-j Inv-loop μ-loop
+add-j c = search needs
+
+loop-less : tie.Need-loop-less Inv-loop μ-loop
+loop-less c = search needs
+
+loop-again : tie.Need-loop-again Inv-loop μ-loop
+loop-again c = (search needs, stored-next _ (c .before .before .before .before .before .before .before .loop .j) (c .before .before .before .before .before .before .before .before .before .args .coefficients .now) (c .before .before .before .before .before .before .before .before .before .args .scales .now) (c .before .before .before .before .before .before .loop-test .taken) (c .before .before .before .before .before .before .before .before .before .pre .0) _ _ (toZ-ofZ w64 _ (record { sfits = c .before .before .before .before .put-stored-arg2 .given })) (toZ-ofZ w16 _ (record { sfits = c .before .before .before .put-stored-arg3 .given })) _ _ _ _ (c .before .before .before .before .before .before .before .loop .inv .1) (c .before .before .before .before .before .before .before .before .before .pre .1) _ _ (c .before .before .put-stored .ensures .0) (c .before .before .put-stored .ensures .1))
+
+same-length : tie.Need-same-length Inv-loop μ-loop
+same-length c = c .before .loop .inv .1 .same
+
+returns : tie.Need-returns Inv-loop μ-loop
+returns c = put-done _ _ _ _ _ _ (c .before .loop .inv .1) (data-end _ _ _ _ (c .loop-test .left))
+
+pub put-data-spec : {M : Type 1} → statement M
+put-data-spec =
+    tie.close
+    (tie.spec
+    Inv-loop
+    μ-loop
+    loop-holds
+    mul-put-stored
+    shared-slice-copy-out-put-stored
+    mul-put-stored-2
+    shared-slice-copy-out-put-stored-2
+    put-stored-requires
+    add-j
+    loop-less
+    loop-again
+    same-length
+    returns)

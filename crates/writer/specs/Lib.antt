@@ -1,0 +1,4 @@
+pub mod Writer
+pub mod Lines
+pub mod WriterLaws
+pub mod SetLaws

@@ -1,0 +1,395 @@
+-- A header that passes is eleven lines of a 58, none of them a delimiter; its line 7 says which case it is and how many numbers it stores.
+use mathlib.Core.Path.{_≡_, refl, sym, ap, _∙_}
+use mathlib.Core.Logic.{⊎-elim}
+use mathlib.Core.Bool.{Bool, true, false, _&&_, _||_}
+use mathlib.Core.List.{List, [], _∷_}
+use Prim.Native.Nat.{ℕ, zero, suc, _+_, _-_, _*_, _≤_, _<_}
+use native.Mathlib.Nat.{mul-le-mul, mul-pos, add-zero}
+use native.Mathlib.Omega.{arith}
+use borrow.Author.Tests.{leb-true, ltb-true, ltb-false, eqb-true, eqb-false, lt-ltb, lt-leb, le-ltb, eq-eqb, ne-eqb}
+use lib.Dec.{leb, ltb, eqb}
+use lib.IntN.{ℤ, pos, negsuc}
+use lib.ListN.{length, getD, take, drop}
+use Rattle.laws.specs.Choice.{pick, and-left, and-right, false-not-true, below-or-not}
+use Rattle.laws.specs.Ranges.{in-range}
+use Rattle.laws.specs.Cut.{cut, over, judge}
+use Rattle.text.specs.Parts.{signed}
+use Rattle.integer.specs.declared.Integer.{Integer}
+use Rattle.integer.specs.declared.Integer.the-variants.{Blank, Malformed, OutOfRange, Value}
+use Rattle.integer.specs.Integer.{integerOf}
+use Rattle.line.specs.declared.Refusal.{Refusal}
+use Rattle.line.specs.Line.{refusal, columns, firstBad, lineFault}
+use Rattle.codes.specs.Rule.{Rule, keeps, oneOf}
+use Rattle.codes.specs.Form.{ordinateType, count, spacing}
+use Rattle.layout.specs.Layout.{layouts, layoutOf, caseOf, numbersOf}
+use Rattle.field.specs.Item.{Item, natural}
+use Rattle.field.specs.Field.{mayBlank, integerNumber, integerItem, fieldNumber}
+use Rattle.rows.specs.Row.{Field, Row}
+use Rattle.rows.specs.Records.{I, records, recordOf}
+use Rattle.rows.specs.Sequence.{sequences, sequence}
+use Rattle.record.specs.Check.{orElse, fieldsFault, fieldsRefusal, conditionFault, rowRefusal}
+use Rattle.walk.specs.declared.Due.{Due}
+use Rattle.walk.specs.declared.Place.the-variants.{Typed}
+use Rattle.walk.specs.declared.Outcome.the-variants.{Next, Refused}
+use Rattle.walk.specs.Due.{due, recordDue, rowDue, isClosed, opening, numberIn, caseIn, next, afterRecord, after}
+use Rattle.walk.specs.DueLaws.{numbersOf-few, rowRefusal-record}
+use Rattle.walk.specs.Step.{state, unless, typedStep, stepOf}
+use Rattle.walk.specs.StepLaws.{unless-here, unless-on}
+use Rattle.judge.specs.declared.Reply.{Reply}
+use Rattle.judge.specs.Judge.{reply, lineStep, Run, going, refused, runStep, runEnd}
+use Rattle.header.specs.declared.Header.{Header}
+use Rattle.header.specs.HeaderLaws.{over-refused}
+use Rattle.header.specs.Header.{answer, pastNumber, headerStep, headerEnd, headerOf}
+use Rattle.parts.specs.Parts.{columnsIn, closes}
+use Rattle.rewriter.specs.RewriterLaws.{Fair, fair-passed, Inner, Inner.none as no-line, Inner.more as one-line}
+use Rattle.rewriter.specs.AcceptedLaws.{no-fault}
+use Rattle.writing.specs.HeaderRun.{Says, Passed}
+
+-- a test that gives no refusal holds
+test-passed : (t : Bool) (m : ℕ) → pick t 0 (suc m) ≡ 0 → t ≡ true
+test-passed true m h = refl
+test-passed false m h = absurd (omega arith)
+
+-- an integer that passes keeps its rule; here a rule that takes nothing below zero
+kept-value : (r : Rule) → ((v : ℕ) → keeps r (negsuc v) ≡ false) → (z : ℤ) → keeps r z ≡ true → keeps r (pos (natural (Item.integer z))) ≡ true
+kept-value r m (pos v) h = h
+kept-value r m (negsuc v) h = false-not-true (sym (m v) ∙ h)
+
+kept : (r : Rule) → ((v : ℕ) → keeps r (negsuc v) ≡ false) → (i : Integer) → integerNumber r false i ≡ 0 → keeps r (pos (natural (integerItem i))) ≡ true
+kept r m Blank h = absurd (omega arith)
+kept r m Malformed h = absurd (omega arith)
+kept r m OutOfRange h = absurd (omega arith)
+kept r m (Value n v) h = kept-value r m (signed n v) (test-passed (keeps r (signed n v)) 10 h)
+
+-- what passes has no refusal of its own, and none follows
+orElse-first : (n c : ℕ) (rest : Refusal) → orElse n c rest .number ≡ 0 → n ≡ 0
+orElse-first zero c rest h = refl
+orElse-first (suc n) c rest h = h
+
+orElse-then : (n c : ℕ) (rest : Refusal) → orElse n c rest .number ≡ 0 → rest .number ≡ 0
+orElse-then zero c rest h = h
+orElse-then (suc n) c rest h = absurd (omega arith)
+
+-- an ordinate type of those listed names a case with either spacing
+abbrev every : (ℕ → Bool) → List ℕ → Bool
+every f [] = true
+every f (c ∷ cs) = f c && every f cs
+
+every-one : (f : ℕ → Bool) (cs : List ℕ) (x : ℕ) → every f cs ≡ true → oneOf cs x ≡ true → f x ≡ true
+every-one f [] x a h = false-not-true h
+every-one f (c ∷ cs) x a h = by (eqb x c) refl h (every-one f cs x (and-right (f c) (every f cs) a))
+  where
+    by : (t : Bool) → eqb x c ≡ t → t || oneOf cs x ≡ true → (oneOf cs x ≡ true → f x ≡ true) → f x ≡ true
+    by true e k ih = ap f (eqb-true x c e) ∙ and-left (f c) (every f cs) a
+    by false e k ih = ih k
+
+abbrev named : ℕ → ℕ → Bool
+named u t = ltb (caseOf t u) 8
+
+case-named : (t u : ℕ) → oneOf (2 ∷ 4 ∷ 5 ∷ 6 ∷ []) t ≡ true → u ≤ 1 → caseOf t u < 8
+unfolding caseOf layouts
+case-named t zero h l = ltb-true _ 8 (every-one (named 0) (2 ∷ 4 ∷ 5 ∷ 6 ∷ []) t refl h)
+case-named t (suc zero) h l = ltb-true _ 8 (every-one (named 1) (2 ∷ 4 ∷ 5 ∷ 6 ∷ []) t refl h)
+case-named t (suc (suc u)) h l = absurd (omega arith)
+
+-- a value stores one number at least
+abbrev stores : ℕ → Bool
+stores c = ltb 0 (numbersOf c)
+
+numbersOf-some : (c : ℕ) → c < 8 → 0 < numbersOf c
+unfolding numbersOf layoutOf layouts
+numbersOf-some c h = ltb-true 0 _ (in-range stores true 0 8 c refl (omega arith) (omega arith))
+
+-- a case, and how many numbers are stored: at most three for each of 65,536 values
+record Bounds (c m : ℕ) : Type 0 where
+  eight : c < 8
+  some : 1 ≤ m
+  most : m ≤ 196608
+
+stored-bounds : (c n : ℕ) → c < 8 → 1 ≤ n → n ≤ 65536 → Bounds c (n * numbersOf c)
+stored-bounds c n e l u =
+    record {
+      eight = e;
+      some = mul-pos l (numbersOf-some c e);
+      most = mul-le-mul u (numbersOf-few c);
+    }
+
+-- the first of fields that pass, and those after it
+module _ (at : ℕ) (line : List ℕ) where
+  first-kept : (w : ℕ) (r : Rule) (fs : List Field) → ((v : ℕ) → keeps r (negsuc v) ≡ false) → fieldsFault (I w r ∷ fs) at line .number ≡ 0
+      → keeps r (pos (natural (integerItem (integerOf (take w (drop at line)))))) ≡ true
+  unfolding fieldsFault fieldNumber mayBlank
+  first-kept w r fs m h =
+      let i : Integer = integerOf (take w (drop at line)) in
+      kept r m i (orElse-first (integerNumber r false i) (at + 1) (fieldsFault fs (at + w) line) h)
+
+  others-kept : (f : Field) (fs : List Field) → fieldsFault (f ∷ fs) at line .number ≡ 0 → fieldsFault fs (at + f .width) line .number ≡ 0
+  unfolding fieldsFault
+  others-kept f fs h = orElse-then (fieldNumber (f .form) (mayBlank (f .form) line) (take (f .width) (drop at line))) (at + 1) (fieldsFault fs (at + f .width) line) h
+
+fields-passed : (r : Row) (line : List ℕ) → rowRefusal r line .number ≡ 0 → fieldsFault (r .fields) 0 line .number ≡ 0
+unfolding rowRefusal fieldsRefusal
+fields-passed r line h =
+    let f : Refusal = fieldsFault (r .fields) 0 line in
+    orElse-first (f .number) (f .column) _ (orElse-first _ _ (conditionFault r line) h)
+
+-- line 7 says both, where it passes
+seventh-bounds : (line : List ℕ) → rowRefusal (recordOf 3) line .number ≡ 0 → Bounds (caseIn line) (numberIn 10 20 line * numbersOf (caseIn line))
+unfolding recordOf records numberIn caseIn keeps
+seventh-bounds line h =
+    let a = fields-passed (recordOf 3) line h in
+    let b = others-kept 0 line (I 10 ordinateType) _ a in
+    let c = others-kept 10 line (I 10 count) _ b in
+    let t : oneOf (2 ∷ 4 ∷ 5 ∷ 6 ∷ []) (numberIn 0 10 line) ≡ true = first-kept 0 line 10 ordinateType _ (λ v. refl) a in
+    let n : leb 1 (numberIn 10 20 line) && leb (numberIn 10 20 line) 65536 ≡ true = first-kept 10 line 10 count _ (λ v. refl) b in
+    let u : leb 0 (numberIn 20 30 line) && leb (numberIn 20 30 line) 1 ≡ true = first-kept 20 line 10 spacing _ (λ v. refl) c in
+    stored-bounds (caseIn line) (numberIn 10 20 line) (case-named _ _ t (leb-true _ 1 (and-right (leb 0 (numberIn 20 30 line)) _ u)))
+    (leb-true 1 _ (and-left (leb 1 (numberIn 10 20 line)) _ n)) (leb-true _ 65536 (and-right (leb 1 (numberIn 10 20 line)) _ n))
+
+-- what is due after n lines of a 58: line 7 has given its case and how many numbers it stores
+pub record Stood (n : ℕ) (d : Due) : Type 0 where
+  kind : d .kind ≡ 0
+  at : d .at ≡ n
+  second : d .second ≡ 0
+  bounds : 7 ≤ n → Bounds (d .case) (d .left)
+
+-- before the eleventh line has come a record is due
+abbrev some-record : ℕ → Bool
+some-record n = ltb (getD (sequence 0) n 30) 30
+
+record-below : (n : ℕ) → n < 11 → getD (sequence 0) n 30 < 30
+unfolding sequence sequences
+record-below n h = ltb-true _ 30 (in-range some-record true 0 11 n refl (omega arith) (omega arith))
+
+module _ (n : ℕ) (d : Due) (s : Stood n d) (h : n < 11) where
+  due-record : recordDue d ≡ getD (sequence 0) n 30
+  unfolding recordDue
+  due-record = rw (s .kind, s .at) refl
+
+  due-below : recordDue d < 30
+  due-below = rw due-record (record-below n h)
+
+  pub not-closed : isClosed d ≡ false
+  unfolding isClosed
+  not-closed = rw (lt-leb 30 (recordDue d) due-below) refl
+
+  module _ (l : List ℕ) (p : rowRefusal (rowDue d) l .number ≡ 0) where
+    after-record : after d l ≡ pick (eqb n 6) (due 0 7 (caseIn l) (numberIn 10 20 l * numbersOf (caseIn l)) 0) (next d)
+    unfolding after afterRecord
+    after-record = rw (lt-ltb (recordDue d) 30 due-below, s .kind, s .at) refl
+
+    after-seventh : n ≡ 6 → Bounds (caseIn l) (numberIn 10 20 l * numbersOf (caseIn l))
+    unfolding sequence sequences
+    after-seventh e =
+        let r : recordDue d ≡ 3 = due-record ∙ rw e refl in
+        let q : rowRefusal (rowDue d) l ≡ rowRefusal (recordOf 3) l = rowRefusal-record d l due-below ∙ ap (λ (x : ℕ). rowRefusal (recordOf x) l) r in
+        seventh-bounds l (rw q at p)
+
+    pub after-stood : Stood (n + 1) (after d l)
+    after-stood = rw after-record (by (eqb n 6) refl)
+      where
+        by : (t : Bool) → eqb n 6 ≡ t → Stood (n + 1) (pick t (due 0 7 (caseIn l) (numberIn 10 20 l * numbersOf (caseIn l)) 0) (next d))
+        by true e =
+            let x : n ≡ 6 = eqb-true n 6 e in
+            record { kind = refl; at = omega arith; second = refl; bounds = λ k. after-seventh x }
+        by false e =
+            record { kind = s .kind; at = omega (arith, s .at); second = s .second; bounds = λ k. s .bounds (omega (arith, eqb-false n 6 e)) }
+
+-- bytes with no LF after them never pass
+open-fault : (cs : List ℕ) → 0 < lineFault false cs .number
+unfolding lineFault
+open-fault cs = by (ltb 0 (firstBad 1 cs)) (ltb 80 (length cs))
+  where
+    by : (bad long : Bool) → 0 < pick bad (refusal 2 (firstBad 1 cs)) (pick long (refusal 3 1) (refusal 4 1)) .number
+    by true long = omega arith
+    by false true = omega arith
+    by false false = omega arith
+
+-- a line where a record is due: it is taken, or refused with a number
+pub record Taken (d : Due) (l : List ℕ) : Type 0 where
+  fair : Fair l
+  inside : closes l ≡ false
+  pub row : rowRefusal (rowDue d) (columnsIn l) .number ≡ 0
+  pub step : lineStep (state (Typed d) 1) l ≡ Next (state (Typed (after d (columnsIn l))) 1)
+
+pub data Met (d : Due) (l : List ℕ) : Type 0 where
+  taken : Taken d l → Met d l
+  stopped : (f : Refusal) → lineStep (state (Typed d) 1) l ≡ Refused f → 0 < f .number → Met d l
+
+module _ (d : Due) (l : List ℕ) (c : isClosed d ≡ false) where
+  -- a line that passes by itself is judged by its place
+  step-place : lineFault true (columns true l) .number ≡ 0 → lineStep (state (Typed d) 1) l ≡ typedStep d 1 (columnsIn l)
+  unfolding lineStep stepOf
+  step-place h = rw h refl
+
+  step-closing : closes l ≡ true → typedStep d 1 (columnsIn l) ≡ Refused (refusal 7 1)
+  unfolding typedStep closes
+  step-closing h = rw (h, c) refl
+
+  step-row : closes l ≡ false → typedStep d 1 (columnsIn l) ≡ unless (rowRefusal (rowDue d) (columnsIn l)) (state (Typed (after d (columnsIn l))) 1)
+  unfolding typedStep closes
+  step-row h = rw (h, c) refl
+
+  row-met : Fair l → closes l ≡ false → lineStep (state (Typed d) 1) l ≡ typedStep d 1 (columnsIn l) → Met d l
+  row-met f o e =
+      let r : Refusal = rowRefusal (rowDue d) (columnsIn l) in
+      ⊎-elim
+      (λ h. stopped r (e ∙ step-row o ∙ unless-here r _ h) h)
+      (λ h. taken (record { fair = f; inside = o; row = omega arith; step = e ∙ step-row o ∙ unless-on r _ h }))
+      (below-or-not 0 (r .number))
+
+  place-met : Fair l → lineStep (state (Typed d) 1) l ≡ typedStep d 1 (columnsIn l) → Met d l
+  place-met f e = by (closes l) refl
+    where
+      by : (t : Bool) → closes l ≡ t → Met d l
+      by true o = stopped (refusal 7 1) (e ∙ step-closing o) (omega arith)
+      by false o = row-met f o e
+
+  pub line-met : Met d l
+  unfolding lineStep
+  line-met = by (lineFault true (columns true l) .number) refl
+    where
+      by : (n : ℕ) → lineFault true (columns true l) .number ≡ n → Met d l
+      by zero e = place-met (fair-passed l (no-fault (columns true l) e)) (step-place e)
+      by (suc n) e = stopped (lineFault true (columns true l)) (rw e refl) (omega arith)
+
+-- after a refusal no header passes
+not-passed : {A : Type 0} (n m : ℕ) (ls : List (List ℕ)) (rest : List ℕ) → 0 < n
+    → headerEnd (over headerStep headerEnd (refused (reply n m)) ls) rest .number ≡ 0 → A
+not-passed n m ls rest p h =
+    let z : n ≡ 0 = sym (ap (λ (x : Run). headerEnd x rest .number) (over-refused (reply n m) ls)) ∙ h in
+    absurd (omega arith)
+
+past-some : (m : ℕ) → 0 < pastNumber m
+past-some zero = omega arith
+past-some (suc m) = omega arith
+
+-- the lines of a header that passes, from line n on
+abbrev pub ended : Due → ℕ → List (List ℕ) → List ℕ → Header
+ended d n ls rest = headerEnd (over headerStep headerEnd (going (state (Typed d) 1) n) ls) rest
+
+record Ran (d : Due) (n : ℕ) (ls : List (List ℕ)) (rest : List ℕ) : Type 0 where
+  due : Due
+  stood : Stood 11 due
+  none-open : rest ≡ []
+  lines : length ls + n ≡ 11
+  inner : Inner ls
+  seventh : n ≤ 6 → Says (columnsIn (getD ls (6 - n) [])) due
+  kept : 7 ≤ n → (due .case ≡ d .case) × (due .left ≡ d .left)
+  run : (m k : ℕ) → k ≡ m + length ls → over runStep runEnd (going (state (Typed d) 1) m) ls ≡ going (state (Typed due) 1) k
+  ends : ended d n ls rest ≡ answer 0 0 (due .case) (due .left)
+
+-- no line more: they are eleven, and nothing is left
+run-end : (d : Due) (n : ℕ) (rest : List ℕ) → Stood n d → n ≤ 11 → ended d n [] rest .number ≡ 0 → Ran d n [] rest
+unfolding over
+run-end d n (b ∷ bs) s l h = absurd (omega (arith, open-fault (b ∷ bs)))
+run-end d n [] s l h = by (ltb n 11) refl h
+  where
+    by : (t : Bool) → ltb n 11 ≡ t → pick t (answer 7 (n + 1) 0 0) (answer 0 0 (d .case) (d .left)) .number ≡ 0 → Ran d n [] []
+    by true e k = absurd (omega arith)
+    by false e k =
+        let x : n ≡ 11 = omega (arith, ltb-false n 11 e) in
+        record {
+          due = d;
+          stood = rw x at s;
+          none-open = refl;
+          lines = omega arith;
+          inner = no-line;
+          seventh = λ k. absurd (omega arith);
+          kept = λ k. (refl, refl);
+          run = λ m k q. rw q (rw add-zero refl);
+          ends = rw e refl;
+        }
+
+-- one line more
+module _ (d : Due) (n : ℕ) (l : List ℕ) (ls : List (List ℕ)) (rest : List ℕ) (s : Stood n d) where
+  abbrev later : Due
+  later = after d (columnsIn l)
+
+  -- line 7 says the case and how many numbers are stored; no later line does
+  seventh-says : n < 11 → Taken d l → n ≡ 6 → Says (columnsIn l) later
+  seventh-says h t e =
+      let x : later ≡ due 0 7 (caseIn (columnsIn l)) (numberIn 10 20 (columnsIn l) * numbersOf (caseIn (columnsIn l))) 0 = after-record n d s h (columnsIn l) (t .row) ∙ rw (eq-eqb n 6 e) refl in
+      rw x (record { case = refl; left = refl })
+
+  later-kept : n < 11 → Taken d l → (n ≡ 6 → ⊥) → (later .case ≡ d .case) × (later .left ≡ d .left)
+  later-kept h t e =
+      let x : later ≡ next d = after-record n d s h (columnsIn l) (t .row) ∙ rw (ne-eqb n 6 e) refl in
+      rw x (refl, refl)
+
+  line-says : n < 11 → Taken d l → (r : Ran later (n + 1) ls rest) → n ≤ 6 → Says (columnsIn (getD (l ∷ ls) (6 - n) [])) (r .due)
+  line-says h t r k = ⊎-elim
+      (λ a. let z : 6 - n ≡ suc (6 - (n + 1)) = omega arith in rw z (r .seventh (omega arith)))
+      (λ a.
+      let z : 6 - n ≡ 0 = omega arith in
+      let y = seventh-says h t (omega arith) in
+      let q = r .kept (omega arith) in
+      rw z (record { case = q .0 ∙ y .case; left = q .1 ∙ y .left }))
+      (below-or-not n 6)
+
+  run-taken : n < 11 → Taken d l → Ran later (n + 1) ls rest → Ran d n (l ∷ ls) rest
+  unfolding over
+  run-taken h t r =
+      record {
+        due = r .due;
+        stood = r .stood;
+        none-open = r .none-open;
+        lines = omega (arith, r .lines);
+        inner = one-line (t .fair) (t .inside) (r .inner);
+        seventh = line-says h t r;
+        kept = λ k. let q = r .kept (omega arith) in let o = later-kept h t (λ e. omega arith) in (q .0 ∙ o .0, q .1 ∙ o .1);
+        run = λ m k q. rw (t .step) (r .run (m + 1) k (omega arith));
+        ends = rw (lt-ltb n 11 h, t .step) (r .ends);
+      }
+
+  run-next : ended d n (l ∷ ls) rest .number ≡ 0 → (Stood (n + 1) later → n + 1 ≤ 11 → ended later (n + 1) ls rest .number ≡ 0 → Ran later (n + 1) ls rest)
+      → Ran d n (l ∷ ls) rest
+  unfolding over
+  run-next k ih = ⊎-elim early late (below-or-not n 11)
+    where
+      late : 11 ≤ n → Ran d n (l ∷ ls) rest
+      late h =
+          let m : ℕ = lineFault true (columns true l) .number in
+          not-passed (pastNumber m) (n + 1) ls rest (past-some m) (rw (le-ltb n 11 h) at k)
+
+      met : n < 11 → Met d l → Ran d n (l ∷ ls) rest
+      met h (taken t) = run-taken h t (ih (after-stood n d s h (columnsIn l) (t .row)) (omega arith) (rw (lt-ltb n 11 h, t .step) at k))
+      met h (stopped f e p) = not-passed (f .number) (n + 1) ls rest p (rw (lt-ltb n 11 h, e) at k)
+
+      early : n < 11 → Ran d n (l ∷ ls) rest
+      early h = met h (line-met d l (not-closed n d s h))
+
+header-ran : (ls : List (List ℕ)) (d : Due) (n : ℕ) (rest : List ℕ) → Stood n d → n ≤ 11 → ended d n ls rest .number ≡ 0 → Ran d n ls rest
+header-ran [] d n rest s b h = run-end d n rest s b h
+header-ran (l ∷ ls) d n rest s b h =
+    run-next d n l ls rest s h (λ t c k. header-ran ls (after d (columnsIn l)) (n + 1) rest t c k)
+
+-- a 58 that opens
+pub opened-stood : Stood 0 (opening 0)
+opened-stood = record { kind = refl; at = refl; second = refl; bounds = λ h. absurd (omega arith) }
+
+pub header-passed : (header : List ℕ) → headerOf header .number ≡ 0 → Passed header
+unfolding headerOf judge
+header-passed header h = passes (header-ran (cut header .lines) (opening 0) 0 (cut header .rest) opened-stood (omega arith) h)
+  where
+    passes : Ran (opening 0) 0 (cut header .lines) (cut header .rest) → Passed header
+    passes r =
+        let b : Bounds (r .due .case) (r .due .left) = r .stood .bounds (omega arith) in
+        let c : r .due .case ≡ headerOf header .case = sym (ap (λ (x : Header). x .case) (r .ends)) in
+        let m : r .due .left ≡ headerOf header .stored = sym (ap (λ (x : Header). x .stored) (r .ends)) in
+        record {
+          due = r .due;
+          rest = r .none-open;
+          lines = omega (arith, r .lines);
+          inner = r .inner;
+          run = λ n. r .run n (n + 11) (omega (arith, r .lines));
+          kind = r .stood .kind;
+          at = r .stood .at;
+          second = r .stood .second;
+          case = c;
+          left = m;
+          seventh = r .seventh (omega arith);
+          case-below = rw (← c) (b .eight);
+          stored-some = rw (← m) (b .some);
+          stored-most = rw (← m) (b .most);
+        }

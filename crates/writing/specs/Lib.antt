@@ -1,0 +1,11 @@
+pub mod HeaderRun
+pub mod HeaderRunLaws
+pub mod DataLines
+pub mod DataTextLaws
+pub mod FieldTextLaws
+pub mod LineLaws
+pub mod DataRunLaws
+pub mod LentLaws
+pub mod BackLaws
+pub mod ReplyLaws
+pub mod HeaderRefusedLaws

@@ -1,0 +1,1 @@
+// The laws of what the writer lays out. It has no code.
