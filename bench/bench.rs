@@ -1,4 +1,4 @@
-//! Times the proved judge and the plain Rust judge on the same files.
+//! Times the proved judge and the plain Rust judge on the same files, and the proved judge of bursts beside that of whole files.
 //!
 //! Each file is built once, before the clock starts. In every round each judge reads the whole
 //! file once, one after the other; the best round counts. Nothing is cleared in between: the file
@@ -14,6 +14,16 @@ use std::time::Instant;
 
 extern "C" {
     fn uff_judge(file: *const u8, len: usize) -> u64;
+    fn uff_start(numbers: *mut u64, numbers_len: usize, line: *mut u8, line_len: usize) -> u64;
+    fn uff_burst(
+        numbers: *mut u64,
+        numbers_len: usize,
+        line: *mut u8,
+        line_len: usize,
+        bytes: *const u8,
+        bytes_len: usize,
+    ) -> u64;
+    fn uff_end(numbers: *mut u64, numbers_len: usize, line: *mut u8, line_len: usize) -> u64;
 }
 
 const ROUNDS: usize = 9;
@@ -27,9 +37,9 @@ fn set(case: usize, count: usize) -> Vec<u8> {
     let mut state: u32 = 58;
     let past = file.len() - 7;
     for n in data..past {
-        // Only mantissa digits: those behind the point, and the one before it.
-        let mantissa = file[n].is_ascii_digit() && (file[n + 1] != b'\n') && file[n - 1] != b'-' && file[n - 2] != b'-';
-        if mantissa {
+        // Only the coefficient's digits: those behind the point, and the one before it.
+        let coefficient = file[n].is_ascii_digit() && (file[n + 1] != b'\n') && file[n - 1] != b'-' && file[n - 2] != b'-';
+        if coefficient {
             state = state.wrapping_mul(1_664_525).wrapping_add(1_013_904_223);
             file[n] = b'0' + (state >> 24) as u8 % 10;
         }
@@ -92,6 +102,39 @@ fn time(name: &str, file: &[u8]) -> (f64, f64) {
     (bytes / best[0], bytes / best[1])
 }
 
+/// The end's word for a file that comes in bursts of so many bytes.
+fn in_bursts(file: &[u8], length: usize) -> u64 {
+    let mut numbers = [0u64; 12];
+    let mut line = [0u8; 82];
+    let (n, l) = (numbers.as_mut_ptr(), line.as_mut_ptr());
+    unsafe {
+        uff_start(n, 12, l, 82);
+        for burst in file.chunks(length) {
+            black_box(uff_burst(n, 12, l, 82, burst.as_ptr(), burst.len()));
+        }
+        uff_end(n, 12, l, 82)
+    }
+}
+
+/// Million bytes a second of the best round: the file in bursts, and the proved judge of the whole file.
+fn time_bursts(file: &[u8], length: usize) -> (f64, f64) {
+    let mut best = [f64::INFINITY; 2];
+    for _ in 0..ROUNDS {
+        let start = Instant::now();
+        let ended = black_box(in_bursts(black_box(file), length));
+        best[0] = best[0].min(start.elapsed().as_secs_f64());
+        let start = Instant::now();
+        let whole = black_box(unsafe { uff_judge(black_box(file).as_ptr(), file.len()) });
+        best[1] = best[1].min(start.elapsed().as_secs_f64());
+        if ended != whole || whole >> 57 != 0 {
+            println!("bursts of {length}: {ended:#x}, whole {whole:#x}; the file should be accepted");
+            std::process::exit(1);
+        }
+    }
+    let bytes = file.len() as f64 / 1e6;
+    (bytes / best[0], bytes / best[1])
+}
+
 fn main() {
     let files: [(&str, Vec<u8>); 9] = [
         ("case 1, 16 MB", many(1, LONGEST)),
@@ -109,5 +152,12 @@ fn main() {
     for (name, file) in &files {
         let (proved, plain) = time(name, file);
         println!("{name:<34} {:>10} {proved:>12.0} {plain:>12.0} {:>14.2}", file.len(), proved / plain);
+    }
+    println!("{:<34} {:>10} {:>12} {:>12} {:>14}", "bursts of", "bytes", "bursts MB/s", "whole MB/s", "bursts / whole");
+    for (name, file) in [("case 1", many(1, LONGEST / 4)), ("case 5", many(5, LONGEST / 4))] {
+        for length in [1, 64, 512, 4_096] {
+            let (bursts, whole) = time_bursts(&file, length);
+            println!("{:<34} {:>10} {bursts:>12.0} {whole:>12.0} {:>14.2}", format!("{length}, {name}"), file.len(), bursts / whole);
+        }
     }
 }

@@ -1,6 +1,6 @@
 -- A reply as one number word of 64 bits for the C host: number * 2^57 + column * 2^32 + place. The column is 0. The number is taken modulo 2^7
--- and the place modulo 2^32, so that the word is defined for every reply; document 01's table stops at 22, and places are
--- lines of a file or a header, sets, indices of stored numbers or lengths of an accepted text.
+-- and the place modulo 2^32, so that the word is defined for every reply; document 01's table stops at 22, a burst's numbers are 23 and 127
+-- too, and places are lines of a file or a header, sets, indices of stored numbers or lengths of an accepted text.
 use Prim.Native.Nat.{ℕ, _+_, _*_, _%_}
 use Rattle.judge.specs.declared.Reply.{Reply}
 

@@ -8,6 +8,7 @@ ghost use Rattle.host.specs.Answer.{twosComplement, numberBytes, numberA
 ghost use Rattle.laws.specs.Choice.{pick};
 ghost use Rattle.text.specs.Parts.{signed};
 ghost use Rattle.judge.specs.Judge.{judged};
+ghost use Rattle.lent.specs.Lent.{startReply, startNumbers, startLine, Burst, endOf, endNumbers};
 ghost use Rattle.lister.specs.Lister.{listReply, listRows};
 ghost use Rattle.rewriter.specs.Rewriter.{rewriteReply, rewriteOut};
 ghost use Rattle.writer.specs.Writer.{writeReply, writeOut};
@@ -187,5 +188,32 @@ pub extern "C" fn uff_write(
     ensures { λ r. ⌜ (r ≡ word (writeReply (now (header .entry)) (now (coefficients .entry)) (now (scales .entry)) (length (now (out .entry))))) × (now (out .exit) ≡ writeOut (now (header .entry)) (now (coefficients .entry)) (now (scales .entry)) (now (out .entry))) ⌝ }
 {
     let found = writer::write(header, coefficients, scales, out);
+    pack(found.number, found.place)
+}
+
+// A file judged while it arrives: lays out a record that starts a new file.
+#[no_mangle]
+pub extern "C" fn uff_start(numbers: &mut [u64], line: &mut [u8]) -> u64
+    ensures { λ r. ⌜ (r ≡ word (startReply (now (numbers .entry)) (now (line .entry)))) × (now (numbers .exit) ≡ startNumbers (now (numbers .entry)) (now (line .entry))) × (now (line .exit) ≡ startLine (now (numbers .entry)) (now (line .entry))) ⌝ }
+{
+    let found = lent::start(numbers, line);
+    pack(found.number, found.place)
+}
+
+// Brings the record up to date by a burst; its refusal so far, or 127 and the number of finished lines.
+#[no_mangle]
+pub extern "C" fn uff_burst(numbers: &mut [u64], line: &mut [u8], bytes: &[u8]) -> u64
+    ensures { λ r. ⌜ Burst word (now (numbers .entry)) (now (line .entry)) (now (bytes .entry)) (now (numbers .exit)) (now (line .exit)) r ⌝ }
+{
+    let found = lent::burst(numbers, line, bytes);
+    pack(found.number, found.place)
+}
+
+// The end of the record's file: the judge's reply for the whole of it.
+#[no_mangle]
+pub extern "C" fn uff_end(numbers: &mut [u64], line: &[u8]) -> u64
+    ensures { λ r. ⌜ (r ≡ word (endOf (now (numbers .entry)) (now (line .entry)))) × (now (numbers .exit) ≡ endNumbers (now (numbers .entry)) (now (line .entry))) ⌝ }
+{
+    let found = lent::end(numbers, line);
     pack(found.number, found.place)
 }

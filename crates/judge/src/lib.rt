@@ -40,7 +40,7 @@ fn ends_inside(lines: usize) -> Reply
 }
 
 // The reply at the end of a file that was not refused before, with the bytes after its last LF.
-fn finish(s: State, lines: usize, rest: &[u8]) -> Reply
+pub fn finish(s: State, lines: usize, rest: &[u8]) -> Reply
     requires { ⌜ lines ≤ 16777216 ⌝ }
     ensures { λ r. ⌜ r ≡ runEnd (going s lines) (now (rest .entry)) ⌝ }
 {

@@ -18,6 +18,7 @@ pub mod ColumnsLaws
 pub mod LaidOut
 pub mod LaidOutLaws
 pub mod Theorems
+pub mod Bounds
 pub mod Text
 pub mod Named
 pub mod Wrong

@@ -1,0 +1,58 @@
+-- `lent::burst` meets its contract.
+use mathlib.Core.Path.{sym, ap, _∙_}
+use lib.ListN.{length}
+use Rattle.stream.specs.Stream.{paper}
+use Rattle.lent.specs.LentLaws.{room, burst-short, burst-ended, burst-further}
+use native.Mathlib.Omega.{arith}
+use borrow.Author.Needs.{needs}
+use Rattle.lent.proofs.burst.Statement.{statement}
+use Rattle.lent.proofs.burst.Tie as tie
+
+is-short-requires : tie.Need-is-short-requires
+is-short-requires c κs = search needs
+
+returns : tie.Need-returns
+returns c = burst-short _ _ _ (sym (c .before .is-short .ensures) ∙ c .if1 .taken)
+
+slice-read-if2 : tie.Need-slice-read-if2
+slice-read-if2 c = omega (arith, room (length (c .before .before .before .before .before .before .args .numbers .now)) (length (c .before .before .before .before .before .before .args .line .now)) (sym (c .before .before .is-short .ensures) ∙ c .before .if1 .left) .0)
+
+returns-2 : tie.Need-returns-2
+returns-2 c = burst-ended (c .before .before .before .before .before .before .before .args .numbers .now) (c .before .before .before .before .before .before .before .args .line .now) _ (sym (c .before .before .before .is-short .ensures) ∙ c .before .before .if1 .left) (omega (arith, c .if2 .taken))
+
+record-in-requires : tie.Need-record-in-requires
+record-in-requires c κs = room _ _ (sym (c .before .before .before .before .before .is-short .ensures) ∙ c .before .before .before .before .if1 .left)
+
+turn-requires : tie.Need-turn-requires
+turn-requires c κs = search needs
+
+put-record-requires : tie.Need-put-record-requires
+put-record-requires c κs = room _ _ (sym (c .before .before .before .before .before .before .before .before .before .before .is-short .ensures) ∙ c .before .before .before .before .before .before .before .before .before .if1 .left)
+
+reply-of-requires : tie.Need-reply-of-requires
+reply-of-requires c κs = search needs
+
+same-length : tie.Need-same-length
+same-length c = search needs
+
+same-length-2 : tie.Need-same-length-2
+same-length-2 c = search needs
+
+returns-3 : tie.Need-returns-3
+returns-3 c = burst-further (c .before .before .before .before .before .before .before .before .before .before .before .before .before .before .before .before .before .before .before .before .args .numbers .now) (c .before .before .before .before .before .before .before .before .before .before .before .before .before .before .before .before .before .before .before .before .args .line .now) _ (sym (c .before .before .before .before .before .before .before .before .before .before .before .before .before .before .before .before .is-short .ensures) ∙ c .before .before .before .before .before .before .before .before .before .before .before .before .before .before .before .if1 .left) (omega (arith, c .before .before .before .before .before .before .before .before .before .before .before .before .before .if2 .left)) _ (c .before .before .before .before .before .before .before .before .before .before .record-in .ensures) _ (c .before .before .before .before .before .before .before .before .before .turn .ensures .0) (c .before .before .before .before .before .put-record .ensures .2) _ _ (c .before .before .before .before .before .put-record .ensures .0) (c .before .before .before .before .before .put-record .ensures .1) _ (c .reply-of .ensures ∙ ap paper (c .before .before .before .before .before .before .before .before .before .turn .ensures .1))
+
+pub burst-spec : {M : Type 1} → statement M
+burst-spec =
+    tie.close
+    (tie.spec
+    is-short-requires
+    returns
+    slice-read-if2
+    returns-2
+    record-in-requires
+    turn-requires
+    put-record-requires
+    reply-of-requires
+    same-length
+    same-length-2
+    returns-3)

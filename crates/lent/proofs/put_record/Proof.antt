@@ -1,0 +1,58 @@
+-- `lent::put_record` meets its contract.
+use Rattle.lent.specs.LentLaws.{laid-record}
+use borrow.Author.Needs.{needs}
+use Rattle.lent.proofs.put_record.Statement.{statement}
+use Rattle.lent.proofs.put_record.Tie as tie
+
+cast-sets : tie.Need-cast-sets
+cast-sets c = search needs
+
+cast-number : tie.Need-cast-number
+cast-number c = search needs
+
+flag-requires : tie.Need-flag-requires
+flag-requires c κs = search needs
+
+put-place-requires : tie.Need-put-place-requires
+put-place-requires c κs = search needs
+
+sub-put-six : tie.Need-sub-put-six
+sub-put-six c = search needs
+
+part-put-six-start : tie.Need-part-put-six-start
+part-put-six-start c = search needs
+
+part-put-six-end : tie.Need-part-put-six-end
+part-put-six-end c = search needs
+
+put-six-requires : tie.Need-put-six-requires
+put-six-requires c κs = search needs
+
+put-line-requires : tie.Need-put-line-requires
+put-line-requires c κs = search needs
+
+same-length : tie.Need-same-length
+same-length c = search needs
+
+same-length-2 : tie.Need-same-length-2
+same-length-2 c = search needs
+
+returns : tie.Need-returns
+returns c = (laid-record (c .before .before .before .before .before .before .before .before .before .before .before .before .before .before .before .before .before .before .before .before .args .c) (c .before .before .before .before .before .before .before .before .before .before .before .before .before .before .before .before .before .before .before .before .args .numbers .now) _ _ _ (c .before .before .before .before .before .before .before .before .before .before .before .put-place .ensures) (c .before .before .before .before .before .before .before .put-six .ensures) (c .before .before .before .before .before .before .before .before .before .before .before .before .before .before .flag .ensures), c .before .before .put-line .ensures .0, record { sets = search needs; number = search needs; pending = c .before .before .put-line .ensures .1 })
+
+pub put-record-spec : {M : Type 1} → statement M
+put-record-spec =
+    tie.close
+    (tie.spec
+    cast-sets
+    cast-number
+    flag-requires
+    put-place-requires
+    sub-put-six
+    part-put-six-start
+    part-put-six-end
+    put-six-requires
+    put-line-requires
+    same-length
+    same-length-2
+    returns)

@@ -1,0 +1,39 @@
+-- `lent::start` meets its contract.
+use mathlib.Core.Path.{sym, _∙_}
+use Rattle.lent.specs.LentLaws.{room, start-short, start-lays}
+use borrow.Author.Needs.{needs}
+use Rattle.lent.proofs.start.Statement.{statement}
+use Rattle.lent.proofs.start.Tie as tie
+
+is-short-requires : tie.Need-is-short-requires
+is-short-requires c κs = search needs
+
+returns : tie.Need-returns
+returns c = start-short _ _ (sym (c .before .is-short .ensures) ∙ c .if1 .taken)
+
+new-record-requires : tie.Need-new-record-requires
+new-record-requires c κs = search needs
+
+put-record-requires : tie.Need-put-record-requires
+put-record-requires c κs = room _ _ (sym (c .before .before .before .before .is-short .ensures) ∙ c .before .before .before .if1 .left)
+
+same-length : tie.Need-same-length
+same-length c = search needs
+
+same-length-2 : tie.Need-same-length-2
+same-length-2 c = search needs
+
+returns-2 : tie.Need-returns-2
+returns-2 c = start-lays _ _ (sym (c .before .before .before .before .before .before .before .before .before .is-short .ensures) ∙ c .before .before .before .before .before .before .before .before .if1 .left) _ (c .before .before .before .before .before .new-record .ensures) _ _ (c .before .before .before .before .put-record .ensures .0) (c .before .before .before .before .put-record .ensures .1)
+
+pub start-spec : {M : Type 1} → statement M
+start-spec =
+    tie.close
+    (tie.spec
+    is-short-requires
+    returns
+    new-record-requires
+    put-record-requires
+    same-length
+    same-length-2
+    returns-2)

@@ -1,0 +1,12 @@
+-- `stream::is_past` meets its contract.
+use mathlib.Core.Path.{refl}
+use Rattle.stream.specs.Stream.{isPast}
+use Rattle.stream.proofs.is_past.Statement.{statement}
+use Rattle.stream.proofs.is_past.Tie as tie
+
+returns : tie.Need-returns
+unfolding isPast
+returns c = refl
+
+pub is-past-spec : {M : Type 1} → statement M
+is-past-spec = tie.close (tie.spec returns)

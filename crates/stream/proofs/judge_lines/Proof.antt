@@ -1,0 +1,84 @@
+-- `stream::judge_lines` meets its contract.
+use mathlib.Core.Path.{_≡_, refl, _∙_}
+use Prim.Native.Nat.{_≤_, _+_, _-_}
+use lib.ListN.{length, drop}
+use Rattle.laws.specs.Cut.{lineLen, cut, over}
+use Rattle.line.specs.LineLaws.{lineLen-within}
+use Rattle.judge.specs.Judge.{going, runStep, runEnd}
+use Rattle.stream.specs.StreamLaws.{lines-next, rest-next, judged-to-stop, judged-to-end}
+use borrow.Author.Needs.{needs}
+use Rattle.stream.proofs.judge_lines.Statement.{statement}
+use Rattle.stream.proofs.judge_lines.Tie as tie
+
+abbrev Inv-loop : tie.InvT-loop
+Inv-loop lines bytes at s₀ n₀ from₀ end₀ s n from end = (from ≤ length bytes) × ((end ≡ from + lineLen (drop from bytes)) × ((end ≤ length bytes) × ((n + at ≤ lines + from) × ((over runStep runEnd (going s n) (cut (drop from bytes) .lines) ≡ over runStep runEnd (going s₀ lines) (cut (drop at bytes) .lines)) × (cut (drop from bytes) .rest ≡ cut (drop at bytes) .rest)))))
+
+abbrev μ-loop : tie.MeasureT-loop
+μ-loop lines bytes at s₀ n₀ from₀ end₀ s n from end = length bytes - from
+
+find-end-requires : tie.Need-find-end-requires Inv-loop μ-loop
+find-end-requires c κs = search needs
+
+loop-holds : tie.Need-loop-holds Inv-loop μ-loop
+loop-holds c = (c .before .before .pre .0, (c .find-end .ensures, (rw (c .find-end .ensures) (lineLen-within _ _ (c .before .before .pre .0)), (search needs, (refl, refl)))))
+
+sub-line-step : tie.Need-sub-line-step Inv-loop μ-loop
+sub-line-step c = search needs
+
+part-line-step-start : tie.Need-part-line-step-start Inv-loop μ-loop
+part-line-step-start c = search needs
+
+part-line-step-end : tie.Need-part-line-step-end Inv-loop μ-loop
+part-line-step-end c = search needs
+
+line-step-requires : tie.Need-line-step-requires Inv-loop μ-loop
+line-step-requires c κs = search needs
+
+enum-known-next : tie.Need-enum-known-next Inv-loop μ-loop
+enum-known-next c = search needs
+
+enum-known-fault : tie.Need-enum-known-fault Inv-loop μ-loop
+enum-known-fault c = search needs
+
+returns : tie.Need-returns Inv-loop μ-loop
+returns c = judged-to-stop _ _ _ (c .before .before .before .before .before .before .loop .inv .0) (c .before .before .before .before .before .before .loop .inv .1 .0) _ _ _ (c .before .before .before .before .before .before .before .before .before .pre .0) _ _ (c .before .before .before .before .before .before .loop .inv .1 .1 .1 .0) (c .before .before .before .before .before .before .loop .inv .1 .1 .1 .1 .0) (c .before .before .before .before .before .loop-test .taken) _ (c .before .before .before .line-step .ensures) _ (c .before .fault .given .1)
+
+add-n : tie.Need-add-n Inv-loop μ-loop
+add-n c = search needs
+
+add-from : tie.Need-add-from Inv-loop μ-loop
+add-from c = search needs
+
+find-end-requires-2 : tie.Need-find-end-requires-2 Inv-loop μ-loop
+find-end-requires-2 c κs = search needs
+
+loop-less : tie.Need-loop-less Inv-loop μ-loop
+loop-less c = search needs
+
+loop-again : tie.Need-loop-again Inv-loop μ-loop
+loop-again c = (search needs, (c .find-end2 .ensures, (rw (c .find-end2 .ensures) (lineLen-within _ _ (search needs)), (search needs, (lines-next _ _ _ (c .before .before .before .before .before .before .before .loop .inv .0) (c .before .before .before .before .before .before .before .loop .inv .1 .0) (c .before .before .before .before .before .before .loop-test .taken) _ _ _ (c .before .before .before .before .line-step .ensures) _ (c .before .before .next .given .1) ∙ c .before .before .before .before .before .before .before .loop .inv .1 .1 .1 .1 .0, rest-next _ _ _ (c .before .before .before .before .before .before .before .loop .inv .0) (c .before .before .before .before .before .before .before .loop .inv .1 .0) (c .before .before .before .before .before .before .loop-test .taken) ∙ c .before .before .before .before .before .before .before .loop .inv .1 .1 .1 .1 .1)))))
+
+returns-2 : tie.Need-returns-2 Inv-loop μ-loop
+returns-2 c = judged-to-end _ _ _ (c .before .loop .inv .0) (c .before .loop .inv .1 .0) _ _ _ (c .before .before .before .before .pre .0) _ _ (c .before .loop .inv .1 .1 .1 .0) (c .before .loop .inv .1 .1 .1 .1 .0) (c .loop-test .left) (c .before .loop .inv .1 .1 .1 .1 .1)
+
+pub judge-lines-spec : {M : Type 1} → statement M
+judge-lines-spec =
+    tie.close
+    (tie.spec
+    Inv-loop
+    μ-loop
+    find-end-requires
+    loop-holds
+    sub-line-step
+    part-line-step-start
+    part-line-step-end
+    line-step-requires
+    enum-known-next
+    enum-known-fault
+    returns
+    add-n
+    add-from
+    find-end-requires-2
+    loop-less
+    loop-again
+    returns-2)

@@ -1,0 +1,43 @@
+-- `stream::step` meets its contract.
+use Rattle.stream.specs.StreamLaws.{stepped-ended, stepped-past, stepped-refused, stepped-going, bounds}
+use native.Mathlib.Omega.{arith}
+use borrow.Author.Needs.{needs}
+use Rattle.stream.proofs.step.Statement.{statement}
+use Rattle.stream.proofs.step.Tie as tie
+
+returns : tie.Need-returns
+returns c = stepped-ended (c .before .before .args .c) (c .before .before .args .burst .now) (c .if1 .taken)
+
+running-requires : tie.Need-running-requires
+running-requires c κs = search needs
+
+at-total-requires : tie.Need-at-total-requires
+at-total-requires c κs = search needs
+
+returns-2 : tie.Need-returns-2
+returns-2 c = stepped-past (c .before .before .before .before .before .args .c) (c .before .before .before .before .before .args .burst .now) (c .before .before .before .if1 .left) _ (c .before .before .running .ensures) _ (c .before .if2 .taken) (c .at-total .ensures)
+
+at-total-requires-2 : tie.Need-at-total-requires-2
+at-total-requires-2 c κs = search needs
+
+returns-3 : tie.Need-returns-3
+returns-3 c = stepped-refused (c .before .before .before .before .before .before .args .c) (c .before .before .before .before .before .before .args .burst .now) (c .before .before .before .before .if1 .left) _ (c .before .before .before .running .ensures) (c .before .before .if2 .left) _ (omega (arith, c .before .if3 .taken)) (c .at-total2 .ensures)
+
+open-step-requires : tie.Need-open-step-requires
+open-step-requires c κs = (bounds (c .before .before .before .before .before .args .c) (c .before .before .before .before .before .args .burst .now) (c .before .before .before .if1 .left) (c .before .before .running .result) (c .before .before .running .ensures) (c .before .if2 .left), c .before .if2 .left)
+
+returns-4 : tie.Need-returns-4
+returns-4 c = stepped-going (c .before .before .before .before .before .before .args .c) (c .before .before .before .before .before .before .args .burst .now) (c .before .before .before .before .if1 .left) _ (c .before .before .before .running .ensures) (c .before .before .if2 .left) _ (omega (arith, c .before .if3 .left)) (c .open-step .ensures .0) (c .open-step .ensures .1)
+
+pub step-spec : {M : Type 1} → statement M
+step-spec =
+    tie.close
+    (tie.spec
+    returns
+    running-requires
+    at-total-requires
+    returns-2
+    at-total-requires-2
+    returns-3
+    open-step-requires
+    returns-4)

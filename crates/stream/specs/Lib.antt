@@ -1,0 +1,3 @@
+pub mod Stream
+pub mod SqueezeLaws
+pub mod StreamLaws

@@ -1,0 +1,4 @@
+pub mod Streaming
+pub mod OpenLaws
+pub mod StreamingLaws
+pub mod Examples

@@ -1,0 +1,264 @@
+//! Holds the proved judge of bursts against the plain judge, cut by cut.
+//!
+//! Each file, fixed, generated or damaged, comes in bursts of random lengths, some of none; after each
+//! burst the answer must be what the plain judge says of the lines whose LF has come, at the end what
+//! it says of the whole file, and again when asked again; a burst after that is 23. The program stops
+//! at the first difference (exit 1).
+
+#[allow(dead_code)]
+#[path = "../judge/edges.rs"]
+mod edges;
+#[path = "../judge/files.rs"]
+mod files;
+#[allow(dead_code)]
+#[path = "../judge/generate.rs"]
+mod generate;
+#[path = "../judge/judge.rs"]
+mod judge;
+
+use generate::Random;
+use judge::Reply;
+
+/// Generated files, half of them proper and half of them faulty or damaged.
+const FILES: usize = 12_000;
+
+/// Cuts of each file.
+const CUTS: usize = 4;
+
+/// The most bytes that a file has.
+const LIMIT: usize = 16_777_216;
+
+/// "So far" as a number, which is no refusal's.
+const SO_FAR: u32 = 127;
+
+const NUMBERS: usize = 12;
+const LINE: usize = 82;
+
+/// What the lent record has around it, which no call may touch.
+const MARGIN: usize = 3;
+
+extern "C" {
+    fn uff_start(numbers: *mut u64, numbers_len: usize, line: *mut u8, line_len: usize) -> u64;
+    fn uff_burst(
+        numbers: *mut u64,
+        numbers_len: usize,
+        line: *mut u8,
+        line_len: usize,
+        bytes: *const u8,
+        bytes_len: usize,
+    ) -> u64;
+    fn uff_end(numbers: *mut u64, numbers_len: usize, line: *mut u8, line_len: usize) -> u64;
+}
+
+/// A record lent to the proved calls, with a margin around both parts.
+#[derive(Clone, PartialEq)]
+struct Record {
+    numbers: [u64; NUMBERS + 2 * MARGIN],
+    line: [u8; LINE + 2 * MARGIN],
+}
+
+impl Record {
+    fn new() -> Record {
+        let mut record = Record { numbers: [0xA5A5_5A5A; NUMBERS + 2 * MARGIN], line: [0xA5; LINE + 2 * MARGIN] };
+        let (numbers, line) = record.lend();
+        let word = unsafe { uff_start(numbers, NUMBERS, line, LINE) };
+        assert_eq!(word, 0, "a fresh record");
+        record
+    }
+
+    fn lend(&mut self) -> (*mut u64, *mut u8) {
+        (self.numbers[MARGIN..].as_mut_ptr(), self.line[MARGIN..].as_mut_ptr())
+    }
+
+    fn burst(&mut self, bytes: &[u8]) -> Reply {
+        let (numbers, line) = self.lend();
+        let pointer = if bytes.is_empty() { std::ptr::null() } else { bytes.as_ptr() };
+        reply(unsafe { uff_burst(numbers, NUMBERS, line, LINE, pointer, bytes.len()) })
+    }
+
+    fn end(&mut self) -> Reply {
+        let (numbers, line) = self.lend();
+        reply(unsafe { uff_end(numbers, NUMBERS, line, LINE) })
+    }
+
+    fn margins(&self) -> bool {
+        let (numbers, line) = (&self.numbers, &self.line);
+        numbers[..MARGIN].iter().chain(&numbers[MARGIN + NUMBERS..]).all(|&n| n == 0xA5A5_5A5A)
+            && line[..MARGIN].iter().chain(&line[MARGIN + LINE..]).all(|&b| b == 0xA5)
+    }
+}
+
+fn reply(word: u64) -> Reply {
+    assert_eq!((word >> 32) & ((1 << 25) - 1), 0, "the column");
+    Reply { number: (word >> 57) as u32, place: word as u32 }
+}
+
+/// The answer after these bytes: 1 past the limit; the refusal of the earliest bad line whose LF has
+/// come, which is the refusal of those lines alone at one of them; otherwise how many they are.
+fn so_far(bytes: &[u8]) -> Reply {
+    if bytes.len() > LIMIT {
+        return Reply { number: 1, place: 0 };
+    }
+    let past = bytes.iter().rposition(|&b| b == b'\n').map_or(0, |at| at + 1);
+    let lines = bytes[..past].iter().filter(|&&b| b == b'\n').count() as u32;
+    let found = judge::judge(&bytes[..past]);
+    if found.number != 0 && found.place >= 1 && found.place <= lines {
+        return found;
+    }
+    Reply { number: SO_FAR, place: lines }
+}
+
+struct Run {
+    random: Random,
+    cuts: u32,
+    bursts: u32,
+    /// How often each end came.
+    ends: [u32; 17],
+}
+
+impl Run {
+    /// The length of the next burst: often short, so that cuts come inside lines and line ends; long in long files.
+    fn length(&mut self, left: usize) -> usize {
+        if left > 200_000 {
+            return self.random.below(100_000);
+        }
+        let most = match self.random.below(6) {
+            0 => 1,
+            1 => 3,
+            2 => 20,
+            3 => 100,
+            4 => 700,
+            _ => 5_000,
+        };
+        self.random.below(most + 1).min(left)
+    }
+
+    /// One file in bursts of random lengths; some answers on the way are asked for in long files.
+    fn take(&mut self, name: &str, file: &[u8]) {
+        self.cuts += 1;
+        let mut record = Record::new();
+        let mut at = 0;
+        let mut empty = 0;
+        while at < file.len() || empty < 2 {
+            let length = self.length(file.len() - at);
+            empty += u32::from(length == 0);
+            let answer = record.burst(&file[at..at + length]);
+            at += length;
+            self.bursts += 1;
+            if file.len() < 20_000 || self.random.one_in(500) {
+                self.hold(name, file, at, "burst", answer, so_far(&file[..at]));
+            }
+        }
+        let whole = judge::judge(file);
+        self.ends[whole.number as usize] += 1;
+        for ask in ["end", "end asked again"] {
+            let answer = record.end();
+            self.hold(name, file, at, ask, answer, whole);
+        }
+        let before = record.clone();
+        let answer = record.burst(&file[..file.len().min(9)]);
+        self.hold(name, file, at, "burst after the end", answer, Reply { number: 23, place: 0 });
+        if record != before || !record.margins() {
+            self.fail(name, file, at, "23, or a margin: the record was touched");
+        }
+        let answer = record.end();
+        self.hold(name, file, at, "end after 23", answer, whole);
+    }
+
+    fn hold(&self, name: &str, file: &[u8], at: usize, call: &str, proved: Reply, plain: Reply) {
+        if proved != plain {
+            let what = format!(
+                "{call}: proved {} at {}, plain {} at {}",
+                proved.number, proved.place, plain.number, plain.place
+            );
+            self.fail(name, file, at, &what);
+        }
+    }
+
+    fn fail(&self, name: &str, file: &[u8], at: usize, what: &str) -> ! {
+        println!("DIFFERENCE on: {name} ({} bytes), after {at} bytes in bursts", file.len());
+        for (n, line) in file.split_inclusive(|&b| b == b'\n').take(200).enumerate() {
+            println!("{:5} |{}|", n + 1, line[..line.len().min(200)].escape_ascii());
+        }
+        println!("{what}");
+        std::process::exit(1);
+    }
+}
+
+/// Records that no bursts grew: every call ends, and touches nothing but the record.
+fn made_up(random: &mut Random, count: usize) {
+    for _ in 0..count {
+        let mut record = Record::new();
+        for number in &mut record.numbers[MARGIN..MARGIN + NUMBERS] {
+            *number = match random.below(4) {
+                0 => random.next(),
+                1 => random.below(200) as u64,
+                2 => u64::MAX - random.below(3) as u64,
+                _ => 16_777_214 + random.below(6) as u64,
+            };
+        }
+        record.numbers[MARGIN + NUMBERS - 1] &= u64::from(random.one_in(8));
+        for byte in &mut record.line[MARGIN..MARGIN + LINE] {
+            *byte = random.next() as u8;
+        }
+        for _ in 0..random.below(5) {
+            let bytes: Vec<u8> = (0..random.below(300)).map(|_| if random.one_in(9) { 10 } else { random.next() as u8 }).collect();
+            record.burst(&bytes);
+        }
+        record.end();
+        assert!(record.margins(), "a made-up record: a margin was touched");
+    }
+}
+
+/// A buffer too short is 20, and nothing is touched.
+fn too_short() {
+    for (numbers_len, line_len) in [(0, LINE), (NUMBERS - 1, LINE), (NUMBERS, 0), (NUMBERS, LINE - 1)] {
+        let mut record = Record::new();
+        let before = record.clone();
+        let (numbers, line) = record.lend();
+        let words = unsafe {
+            [
+                uff_start(numbers, numbers_len, line, line_len),
+                uff_burst(numbers, numbers_len, line, line_len, b"x\n".as_ptr(), 2),
+                uff_end(numbers, numbers_len, line, line_len),
+            ]
+        };
+        for word in words {
+            let answer = reply(word);
+            assert_eq!((answer.number, answer.place), (20, 0));
+        }
+        assert!(record == before, "a refused call touched the record");
+    }
+}
+
+fn main() {
+    let mut run = Run { random: Random::new(0x5EED_0C11_0B57_0127), cuts: 0, bursts: 0, ends: [0; 17] };
+    for edge in edges::edges() {
+        for _ in 0..CUTS {
+            run.take(&edge.name, &edge.file);
+        }
+    }
+    let mut random = Random::new(0x5EED_0F58_0C11_0151);
+    for n in 0..FILES {
+        let mut file = match n % 4 {
+            0 | 2 => generate::proper(&mut random).file,
+            1 => generate::faulty(&mut random, 8),
+            _ => generate::proper(&mut random).file,
+        };
+        if n % 4 == 3 {
+            generate::damage(&mut random, &mut file);
+        }
+        for _ in 0..CUTS {
+            run.take("generated file", &file);
+        }
+    }
+    too_short();
+    made_up(&mut random, 20_000);
+    for (number, came) in run.ends.iter().enumerate() {
+        println!("{number:7} {came:8}");
+    }
+    for (number, least) in [(0, 20_000), (1, 4), (2, 100), (3, 100), (4, 100), (5, 100), (6, 100), (7, 100), (8, 100), (12, 100), (13, 100), (16, 4)] {
+        assert!(run.ends[number] >= least, "{number} came only {} times", run.ends[number]);
+    }
+    println!("compared {} cuts, {} bursts", run.cuts, run.bursts);
+}
