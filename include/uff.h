@@ -1,0 +1,176 @@
+/*
+ * Universal Files for C and C++: a judge, a lister, a reader, a writer, a rewriter, and a judge of
+ * files that are still arriving. Every call is proved for all inputs; no call has a precondition
+ * but those of C itself:
+ *
+ * - A slice is a pointer and a count of elements, and lies in memory that the caller may use. A null
+ *   pointer with count 0 is an empty slice.
+ * - Lent buffers do not overlap, with each other or with an input.
+ *
+ * A refusal leaves every lent buffer untouched. A buffer longer than the answer keeps the rest. (The
+ * record of the streaming calls is told apart below.) No call allocates, keeps a pointer or has state
+ * of its own; calls on separate buffers may run at the same time.
+ *
+ * Lines, sets and columns are counted from 1; bytes, stored numbers and values from 0.
+ */
+#ifndef UFF_H
+#define UFF_H
+
+#include <stddef.h>
+#include <stdint.h>
+
+#define UFF_VERSION "1.0"
+
+/* The most bytes that a file has, the most sets, and the numbers that the lister gives for a set. */
+#define UFF_LONGEST 16777216
+#define UFF_SETS 4096
+#define UFF_ROW 6
+
+/* The bytes of an answer of uff_number, and the most that uff_value gives. */
+#define UFF_NUMBER_BYTES 20
+#define UFF_VALUE_BYTES 24
+
+/*
+ * Every call replies with one word: number * 2^57 + column * 2^32 + place. The number is one of the
+ * table below. The column is 0 in this version. With number 0 the place is the answer that the call
+ * names; with a refusal it is the line, for 19 the index of the number, and 0 where none is named.
+ */
+#define UFF_NUMBER(reply) ((unsigned)((uint64_t)(reply) >> 57))
+#define UFF_COLUMN(reply) ((uint32_t)((uint64_t)(reply) >> 32 & 0x1ffffff))
+#define UFF_PLACE(reply) ((uint32_t)((uint64_t)(reply) & 0xffffffff))
+
+/* The numbers that a caller compares with most. */
+#define UFF_ACCEPTED 0
+#define UFF_SO_FAR 127
+
+/* The table of numbers: a short text for each. */
+static inline const char *uff_text(unsigned number)
+{
+    switch (number) {
+    case 0: return "accepted";
+    case 1: return "the file has more than 16,777,216 bytes";
+    case 2: return "a byte is not allowed";
+    case 3: return "the line has more than 80 columns";
+    case 4: return "the last line does not end in LF";
+    case 5: return "a line that is not blank stands outside the sets";
+    case 6: return "the dataset number is wrong or missing";
+    case 7: return "the set ends while lines are still due";
+    case 8: return "another line stands where the closing delimiter is due";
+    case 9: return "a text that must not be blank is blank";
+    case 10: return "an integer field is blank or malformed";
+    case 11: return "an integer is out of range, or its code is not listed";
+    case 12: return "a real field is blank or malformed";
+    case 13: return "a byte that is not blank stands outside the fields due on the line";
+    case 14: return "minimum or increment is not zero with uneven spacing, or a factor is not above zero";
+    case 15: return "the file has more than 4,096 sets";
+    case 16: return "the file has no set";
+    case 17: return "fewer than six places are lent for each set";
+    case 18: return "there is no such set, number or value, or the set is not a 58";
+    case 19: return "a number cannot be written exactly in its field";
+    case 20: return "the buffer lent is too short";
+    case 21: return "a number is outside the range that is read exactly";
+    case 22: return "coefficients and scales do not agree in count with each other and the header";
+    case 23: return "a burst came after the end was asked";
+    case 127: return "so far every finished line is good";
+    default: return "not a number of this table";
+    }
+}
+
+#ifdef __cplusplus
+extern "C" {
+#endif
+
+/*
+ * The judge: whether the bytes are a Universal File. The answer is the last line. A refusal, 1 to 16,
+ * is that of the earliest bad line.
+ */
+uint64_t uff_judge(const uint8_t *file, size_t file_len);
+
+/*
+ * The lister: six numbers for each set, one set after the other: its opening line, dataset number,
+ * declared count of values, first byte, byte past its closing line, first byte of its data lines. The
+ * third and sixth are 0 unless it is a 58. The answer is the number of sets. Refused as by the judge,
+ * then with 17; UFF_SETS * UFF_ROW places are enough for every file.
+ */
+uint64_t uff_list(const uint8_t *file, size_t file_len, uint32_t *rows, size_t rows_len);
+
+/*
+ * The reader of stored numbers: number `index` of set `set`, a 58, in 20 bytes, each part with its
+ * lowest byte first: first byte of its columns (4 bytes), byte past them (4), coefficient (8), scale
+ * (2, two's complement), sign (1: 1 if negative), zero (1). It means coefficient * 10^scale. The answer
+ * is 20. Refused as by the judge, then with 18, 20.
+ */
+uint64_t uff_number(const uint8_t *file, size_t file_len, uint32_t set, uint32_t index, uint8_t *out, size_t out_len);
+
+/*
+ * The reader of values: value `index` of set `set`, a 58, as one to three doubles (IEEE 754 binary64)
+ * of 8 bytes, lowest byte first. The answer is the kind: 1 a real, 2 a real and an imaginary part, 3 an
+ * abscissa and a real, 4 an abscissa, a real and an imaginary part. Refused as by the judge, then with
+ * 18, 21 (a coefficient above 2^53 or a scale outside -22 to 22), 20.
+ */
+uint64_t uff_value(const uint8_t *file, size_t file_len, uint32_t set, uint32_t index, uint8_t *out, size_t out_len);
+
+/*
+ * The rewriter: the file with LF ends, no blanks at line ends, no lines outside sets, delimiters and
+ * dataset numbers spelled plainly, and all else as it was. The answer is its length. Refused as by the
+ * judge, then with 20; UFF_LONGEST bytes are enough for every file.
+ */
+uint64_t uff_rewrite(const uint8_t *file, size_t file_len, uint8_t *out, size_t out_len);
+
+/*
+ * The writer: one whole set 58 from its eleven header lines and its stored numbers, each a coefficient
+ * and a scale. The answer is its length. Refused as the header's lines are, counted from 1, then with
+ * 22, 19 (the place is the number's index), 20.
+ */
+uint64_t uff_write(const uint8_t *header, size_t header_len, const int64_t *coefficients, size_t coefficients_len,
+                   const int16_t *scales, size_t scales_len, uint8_t *out, size_t out_len);
+
+/*
+ * A file judged while it arrives, in bursts of any size, with a record of 12 numbers and 82 bytes that
+ * the caller keeps. Any contents of the record are safe; one that uff_start laid out starts a new file.
+ *
+ * uff_start lays out such a record. The answer is 0. Refused with 20 where a buffer is shorter.
+ */
+uint64_t uff_start(uint64_t *numbers, size_t numbers_len, uint8_t *line, size_t line_len);
+
+/*
+ * Takes in a burst and brings the record up to date, after a refusal of the file too. The reply is 127
+ * with the number of finished lines, or the refusal so far: 1 once the bytes are more than UFF_LONGEST,
+ * otherwise that of the earliest bad line whose LF has come. Only 20 (a record too short) and 23 (the
+ * end was asked before) leave the record untouched.
+ */
+uint64_t uff_burst(uint64_t *numbers, size_t numbers_len, uint8_t *line, size_t line_len, const uint8_t *bytes,
+                   size_t bytes_len);
+
+/*
+ * The end of the file: replies as the judge does for all the bytes that came, and marks in the record
+ * that the end was asked; asked again it replies the same. Refused with 20 where the record is too short.
+ */
+uint64_t uff_end(uint64_t *numbers, size_t numbers_len, const uint8_t *line, size_t line_len);
+
+#ifdef __cplusplus
+}
+#endif
+
+/* The record as one piece, and the three calls on it. */
+struct uff_stream {
+    uint64_t numbers[12];
+    uint8_t line[82];
+};
+
+static inline uint64_t uff_stream_start(struct uff_stream *record)
+{
+    return uff_start(record->numbers, 12, record->line, 82);
+}
+
+static inline uint64_t uff_stream_burst(struct uff_stream *record, const uint8_t *bytes, size_t bytes_len)
+{
+    return uff_burst(record->numbers, 12, record->line, 82, bytes, bytes_len);
+}
+
+static inline uint64_t uff_stream_end(struct uff_stream *record)
+{
+    return uff_end(record->numbers, 12, record->line, 82);
+}
+
+#endif
