@@ -9,3 +9,5 @@ pub mod RestLaws
 pub mod RestComplete
 pub mod RestSound
 pub mod BlanksSound
+pub mod Plain
+pub mod PlainLaws

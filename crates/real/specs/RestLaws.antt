@@ -21,11 +21,11 @@ digits-split (b ∷ ds) es (more low high r) =
     let t = digits-split ds es r in
     (t .0, more low high (t .1), t .2)
 
-digits-join : {m w v : ℕ} {ds es : List ℕ} → Digits m ds w → Digits w es v → Digits m (ds ++ es) v
+pub digits-join : {m w v : ℕ} {ds es : List ℕ} → Digits m ds w → Digits w es v → Digits m (ds ++ es) v
 digits-join none r = r
 digits-join (more low high l) r = more low high (digits-join l r)
 
-digits-length : (ds es : List ℕ) → 0 + length ds + length es ≡ length (ds ++ es)
+pub digits-length : (ds es : List ℕ) → 0 + length ds + length es ≡ length (ds ++ es)
 digits-length ds es = rw (length-append ds es) (omega arith)
 
 -- a spelling follows from the first column

@@ -1,7 +1,8 @@
 // Real fields of any width.
 ghost use mathlib.Core.Path.{_≡_};
-ghost use Prim.Native.Nat.{_^_};
+ghost use Prim.Native.Nat.{_^_, _<_};
 ghost use Rattle.real.specs.Real.{start, malformed, push, next, onCoefficient, onExponent, onDigit, onSign, onPoint, onLetter, onBlank, isLetter, scanStep, scaled, realEnd, realOf};
+ghost use Rattle.real.specs.Plain.{isPlain, Few};
 use laws::wide;
 use text::blanks_before;
 use text::is_digit;
@@ -36,6 +37,9 @@ pub struct Scan {
     pub exponent: u16,
 }
 
+// 10^18: one digit more than a coefficient may have.
+const NO_COEFFICIENT: u64 = 1000000000000000000;
+
 // A malformed field, whatever follows.
 fn malformed() -> Scan
     ensures { λ r. ⌜ r ≡ malformed ⌝ }
@@ -55,7 +59,7 @@ fn malformed() -> Scan
 fn push_coefficient(m: u64, d: u8) -> u64
     ensures { λ r. ⌜ r ≡ push (10 ^ 18) m d ⌝ }
 {
-    if m < 1000000000000000000 {
+    if m < NO_COEFFICIENT {
         return m * 10 + wide(d);
     }
     m
@@ -285,8 +289,41 @@ pub fn finish(s: Scan) -> Real
     scaled(s, false, x - f)
 }
 
-// The real in these columns.
-pub fn real_field(s: &[u8]) -> Real
+// The number that the digit m and the digits in these columns spell. 10^18 where m is no digit, a column holds none, or they are
+// more than 17.
+fn push_digits(m: u64, s: &[u8]) -> u64
+    ensures { λ r. ⌜ (r < 10 ^ 18 → Few m (now (s .entry)) r) ⌝ }
+{
+    if 9 < m {
+        return NO_COEFFICIENT;
+    }
+    if 17 < s.len() {
+        return NO_COEFFICIENT;
+    }
+    let mut c = m;
+    let mut i = 0;
+    while i < s.len() {
+        let b = s[i];
+        if !is_digit(b) {
+            return NO_COEFFICIENT;
+        }
+        c = c * 10 + wide(b - 48);
+        i += 1;
+    }
+    c
+}
+
+// Whether these columns are those of the usual spelling that hold no digit: a blank, a blank or a minus, the point, the letter
+// and its sign.
+fn is_plain(first: u8, second: u8, point: u8, letter: u8, sign: u8) -> bool
+    ensures { λ r. ⌜ r ≡ isPlain first second point letter sign ⌝ }
+{
+    ((first == 32) & ((second == 32) | (second == 45)))
+        & ((point == 46) & (is_letter(letter) & ((sign == 43) | (sign == 45))))
+}
+
+// The real in these columns, byte by byte.
+fn scan_field(s: &[u8]) -> Real
     ensures { λ r. ⌜ r ≡ realOf (now (s .entry)) ⌝ }
 {
     let mut st = Scan {
@@ -304,4 +341,37 @@ pub fn real_field(s: &[u8]) -> Real
         i += 1;
     }
     finish(st)
+}
+
+// The real in these columns. The usual spelling is read by its columns, any other byte by byte.
+pub fn real_field(s: &[u8]) -> Real
+    ensures { λ r. ⌜ r ≡ realOf (now (s .entry)) ⌝ }
+{
+    if s.len() < 9 {
+        return scan_field(s);
+    }
+    let letter = s.len() - 4;
+    let sign = s.len() - 3;
+    let exponent = s.len() - 2;
+    let part = &s[4..letter];
+    let whole = push_digits(0, &s[2..3]);
+    let c = push_digits(whole, part);
+    let x = push_digits(0, &s[exponent..]);
+    if is_plain(s[0], s[1], s[3], s[letter], s[sign]) {
+        if c < NO_COEFFICIENT {
+            if x < 100 {
+                let after = part.len() as u8;
+                return finish(Scan {
+                    phase: 7,
+                    minus: s[1] == 45,
+                    coefficient: c,
+                    digits: after + 1,
+                    after,
+                    down: s[sign] == 45,
+                    exponent: x as u16,
+                });
+            }
+        }
+    }
+    scan_field(s)
 }
