@@ -89,7 +89,7 @@ plain-spelled {c = c} {x = x} first second point letter sign whole part ex h lw 
 -- what is read in a field of the usual spelling: the end of a field after two exponent digits
 pub plain-real : {w c x : ℕ} (k : ℕ) (l : List ℕ) → 9 ≤ length l
     → isPlain (getD l 0 0) (getD l 1 0) (getD l 3 0) (getD l (length l - 4) 0) (getD l (length l - 3) 0) ≡ true
-    → Few 0 (between 2 3 l) w → Few w (between 4 (length l - 4) l) c → Few 0 (between (length l - 2) (length l) l) x → x < 100
+    → Few 0 (between 2 3 l) w → Few w (between 4 (length l - 4) l) c → Few 0 (between (length l - 2) (length l) l) x → x ≤ 99
     → realEnd (at 7 (eqb (getD l 1 0) 45) c k (length (between 4 (length l - 4) l)) (eqb (getD l (length l - 3) 0) 45) x) ≡ realOf l
 plain-real k l h t fw fc fx small =
     realEnd-value _ (omega arith) (omega arith) (omega arith) refl refl

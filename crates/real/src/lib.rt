@@ -1,5 +1,6 @@
 // Real fields of any width.
 ghost use mathlib.Core.Path.{_≡_};
+ghost use mathlib.Core.Logic.{_⊎_};
 ghost use Prim.Native.Nat.{_^_, _<_};
 ghost use Rattle.real.specs.Real.{start, malformed, push, next, onCoefficient, onExponent, onDigit, onSign, onPoint, onLetter, onBlank, isLetter, scanStep, scaled, realEnd, realOf};
 ghost use Rattle.real.specs.Plain.{isPlain, Few};
@@ -322,6 +323,41 @@ fn is_plain(first: u8, second: u8, point: u8, letter: u8, sign: u8) -> bool
         & ((point == 46) & (is_letter(letter) & ((sign == 43) | (sign == 45))))
 }
 
+// What a field of the usual spelling holds; Malformed where it is spelled otherwise, whatever it then holds.
+fn plain_field(s: &[u8]) -> Real
+    ensures { λ r. ⌜ (r ≡ Real.Malformed) ⊎ (r ≡ realOf (now (s .entry))) ⌝ }
+{
+    if s.len() < 9 {
+        return Real::Malformed;
+    }
+    let letter = s.len() - 4;
+    let sign = s.len() - 3;
+    let exponent = s.len() - 2;
+    if !is_plain(s[0], s[1], s[3], s[letter], s[sign]) {
+        return Real::Malformed;
+    }
+    let part = &s[4..letter];
+    let whole = push_digits(0, &s[2..3]);
+    let c = push_digits(whole, part);
+    let x = push_digits(0, &s[exponent..]);
+    if NO_COEFFICIENT <= c {
+        return Real::Malformed;
+    }
+    if 99 < x {
+        return Real::Malformed;
+    }
+    let after = part.len() as u8;
+    finish(Scan {
+        phase: 7,
+        minus: s[1] == 45,
+        coefficient: c,
+        digits: after + 1,
+        after,
+        down: s[sign] == 45,
+        exponent: x as u16,
+    })
+}
+
 // The real in these columns, byte by byte.
 fn scan_field(s: &[u8]) -> Real
     ensures { λ r. ⌜ r ≡ realOf (now (s .entry)) ⌝ }
@@ -347,31 +383,9 @@ fn scan_field(s: &[u8]) -> Real
 pub fn real_field(s: &[u8]) -> Real
     ensures { λ r. ⌜ r ≡ realOf (now (s .entry)) ⌝ }
 {
-    if s.len() < 9 {
-        return scan_field(s);
-    }
-    let letter = s.len() - 4;
-    let sign = s.len() - 3;
-    let exponent = s.len() - 2;
-    let part = &s[4..letter];
-    let whole = push_digits(0, &s[2..3]);
-    let c = push_digits(whole, part);
-    let x = push_digits(0, &s[exponent..]);
-    if is_plain(s[0], s[1], s[3], s[letter], s[sign]) {
-        if c < NO_COEFFICIENT {
-            if x < 100 {
-                let after = part.len() as u8;
-                return finish(Scan {
-                    phase: 7,
-                    minus: s[1] == 45,
-                    coefficient: c,
-                    digits: after + 1,
-                    after,
-                    down: s[sign] == 45,
-                    exponent: x as u16,
-                });
-            }
-        }
+    let r = plain_field(s);
+    if let Real::Value(number) = r {
+        return Real::Value(number);
     }
     scan_field(s)
 }
