@@ -1,21 +1,23 @@
 -- Coefficient and power of ten are exact, so that the one operation rounds the number itself, and once.
 use mathlib.Core.Path.{_≡_, refl, sym, _∙_}
 use mathlib.Core.Logic.{⊎-elim}
-use mathlib.Core.Bool.{true, false}
-use Prim.Native.Nat.{ℕ, _+_, _*_, _^_, _≤_, _<_}
+use mathlib.Core.Bool.{Bool, true, false, cond}
+use Prim.Native.Nat.{ℕ, zero, suc, _+_, _*_, _^_, _≤_, _<_}
 use native.Mathlib.Nat.{eq-or-lt-of-le, lt-of-lt-of-le, zero-lt-suc, one-le-pow, mul-one, zero-mul, mul-pos, mul-comm, mul-assoc, mul-left-comm}
 use native.Mathlib.Omega.{arith}
-use borrow.Author.Tests.{ltb-true, ne-eqb}
-use lib.Dec.{ltb}
+use borrow.Author.Tests.{ltb-true, leb-true, ne-eqb}
+use lib.Dec.{leb, ltb}
 use lib.IntN.{pos}
 use lib.Pow.{pow-add, pow-mono, shl-lt}
-use lib.Ieee.{Float, fin, binary64, up, down, round, ofInt, mul, div}
+use lib.Ieee.{Float, nan, inf, fin, Format, binary64, prec, emax, low, up, down, odd, units, round, ofInt, neg, mul, div, isNan}
 use lib.Ieee.Exact.{HasValue, round-exact}
 use lib.Ieee.Fits.{down-pos}
 use lib.Ieee.Scale.{round-same}
+use Rattle.laws.specs.Choice.{pick}
 use Rattle.laws.specs.Ranges.{in-range}
 use Rattle.laws.specs.Table.{agree-below}
-use Rattle.exact.specs.Exact.{tenOf, magnitudeOf}
+use Rattle.exact.specs.declared.Exact.the-variants.{Value, Outside}
+use Rattle.exact.specs.Exact.{tenOf, magnitudeOf, signed, exactOf}
 
 -- the f64 is the number n
 abbrev pub Is : Float → ℕ → Type 0
@@ -74,3 +76,44 @@ magnitudeOf-divided c k h g = div-rounded _ _ c (10 ^ k) (one-le-pow k 10 (zero-
 -- a scale of size 0 is the same below zero and not
 pub magnitudeOf-zero : (c : ℕ) → c ≤ 9007199254740992 → magnitudeOf c true 0 ≡ magnitudeOf c false 0
 magnitudeOf-zero c h = magnitudeOf-divided c 0 h (omega arith) ∙ sym (magnitudeOf-times c 0 h (omega arith) ∙ rw mul-one refl)
+
+-- No answer is a NaN: what is rounded is a number or an infinity.
+
+odd-number : (d : ℕ) (s : Bool) (q k l : ℕ) → isNan (odd d s q k l) ≡ false
+unfolding odd isNan
+odd-number d s zero k l = refl
+odd-number d s (suc q) k l = refl
+
+units-number : (f : Format) (s : Bool) (q k : ℕ) → isNan (units f s q k) ≡ false
+unfolding units isNan
+units-number f s q k = go (ltb (q * 2 ^ k) (2 ^ (low f + suc (emax f)))) (odd (suc (prec f)) s q k (low f)) (odd-number _ s q k _)
+  where
+    go : (t : Bool) (x : Float) → isNan x ≡ false → isNan (cond t x (inf s)) ≡ false
+    go true x h = h
+    go false x h = refl
+
+round-number : (f : Format) (s : Bool) (n d : ℕ) → isNan (round f s n d) ≡ false
+unfolding round
+round-number f s n d = units-number f s _ _
+
+signed-number : (n : Bool) (x : Float) → isNan x ≡ false → isNan (signed n x) ≡ false
+unfolding neg isNan
+signed-number false x h = h
+signed-number true nan h = h
+signed-number true (inf s) h = refl
+signed-number true (fin s m e) h = refl
+
+magnitudeOf-number : (c : ℕ) (b : Bool) (k : ℕ) → c ≤ 9007199254740992 → k ≤ 22 → isNan (magnitudeOf c b k) ≡ false
+magnitudeOf-number c true k h g = rw (magnitudeOf-divided c k h g) (round-number binary64 false c (10 ^ k))
+magnitudeOf-number c false k h g = rw (magnitudeOf-times c k h g) (round-number binary64 false (c * 10 ^ k) 1)
+
+pub exactOf-number : (n : Bool) (c : ℕ) (b : Bool) (k : ℕ) (x : Float) → exactOf n c b k ≡ Value x → isNan x ≡ false
+unfolding exactOf
+exactOf-number n c b k x e = go (leb c 9007199254740992) (leb k 22) refl refl e
+  where
+    go : (s t : Bool) → leb c 9007199254740992 ≡ s → leb k 22 ≡ t → pick s (pick t (Value (signed n (magnitudeOf c b k))) Outside) Outside ≡ Value x → isNan x ≡ false
+    go true true p q h =
+        let z : signed n (magnitudeOf c b k) ≡ x = cc in
+        rw (← z) (signed-number n (magnitudeOf c b k) (magnitudeOf-number c b k (leb-true _ _ p) (leb-true _ _ q)))
+    go true false p q h = let z : _≡_ {A = ℕ} 0 1 = cc in absurd (omega arith)
+    go false t p q h = let z : _≡_ {A = ℕ} 0 1 = cc in absurd (omega arith)

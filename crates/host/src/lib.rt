@@ -11,6 +11,7 @@ ghost use Rattle.judge.specs.Judge.{judged};
 ghost use Rattle.lent.specs.Lent.{startReply, startNumbers, startLine, Burst, endOf, endNumbers};
 ghost use Rattle.lister.specs.Lister.{listReply, listRows};
 ghost use Rattle.rewriter.specs.Rewriter.{rewriteReply, rewriteOut};
+ghost use Rattle.values.specs.Values.{allReply, allPlaces};
 ghost use Rattle.writer.specs.Writer.{writeReply, writeOut};
 ghost use Rattle.reader.specs.Reader.{said, shown, paper, paperNumber, numberOf, valueOf};
 use exact::bits;
@@ -166,6 +167,16 @@ pub extern "C" fn uff_value(file: &[u8], set: u32, index: u32, out: &mut [u8]) -
     ensures { λ r. ⌜ (r ≡ replyFor (valueAnswer (valueOf (now (file .entry)) set index)) (length (now (out .entry)))) × (now (out .exit) ≡ bytesAfter (valueAnswer (valueOf (now (file .entry)) set index)) (now (out .entry))) ⌝ }
 {
     answer_value(out, reader::value(file, set, index))
+}
+
+// All values of a set, counted from 1, one after the other, as the bit patterns of f64 into the places lent, which in C are doubles; how many
+// are filled.
+#[no_mangle]
+pub extern "C" fn uff_values(file: &[u8], set: u32, out: &mut [u64]) -> u64
+    ensures { λ r. ⌜ (r ≡ word (allReply (now (file .entry)) set (length (now (out .entry))))) × (now (out .exit) ≡ allPlaces (now (file .entry)) set (now (out .entry))) ⌝ }
+{
+    let found = values::values(file, set, out);
+    pack(found.number, found.place)
 }
 
 // Document 01's rewriter: the file in rewritten form into the bytes lent; its length.

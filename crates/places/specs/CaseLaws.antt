@@ -117,20 +117,26 @@ unfolding caseOf numberAt
 case-eight (SetLines.typed {n} {iss} {css} t l) e = record-case (getD iss 6 []) (filled (getD css 6 [])) (seventh iss css (rw e at l))
 case-eight (SetLines.plain {n} t l) e = false-not-true (sym (rw e at t) ∙ typed-58)
 
--- and declares at least one value
-item-some : (a : ℤ) → keeps count a ≡ true → 1 ≤ natural (Item.integer a)
+-- and declares one to 65,536 values
+item-counted : (a : ℤ) → keeps count a ≡ true → (1 ≤ natural (Item.integer a)) × (natural (Item.integer a) ≤ 65536)
 unfolding keeps
-item-some (pos v) k = leb-true 1 v (and-left (leb 1 v) (leb v 65536) k)
-item-some (negsuc v) k = false-not-true k
+item-counted (pos v) k = (leb-true 1 v (and-left (leb 1 v) (leb v 65536) k), leb-true v 65536 (and-right (leb 1 v) (leb v 65536) k))
+item-counted (negsuc v) k = false-not-true k
 
-record-some : (is : List Item) (line : List ℕ) → Written (recordOf 3) is line → 1 ≤ natural (getD is 1 Item.blank)
+record-counted : (is : List Item) (line : List ℕ) → Written (recordOf 3) is line → (1 ≤ natural (getD is 1 Item.blank)) × (natural (getD is 1 Item.blank) ≤ 65536)
 unfolding recordOf records
-record-some is line w =
+record-counted is line w =
     let x = first-item line ordinateType 10 _ (w .in-columns) refl in
     let y = first-item line count 10 _ (x .after) refl in
-    rw (x .items, y .items, y .keeps-rule .item) (item-some (y .keeps-rule .value) (y .keeps-rule .kept))
+    rw (x .items, y .items, y .keeps-rule .item) (item-counted (y .keeps-rule .value) (y .keeps-rule .kept))
+
+declared-counted : {s : Set} {css : List (List ℕ)} → SetLines s css → s .number ≡ 58 → (1 ≤ declared s) × (declared s ≤ 65536)
+unfolding declared numberAt
+declared-counted (SetLines.typed {n} {iss} {css} t l) e = rw e (record-counted (getD iss 6 []) (filled (getD css 6 [])) (seventh iss css (rw e at l)))
+declared-counted (SetLines.plain {n} t l) e = false-not-true (sym (rw e at t) ∙ typed-58)
 
 pub declared-some : {s : Set} {css : List (List ℕ)} → SetLines s css → s .number ≡ 58 → 1 ≤ declared s
-unfolding declared numberAt
-declared-some (SetLines.typed {n} {iss} {css} t l) e = rw e (record-some (getD iss 6 []) (filled (getD css 6 [])) (seventh iss css (rw e at l)))
-declared-some (SetLines.plain {n} t l) e = false-not-true (sym (rw e at t) ∙ typed-58)
+declared-some l e = declared-counted l e .0
+
+pub declared-most : {s : Set} {css : List (List ℕ)} → SetLines s css → s .number ≡ 58 → declared s ≤ 65536
+declared-most l e = declared-counted l e .1

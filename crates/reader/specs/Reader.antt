@@ -119,12 +119,12 @@ unfoldable pub reads : (ℕ → Real) → ℕ → ℕ → List Read
 reads g j zero = []
 reads g j (suc k) = readOf (g j) ∷ reads g (suc j) k
 
--- a value of this kind by its numbers, after those shown already. "Any other number makes the whole question 21": the first refusal is
--- the whole question's
+-- what numbers say together, with this place in the answer, after those shown already. "Any other number makes the whole question 21": the first
+-- refusal is the whole question's
 unfoldable pub whole : ℕ → List Float → List Read → Said Float
-whole kind xs [] = said 0 kind xs
-whole kind xs (read.Value x ∷ rs) = whole kind (xs ++ (x ∷ [])) rs
-whole kind xs (read.Refused n ∷ rs) = refused n 0
+whole place xs [] = said 0 place xs
+whole place xs (read.Value x ∷ rs) = whole place (xs ++ (x ∷ [])) rs
+whole place xs (read.Refused n ∷ rs) = refused n 0
 
 -- "a real, a complex pair, or either with its abscissa", by the case's spacing and ordinate type (5 and 6 are complex)
 unfoldable pub isUneven : ℕ → Bool

@@ -87,7 +87,7 @@ stored-none p e = go (isFunction p) (ltb (caseOf p) 8) refl refl e
     go true false f g h = rw (g, mul-zero) refl
     go false t f g h = rw (f, zero-mul) refl
 
-values-none : (p : Part) → isFunction p && ltb (caseOf p) 8 ≡ false → valuesIn p ≡ 0
+pub values-none : (p : Part) → isFunction p && ltb (caseOf p) 8 ≡ false → valuesIn p ≡ 0
 unfolding valuesIn countOf
 values-none p e = go (isFunction p) (ltb (caseOf p) 8) refl refl e
   where
@@ -96,17 +96,25 @@ values-none p e = go (isFunction p) (ltb (caseOf p) 8) refl refl e
     go true false f g h = rw g refl
     go false t f g h = rw f (pick-same (ltb (caseOf p) 8) 0)
 
--- two accounts of what stands in each number's columns
-reads-same : (f g : ℕ → Real) → ((j : ℕ) → f j ≡ g j) → (j k : ℕ) → reads f j k ≡ reads g j k
+-- the numbers of a value by two accounts that agree on them
+pub reads-same : (g f : ℕ → Real) (i j k : ℕ) → ((r : ℕ) → r < k → g (i + r) ≡ f (j + r)) → reads g i k ≡ reads f j k
 unfolding reads
-reads-same f g e j zero = refl
-reads-same f g e j (suc k) = rw (e j, reads-same f g e (suc j) k) refl
+reads-same g f i j zero h = refl
+reads-same g f i j (suc k) h =
+    let a : g i ≡ f j = sum-zero i j (h 0 (omega arith)) in
+    rw (a, reads-same g f (suc i) (suc j) k (λ r l. sum-next i j r (h (suc r) (omega arith)))) refl
+  where
+    sum-zero : (i j : ℕ) → g (i + 0) ≡ f (j + 0) → g i ≡ f j
+    sum-zero i j e = let p : i + 0 ≡ i = omega arith in let q : j + 0 ≡ j = omega arith in rw (p, q) at e
+
+    sum-next : (i j r : ℕ) → g (i + suc r) ≡ f (j + suc r) → g (suc i + r) ≡ f (suc j + r)
+    sum-next i j r e = let p : i + suc r ≡ suc i + r = omega arith in let q : j + suc r ≡ suc j + r = omega arith in rw (p, q) at e
 
 module _ (file : List ℕ) (p : Part) (ps : List Part) (s : Somewhere file p ps) where
-  abbrev own : Data
+  abbrev pub own : Data
   own = data58 (lineStart p 0) (closingStart p) (caseOf p) (countOf p)
 
-  real-own : (j : ℕ) → realAt file own j ≡ realIn file p j
+  pub real-own : (j : ℕ) → realAt file own j ≡ realIn file p j
   real-own j =
       rw (first-own file (s .before) (s .from) p ps (s .stands) (countOf p) j, past-own file (s .before) (s .from) p ps (s .stands) (countOf p) j) refl
 
@@ -118,7 +126,7 @@ module _ (file : List ℕ) (p : Part) (ps : List Part) (s : Somewhere file p ps)
 
   value-by : (t : Bool) (i : ℕ) → isFunction p && ltb (caseOf p) 8 ≡ t → valueBy file (pick t own nothing) i ≡ valueFrom file (p ∷ ps) i
   unfolding valueBy valueAt valueWith valuesIn
-  value-by true i e = rw (and-right (isFunction p) (ltb (caseOf p) 8) e, reads-same (realAt file own) (realIn file p) real-own) refl
+  value-by true i e = rw (and-right (isFunction p) (ltb (caseOf p) 8) e, reads-same (realAt file own) (realIn file p) (i * numbersOf (caseOf p)) (i * numbersOf (caseOf p)) (numbersOf (caseOf p)) (λ r l. real-own (i * numbersOf (caseOf p) + r))) refl
   value-by false i e = rw (values-none p e, le-ltb i 0 (omega arith)) refl
 
   inside-by : (t : Bool) → isFunction p && ltb (caseOf p) 8 ≡ t → ((pick t own nothing) .body ≤ length file) × ((pick t own nothing) .case < 8)

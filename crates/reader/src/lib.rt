@@ -98,7 +98,7 @@ fn find_set(file: &[u8], k: u32) -> Extent
 }
 
 // Where the numbers of a set are, counted from 1; nowhere if there is no such set, or it is no 58.
-fn find_data(file: &[u8], set: u32) -> Data
+pub fn find_data(file: &[u8], set: u32) -> Data
     ensures { λ r. ⌜ r ≡ dataOf (setsFrom (now (file .entry)) set) ⌝ }
 {
     if set == 0 {
@@ -142,7 +142,7 @@ fn span_of(file: &[u8], d: Data, j: usize) -> Span
 }
 
 // What stands in these columns; no number where the file ends before them.
-fn read_in(file: &[u8], first: usize, past: usize) -> Real
+pub fn read_in(file: &[u8], first: usize, past: usize) -> Real
     requires { ⌜ first ≤ past ⌝ }
     ensures { λ r. ⌜ r ≡ readIn (now (file .entry)) first past ⌝ }
 {
@@ -199,7 +199,7 @@ pub fn number(file: &[u8], set: u32, index: u32) -> NumberAnswer
 }
 
 // The f64 of what stands in a number's columns.
-fn read_of(x: Real) -> Read
+pub fn read_of(x: Real) -> Read
     ensures { λ r. ⌜ r ≡ readOf x ⌝ }
 {
     match x {

@@ -14,10 +14,10 @@ use Rattle.real.specs.Real as Real
 use Rattle.field.specs.Item.{Item}
 use Rattle.parts.specs.Parts.{Part}
 use Rattle.parts.specs.Function.{firstByte, pastByte}
-use Rattle.reader.specs.Reader.{Said, said, shown, valueWith, numberOf}
+use Rattle.reader.specs.Reader.{Said, said, shown, reads, whole, valueWith, numberOf}
 use Rattle.theory.specs.Sets.{Set}
 use Rattle.places.specs.Declared.{caseOf}
-use Rattle.places.specs.Stored.{storedItem}
+use Rattle.places.specs.Stored.{storedCount, storedItem}
 
 -- an item that is a real, as a number; no stored number is any other item
 abbrev pub realOfItem : Item → Real
@@ -29,6 +29,10 @@ realOfItem (Item.real n c s) = Value (Real.numberOf n c s)
 -- value i of a 58 of the list: what the reader's rule makes of its stored numbers
 unfoldable pub valueSaid : Set → ℕ → Said Float
 valueSaid s i = valueWith (λ (j : ℕ). realOfItem (storedItem s j)) (caseOf s) i
+
+-- all values of a 58 of the list: the f64 of its stored numbers, in order
+unfoldable pub allSaid : Set → Said Float
+allSaid s = whole (storedCount s) [] (reads (λ (j : ℕ). realOfItem (storedItem s j)) 0 (storedCount s))
 
 -- the bytes of a stored number's own columns
 unfoldable pub ownBytes : List ℕ → Part → ℕ → List ℕ

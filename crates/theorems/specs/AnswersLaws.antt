@@ -2,11 +2,12 @@
 use mathlib.Core.Path.{_≡_, refl, sym, ap, subst, _∙_}
 use mathlib.Core.Bool.{Bool, true, false}
 use mathlib.Core.List.{List, [], _∷_}
-use Prim.Native.Nat.{ℕ, zero, suc, _+_, _-_, _*_, _<_, _≤_}
+use Prim.Native.Nat.{ℕ, suc, _+_, _-_, _*_, _<_, _≤_}
 use native.Mathlib.Nat.{suc-mul, zero-mul, mul-le-mul-right}
 use native.Mathlib.Omega.{arith}
 use borrow.Author.Tests.{lt-ltb, le-ltb, le-leb, ne-eqb}
 use lib.Dec.{ltb}
+use lib.Ieee.{Float}
 use lib.ListN.{length, take, drop}
 use Rattle.laws.specs.Choice.{pick, pick-same}
 use Rattle.real.specs.declared.Real.the-variants.{Blank, Malformed, Value}
@@ -23,31 +24,20 @@ use Rattle.parts.specs.Parts as Parts
 use Rattle.parts.specs.Function as Function
 use Rattle.parts.specs.SetLaws.{Somewhere}
 use Rattle.reader.specs.Reader.{Said, said, refused, readIn, realIn, shownOf, numberFrom, setsFrom, numberOf, readOf, reads, whole, kindOf, valueWith, valuesIn, valueFrom, valueOf}
+use Rattle.reader.specs.ReaderLaws.{reads-same}
 use Rattle.theory.specs.Sets.{Set}
 use Rattle.places.specs.Holds.{Holds}
 use Rattle.places.specs.Declared.{declared, caseOf}
 use Rattle.places.specs.DeclaredLaws.{declared-held, case-held}
 use Rattle.places.specs.Stored.{storedCount, storedItem}
 use Rattle.places.specs.StoredLaws.{stored-case}
-use Rattle.places.specs.CaseLaws.{case-eight}
+use Rattle.places.specs.CaseLaws.{case-eight, declared-some}
 use Rattle.places.specs.FieldLaws.{Spelled}
 use Rattle.places.specs.ShownLaws.{stored-held, stored-shown}
 use Rattle.places.specs.OrderLaws.{columns-inside}
-use Rattle.theorems.specs.Answers.{realOfItem, valueSaid, ownBytes}
-
--- the numbers of a value by two accounts that agree on them
-pub reads-same : (g f : ℕ → Real) (i j k : ℕ) → ((r : ℕ) → r < k → g (i + r) ≡ f (j + r)) → reads g i k ≡ reads f j k
-unfolding reads
-reads-same g f i j zero h = refl
-reads-same g f i j (suc k) h =
-    let a : g i ≡ f j = sum-zero i j (h 0 (omega arith)) in
-    rw (a, reads-same g f (suc i) (suc j) k (λ r l. sum-next i j r (h (suc r) (omega arith)))) refl
-  where
-    sum-zero : (i j : ℕ) → g (i + 0) ≡ f (j + 0) → g i ≡ f j
-    sum-zero i j e = let p : i + 0 ≡ i = omega arith in let q : j + 0 ≡ j = omega arith in rw (p, q) at e
-
-    sum-next : (i j r : ℕ) → g (i + suc r) ≡ f (j + suc r) → g (suc i + r) ≡ f (suc j + r)
-    sum-next i j r e = let p : i + suc r ≡ suc i + r = omega arith in let q : j + suc r ≡ suc j + r = omega arith in rw (p, q) at e
+use Rattle.values.specs.Values.{allFrom, allValues, allReply, allPlaces}
+use Rattle.values.specs.EachLaws.{Each, all-each, all-refused}
+use Rattle.theorems.specs.Answers.{realOfItem, valueSaid, allSaid, ownBytes}
 
 -- a 58 of the list as it stands in a text
 module _ {s : Set} {p : Parts.Part} (bytes : List ℕ) (ps : List Parts.Part) (w : Somewhere bytes p ps) (h : Holds s p) (e : s .number ≡ 58) where
@@ -94,6 +84,14 @@ module _ {s : Set} {p : Parts.Part} (bytes : List ℕ) (ps : List Parts.Part) (w
   pub value-past : (i : ℕ) → declared s ≤ i → valueFrom bytes (p ∷ ps) i ≡ refused 18 0
   value-past i l = let m : valuesIn p ≤ i = rw values-held l in rw (le-ltb i (valuesIn p) m) refl
 
+  -- all of them at once
+  pub all-answered : allFrom bytes (p ∷ ps) ≡ allSaid s
+  unfolding allSaid
+  all-answered =
+      let m : 0 < valuesIn p = rw values-held (declared-some (h .lines) e) in
+      rw (lt-ltb 0 (valuesIn p) m, stored-held h e)
+      (ap (whole (storedCount s) []) (reads-same (realIn bytes p) (λ (j : ℕ). realOfItem (storedItem s j)) 0 0 (storedCount s) (λ r q. realIn-held (0 + r) (omega arith))))
+
 -- an accepted file's questions go to its sets
 pub number-asked : (bytes : List ℕ) (k j : ℕ) → judged bytes .number ≡ 0 → numberOf bytes k j ≡ numberFrom bytes (setsFrom bytes k) j
 unfolding numberOf
@@ -102,6 +100,10 @@ number-asked bytes k j h = rw (le-ltb 0 (judged bytes .number) (omega arith)) re
 pub value-asked : (bytes : List ℕ) (k i : ℕ) → judged bytes .number ≡ 0 → valueOf bytes k i ≡ valueFrom bytes (setsFrom bytes k) i
 unfolding valueOf
 value-asked bytes k i h = rw (le-ltb 0 (judged bytes .number) (omega arith)) refl
+
+pub all-asked : (bytes : List ℕ) (k : ℕ) → judged bytes .number ≡ 0 → allValues bytes k ≡ allFrom bytes (setsFrom bytes k)
+unfolding allValues
+all-asked bytes k h = rw (le-ltb 0 (judged bytes .number) (omega arith)) refl
 
 -- what stands in a number's columns, by their bytes
 pub realIn-own : (bytes : List ℕ) (p : Parts.Part) (j : ℕ) → Function.pastByte p j ≤ length bytes → realIn bytes p j ≡ Real.realOf (ownBytes bytes p j)
@@ -127,6 +129,9 @@ module _ {s : Set} {p : Parts.Part} (bytes : List ℕ) (ps : List Parts.Part) (h
 
   pub value-other : (i : ℕ) → valueFrom bytes (p ∷ ps) i ≡ refused 18 0
   value-other i = rw (le-ltb i (valuesIn p) (omega (arith, no-values))) refl
+
+  pub all-other : allFrom bytes (p ∷ ps) ≡ refused 18 0
+  all-other = rw no-values refl
 
 -- a value's answer, by the bytes of its own columns
 pub value-own : {s : Set} {p : Parts.Part} (bytes : List ℕ) (ps : List Parts.Part) → Somewhere bytes p ps → Holds s p → s .number ≡ 58 → (i : ℕ) → i < declared s
@@ -158,3 +163,16 @@ real-same i j cols cols′ x y e =
     let b : x .coefficient ≡ y .coefficient = ap (λ (n : Number). n .coefficient) v in
     let c : x .scale ≡ y .scale = sym (signed-size (x .scale)) ∙ ap (λ (n : Number). signed (n .below) (n .scale)) v ∙ signed-size (y .scale) in
     x .item ∙ rw (a, b, c) (sym (y .item))
+
+-- all values of a 58 of the list are its values in turn
+module _ (s : Set) where
+  abbrev number : ℕ → Real
+  number j = realOfItem (storedItem s j)
+
+  pub said-each : (n : ℕ) (xs : List Float) → allSaid s ≡ said 0 n xs → Each number (caseOf s) (declared s) n xs
+  unfolding allSaid storedCount
+  said-each n xs e = all-each number (caseOf s) (declared s) n xs e
+
+  pub said-refused : (m p : ℕ) → 0 < m → allSaid s ≡ refused m p → (i : ℕ) × ((i < declared s) × (valueSaid s i ≡ refused m p))
+  unfolding allSaid storedCount valueSaid
+  said-refused m p h e = all-refused number (caseOf s) (declared s) m p h e

@@ -1,4 +1,4 @@
--- Document 01's example listed and its 58 written, an untidy file rewritten, and the kinds of the eight cases, computed from the definitions.
+-- Document 01's example listed, its 58 read and written, an untidy file rewritten, and the kinds of the eight cases, computed from the definitions.
 use mathlib.Core.Path.{_≡_, refl, ap}
 use mathlib.Core.List as L
 use mathlib.Core.List.{List, _++_}
@@ -33,6 +33,10 @@ use Rattle.parts.specs.Parts as P
 use Rattle.parts.specs.Function as F
 use Rattle.lister.specs.Lister.{entry, rowsOf, listReply, listRows}
 use Rattle.reader.specs.Reader as Reader
+use Rattle.exact.specs.Exact.{exactOf, magnitudeOf, tenOf}
+use Rattle.exact.specs.Bits.{bitsOf}
+use lib.Ieee as ieee
+use Rattle.values.specs.Values.{allValues, allReply, allPlaces}
 use Rattle.rewriter.specs.Rewriter as W
 use Rattle.judge.specs.Judge.{reply}
 use Rattle.header.specs.Header.{answer, headerOf}
@@ -63,6 +67,18 @@ pub example-listed : (listReply example 14 ≡ reply 0 2)
     ≡ 1 ◂ 164 ◂ 0 ◂ 0 ◂ 164 ◂ 0 ◂ 7 ◂ 58 ◂ 7 ◂ 164 ◂ 672 ◂ 572 ◂ 8 ◂ 9 ◂ L.[])
 unfolding judged judge over cut run allBlank trimmed isDigit I.push stepInteger endInteger integerOf R.push R.next R.onCoefficient R.onExponent R.onDigit R.onSign R.onPoint R.onLetter R.onBlank R.isLetter R.scanStep R.realEnd R.realOf isAllowed withoutReturn columns firstBad lineFault filled thenBlank isDelimiter datasetNumber keeps fieldStart layouts layoutOf caseOf numbersOf mayBlank fieldNumber firstNotAbove breach records recordOf dataRow kindOf isTyped sequences sequence fieldsFault firstByte stray itemsOf conditionFault fieldsRefusal rowRefusal recordDue listRow rowDue isClosed settled numberIn caseIn afterRecord afterList after opened outsideStep numberStep plainStep typedStep stepOf lineStep P.closes P.bytesIn P.partsFrom P.partsOf P.numberOf P.lineStart P.lineOf F.caseOf F.countOf F.storedOf F.dataLine F.firstByte F.pastByte fieldsOf C.lineOf C.fieldOf C.fieldPast F.dataStart P.pastOf P.throughOf entry rowsOf listReply listRows W.digitOrBlank W.plainIn W.plainNumber W.keptOf W.linesText W.headText W.setText W.rewrittenSet W.rewritten
 example-listed = (refl, refl)
+
+-- its 58's values in eight places, of which the last is kept: 0.1, -0.2, 0.3, -0.4, 0.5, -0.6 and 0.7; six places are too few; set 1 is no 58, and
+-- there is no set 0 or 3
+pub example-values : (allReply example 2 8 ≡ reply 0 7)
+    × ((allPlaces example 2 (replicate 8 9)
+    ≡ 0x3fb999999999999a ◂ 0xbfc999999999999a ◂ 0x3fd3333333333333 ◂ 0xbfd999999999999a ◂ 0x3fe0000000000000 ◂ 0xbfe3333333333333 ◂ 0x3fe6666666666666 ◂ 9 ◂ L.[])
+    × ((allReply example 2 6 ≡ reply 20 0)
+    × ((allReply example 1 8 ≡ reply 18 0)
+    × ((allReply example 0 8 ≡ reply 18 0)
+    × (allReply example 3 8 ≡ reply 18 0)))))
+unfolding judged judge over cut run allBlank trimmed isDigit I.push stepInteger endInteger integerOf R.push R.next R.onCoefficient R.onExponent R.onDigit R.onSign R.onPoint R.onLetter R.onBlank R.isLetter R.scanStep R.realEnd R.realOf isAllowed withoutReturn columns firstBad lineFault filled thenBlank isDelimiter datasetNumber keeps fieldStart layouts layoutOf caseOf numbersOf mayBlank fieldNumber firstNotAbove breach records recordOf dataRow kindOf isTyped sequences sequence fieldsFault firstByte stray itemsOf conditionFault fieldsRefusal rowRefusal recordDue listRow rowDue isClosed settled numberIn caseIn afterRecord afterList after opened outsideStep numberStep plainStep typedStep stepOf lineStep P.closes P.bytesIn P.partsFrom P.partsOf P.numberOf P.lineStart P.lineOf F.caseOf F.countOf F.storedOf F.dataLine F.firstByte F.pastByte fieldsOf C.lineOf C.fieldOf C.fieldPast F.dataStart P.pastOf P.throughOf entry rowsOf listReply listRows W.digitOrBlank W.plainIn W.plainNumber W.keptOf W.linesText W.headText W.setText W.rewrittenSet W.rewritten Reader.setsFrom Reader.readIn Reader.readOf Reader.reads Reader.whole Reader.valuesIn exactOf magnitudeOf tenOf bitsOf allValues allReply allPlaces ieee.span ieee.climb ieee.size ieee.odd ieee.units ieee.round ieee.neg ieee.div ieee.mul ieee.ofInt ieee.isNan ieee.toBits
+example-values = (refl, (refl, (refl, (refl, (refl, refl)))))
 
 -- lines outside sets, blanks at line ends, a number with a sign, a blank line inside a plain set
 pub untidy-rewritten : W.rewrittenFile ("" ⊕ "    -1   " ⊕ " +2420" ⊕ "any  thing  " ⊕ "  " ⊕ "    -1" ⊕ "   " ⊕ "    -1" ⊕ "000001" ⊕ "    -1  " ⊕ none)

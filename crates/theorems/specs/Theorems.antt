@@ -6,11 +6,13 @@ use mathlib.Core.List.{List, [], _∷_, _++_, map}
 use Prim.Native.Nat.{ℕ, suc, _+_, _*_, _-_, _<_, _≤_}
 use native.Mathlib.Omega.{arith}
 use borrow.Author.Tests.{le-ltb}
+use lib.Ieee.{Float}
 use lib.IntN.{ℤ, pos}
 use lib.ListN.{length, getD, take, drop, drop-of-length-le}
 use Rattle.laws.specs.Cut.{cut}
 use Rattle.line.specs.Line.{columns}
 use Rattle.real.specs.Real.{realOf}
+use Rattle.exact.specs.Bits.{bitsOf}
 use Rattle.layout.specs.Layout.{numbersOf}
 use Rattle.judge.specs.declared.Reply.{Reply}
 use Rattle.judge.specs.Judge.{judged, reply}
@@ -19,7 +21,9 @@ use Rattle.parts.specs.Parts.{partsOf}
 use Rattle.parts.specs.Function as Function
 use Rattle.parts.specs.SetLaws.{Somewhere, somewhere}
 use Rattle.lister.specs.Lister.{rowsOf, listReply, listRows}
-use Rattle.reader.specs.Reader.{said, refused, setsFrom, shownOf, numberOf, valueOf, valueWith}
+use Rattle.reader.specs.Reader.{said, refused, setsFrom, shownOf, numberOf, kindOf, valueOf, valueWith}
+use Rattle.reader.specs.ReaderLaws.{start-most}
+use Rattle.values.specs.Values.{allValues, allReply, allPlaces}
 use Rattle.rewriter.specs.Rewriter.{rewrittenFile, rewriteReply, rewriteOut}
 use Rattle.rewriting.specs.Form.{InForm, KeepsSpellings}
 use Rattle.rewriting.specs.RewritingLaws.{rewritten-proper, rewritten-form, rewritten-keeps, rewritten-only}
@@ -37,7 +41,7 @@ use Rattle.places.specs.Declared.{declared, caseOf}
 use Rattle.places.specs.DeclaredLaws.{number-held, declared-held, case-held, all-held, as-many, Found, stand-at}
 use Rattle.places.specs.Stored.{storedCount, storedItem}
 use Rattle.places.specs.OrderLaws.{columns-inside, columns-apart, first-column}
-use Rattle.places.specs.CaseLaws.{case-eight, declared-some}
+use Rattle.places.specs.CaseLaws.{case-eight, declared-some, declared-most}
 use Rattle.places.specs.WholeLaws.{Owned, byte-owned}
 use Rattle.theory.specs.Sets.{Set}
 use Rattle.theory.specs.Proper.{Ended, Proper}
@@ -48,8 +52,8 @@ use Rattle.ends.specs.ShortLaws.{ended-short}
 use Rattle.theorems.specs.ReaderComplete.{reader-complete}
 use Rattle.theorems.specs.ReaderSound.{reader-sound}
 use Rattle.theorems.specs.Answers as Answers
-use Rattle.theorems.specs.Answers.{realOfItem, valueSaid, ownBytes}
-use Rattle.theorems.specs.AnswersLaws.{value-own, valueWith-same, number-answered, number-past, number-other, number-asked, value-answered, value-past, value-other, value-asked, item-own, real-same}
+use Rattle.theorems.specs.Answers.{realOfItem, valueSaid, allSaid, ownBytes}
+use Rattle.theorems.specs.AnswersLaws.{value-own, valueWith-same, number-answered, number-past, number-other, number-asked, value-answered, value-past, value-other, value-asked, all-answered, all-asked, all-other, said-each, said-refused, item-own, real-same}
 use Rattle.theorems.specs.Columns.{Within, Columns, OfValue}
 use Rattle.theorems.specs.ColumnsLaws.{owned-within, data-start, inside-data, within-once, of-value}
 use Rattle.theorems.specs.LaidOut.{LaidOut, ReadAs}
@@ -190,13 +194,18 @@ pub reader-set-0 : {sets : List Set} {bytes : List ℕ} → Proper sets bytes �
 unfolding setsFrom
 reader-set-0 {sets} {bytes} p i = (number-asked bytes 0 i (accepted-zero p), value-asked bytes 0 i (accepted-zero p))
 
+-- past the last set
+no-parts : {sets : List Set} {bytes : List ℕ} → Proper sets bytes → (k : ℕ) → length sets ≤ k → drop k (partsOf bytes) ≡ []
+no-parts {sets} {bytes} p k h =
+    let n : length (partsOf bytes) ≡ length sets = as-many (lister-places p) in
+    let m : length (partsOf bytes) ≤ k = omega arith in
+    drop-of-length-le (partsOf bytes) m
+
 pub reader-no-set : {sets : List Set} {bytes : List ℕ} → Proper sets bytes → (k i : ℕ) → length sets ≤ k
     → (numberOf bytes (suc k) i ≡ refused 18 0) × (valueOf bytes (suc k) i ≡ refused 18 0)
 unfolding setsFrom
 reader-no-set {sets} {bytes} p k i h =
-    let n : length (partsOf bytes) ≡ length sets = as-many (lister-places p) in
-    let m : length (partsOf bytes) ≤ k = omega arith in
-    let d : drop k (partsOf bytes) ≡ [] = drop-of-length-le (partsOf bytes) m in
+    let d : drop k (partsOf bytes) ≡ [] = no-parts p k h in
     (number-asked bytes (suc k) i (accepted-zero p) ∙ rw d refl, value-asked bytes (suc k) i (accepted-zero p) ∙ rw d refl)
 
 pub reader-not-58 : {sets : List Set} {bytes : List ℕ} → Proper sets bytes → (k : ℕ) (s : Set) (rest : List Set) → drop k sets ≡ s ∷ rest → (s .number ≡ 58 → ⊥)
@@ -217,6 +226,64 @@ reader-past {sets} {bytes} p k s rest d e i =
       λ l. number-asked bytes (suc k) i (accepted-zero p) ∙ rw (f .sets) (number-past bytes (f .others) w (f .holds) e i l),
       λ l. value-asked bytes (suc k) i (accepted-zero p) ∙ rw (f .sets) (value-past bytes (f .others) w (f .holds) e i l),
     )
+
+-- ALL VALUES. All values of a 58 of the list, asked at once, are what the reader's rule makes of its stored numbers in order.
+pub all-of-list : {sets : List Set} {bytes : List ℕ} → Proper sets bytes → (k : ℕ) (s : Set) (rest : List Set) → drop k sets ≡ s ∷ rest → s .number ≡ 58
+    → allValues bytes (suc k) ≡ allSaid s
+unfolding setsFrom
+all-of-list {sets} {bytes} p k s rest d e =
+    let f = set-found p k s rest d in
+    all-asked bytes (suc k) (accepted-zero p) ∙ rw (f .sets) (all-answered bytes (f .others) (set-somewhere bytes k s f) (f .holds) e)
+
+-- Where they are shown, there are as many f64 as stored numbers, and the question for each value shows its own part of them.
+pub all-in-turn : {sets : List Set} {bytes : List ℕ} → Proper sets bytes → (k : ℕ) (s : Set) (rest : List Set) → drop k sets ≡ s ∷ rest → s .number ≡ 58
+    → (n : ℕ) (xs : List Float) → allValues bytes (suc k) ≡ said 0 n xs
+    → (n ≡ storedCount s)
+    × ((length xs ≡ n)
+    × ((i : ℕ) → i < declared s → valueOf bytes (suc k) i ≡ said 0 (kindOf (caseOf s)) (take (numbersOf (caseOf s)) (drop (i * numbersOf (caseOf s)) xs))))
+unfolding storedCount valueSaid
+all-in-turn p k s rest d e n xs h =
+    let w = said-each s n xs (sym (all-of-list p k s rest d e) ∙ h) in
+    (w .counted, (w .long, λ i l. reader-values p k s rest d e i l ∙ w .value i l))
+
+-- No 58 stores more than 196,608 numbers.
+pub all-few : {sets : List Set} {bytes : List ℕ} → Proper sets bytes → (k : ℕ) (s : Set) (rest : List Set) → drop k sets ≡ s ∷ rest → s .number ≡ 58
+    → storedCount s ≤ 196608
+unfolding storedCount
+all-few p k s rest d e =
+    let f = set-found p k s rest d in
+    let m : declared s ≤ 65536 = declared-most (f .holds .lines) e in
+    let n : declared s * numbersOf (caseOf s) ≤ declared s * 3 = start-most (declared s) (caseOf s) _ (case-eight (f .holds .lines) e) refl in
+    omega arith
+
+-- Where they are refused, so is the question for one of the values.
+pub all-refused-one : {sets : List Set} {bytes : List ℕ} → Proper sets bytes → (k : ℕ) (s : Set) (rest : List Set) → drop k sets ≡ s ∷ rest → s .number ≡ 58
+    → (m l : ℕ) → 0 < m → allValues bytes (suc k) ≡ refused m l → (i : ℕ) × ((i < declared s) × (valueOf bytes (suc k) i ≡ refused m l))
+all-refused-one p k s rest d e m l z h =
+    let w = said-refused s m l z (sym (all-of-list p k s rest d e) ∙ h) in
+    (w .0, (w .1 .0, reader-values p k s rest d e (w .0) (w .1 .0) ∙ w .1 .1))
+
+-- Any other question for all values is 18.
+pub all-set-0 : {sets : List Set} {bytes : List ℕ} → Proper sets bytes → allValues bytes 0 ≡ refused 18 0
+unfolding setsFrom
+all-set-0 {sets} {bytes} p = all-asked bytes 0 (accepted-zero p)
+
+pub all-no-set : {sets : List Set} {bytes : List ℕ} → Proper sets bytes → (k : ℕ) → length sets ≤ k → allValues bytes (suc k) ≡ refused 18 0
+unfolding setsFrom
+all-no-set {sets} {bytes} p k h = all-asked bytes (suc k) (accepted-zero p) ∙ rw (no-parts p k h) refl
+
+pub all-not-58 : {sets : List Set} {bytes : List ℕ} → Proper sets bytes → (k : ℕ) (s : Set) (rest : List Set) → drop k sets ≡ s ∷ rest → (s .number ≡ 58 → ⊥)
+    → allValues bytes (suc k) ≡ refused 18 0
+unfolding setsFrom
+all-not-58 {sets} {bytes} p k s rest d n =
+    let f = set-found p k s rest d in
+    all-asked bytes (suc k) (accepted-zero p) ∙ rw (f .sets) (all-other bytes (f .others) (f .holds) n)
+
+-- The call answers how many f64 it fills, and the places lent hold their bit patterns and then their own rest.
+pub all-answers : (bytes : List ℕ) (k n : ℕ) (xs : List Float) (out : List ℕ) → allValues bytes k ≡ said 0 n xs → length xs ≡ n → n ≤ length out
+    → (allReply bytes k (length out) ≡ reply 0 n) × (allPlaces bytes k out ≡ map bitsOf xs ++ drop n out)
+unfolding allReply allPlaces
+all-answers bytes k n xs out e l h = (rw (e, l, le-ltb (length out) n h) refl, rw (e, l, le-ltb (length out) n h) refl)
 
 -- a value by the bytes of its own columns
 value-by-bytes : {sets : List Set} {bytes : List ℕ} → Proper sets bytes → (k : ℕ) (s : Set) (rest : List Set) → drop k sets ≡ s ∷ rest → s .number ≡ 58

@@ -1,0 +1,75 @@
+-- `values::first_refusal` meets its contract.
+use mathlib.Core.Path.{_≡_, refl, sym, _∙_}
+use Prim.Native.Nat.{_+_, _-_, _≤_}
+use lib.ListN.{length}
+use native.Mathlib.Nat.{sub-zero}
+use Rattle.reader.specs.Reader.{reads}
+use Rattle.reader.specs.Find.{realAt}
+use Rattle.values.specs.Fill.{refusalIn}
+use Rattle.values.specs.FillLaws.{refusal-here, refusal-next, refusal-none}
+use Rattle.values.specs.SpotLaws.{Stood, here, read-own, stood-next}
+use borrow.Author.Needs.{needs}
+use native.Mathlib.Omega.{arith}
+use Rattle.values.proofs.first_refusal.Statement.{statement}
+use Rattle.values.proofs.first_refusal.Tie as tie
+
+abbrev Inv-loop : tie.InvT-loop
+Inv-loop file d count fields widths s₀ j₀ s j = Stood file d j s × ((j ≤ count) × (refusalIn (reads (realAt file d) j (count - j)) ≡ refusalIn (reads (realAt file d) 0 count)))
+
+abbrev μ-loop : tie.MeasureT-loop
+μ-loop file d count fields widths s₀ j₀ s j = count - j
+
+fields-of-requires : tie.Need-fields-of-requires Inv-loop μ-loop
+fields-of-requires c κs = search needs
+
+line-widths-requires : tie.Need-line-widths-requires Inv-loop μ-loop
+line-widths-requires c κs = search needs
+
+first-spot-requires : tie.Need-first-spot-requires Inv-loop μ-loop
+first-spot-requires c κs = search needs
+
+loop-holds : tie.Need-loop-holds Inv-loop μ-loop
+loop-holds c = (record { spot-is = c .first-spot .ensures .0; inside = c .first-spot .ensures .1 }, (search needs, rw sub-zero refl))
+
+read-here-requires : tie.Need-read-here-requires Inv-loop μ-loop
+read-here-requires c κs = here (c .before .before .before .before .before .before .before .args .file .now) (c .before .before .before .before .before .before .before .args .d) (c .before .before .before .before .before .before .before .pre .0) (c .before .before .before .before .before .before .before .pre .1) _ _ (c .before .before .loop .inv .0) _ (c .before .before .before .before .line-widths .ensures)
+
+refusal-of-requires : tie.Need-refusal-of-requires Inv-loop μ-loop
+refusal-of-requires c κs = search needs
+
+returns : tie.Need-returns Inv-loop μ-loop
+returns c = refusal-here _ _ _ (c .before .before .before .before .loop-test .taken) _ _ (read-own (c .before .before .before .before .before .before .before .before .before .before .args .file .now) (c .before .before .before .before .before .before .before .before .before .before .args .d) (c .before .before .before .before .before .before .before .before .before .before .pre .0) (c .before .before .before .before .before .before .before .before .before .before .pre .1) _ _ (c .before .before .before .before .before .loop .inv .0) _ (c .before .before .before .before .before .before .before .line-widths .ensures) _ (c .before .before .read-here .ensures)) (c .before .refusal-of .ensures) (c .if1 .taken) ∙ c .before .before .before .before .before .loop .inv .1 .1
+
+next-spot-requires : tie.Need-next-spot-requires Inv-loop μ-loop
+next-spot-requires c κs = (c .before .before .before .before .before .before .loop .inv .0 .inside, here (c .before .before .before .before .before .before .before .before .before .before .before .args .file .now) (c .before .before .before .before .before .before .before .before .before .before .before .args .d) (c .before .before .before .before .before .before .before .before .before .before .before .pre .0) (c .before .before .before .before .before .before .before .before .before .before .before .pre .1) _ _ (c .before .before .before .before .before .before .loop .inv .0) _ (c .before .before .before .before .before .before .before .before .line-widths .ensures))
+
+add-j : tie.Need-add-j Inv-loop μ-loop
+add-j c = search needs
+
+loop-less : tie.Need-loop-less Inv-loop μ-loop
+loop-less c = search needs
+
+loop-again : tie.Need-loop-again Inv-loop μ-loop
+loop-again c = (stood-next (c .before .before .before .before .before .before .before .before .before .before .before .before .args .file .now) (c .before .before .before .before .before .before .before .before .before .before .before .before .args .d) (c .before .before .before .before .before .before .before .before .before .before .before .before .pre .0) (c .before .before .before .before .before .before .before .before .before .before .before .before .pre .1) _ _ (c .before .before .before .before .before .before .before .loop .inv .0) _ (c .before .before .before .before .before .before .before .before .before .line-widths .ensures) _ _ (c .before .before .before .before .before .before .before .before .before .before .fields-of .ensures) (c .next-spot .ensures), (search needs, refusal-next _ _ _ (c .before .before .before .before .before .before .loop-test .taken) _ _ (read-own (c .before .before .before .before .before .before .before .before .before .before .before .before .args .file .now) (c .before .before .before .before .before .before .before .before .before .before .before .before .args .d) (c .before .before .before .before .before .before .before .before .before .before .before .before .pre .0) (c .before .before .before .before .before .before .before .before .before .before .before .before .pre .1) _ _ (c .before .before .before .before .before .before .before .loop .inv .0) _ (c .before .before .before .before .before .before .before .before .before .line-widths .ensures) _ (c .before .before .before .before .read-here .ensures)) (c .before .before .before .refusal-of .ensures) (c .before .before .if1 .left) ∙ c .before .before .before .before .before .before .before .loop .inv .1 .1))
+
+returns-2 : tie.Need-returns-2 Inv-loop μ-loop
+returns-2 c = refusal-none _ _ _ (c .loop-test .left) ∙ c .before .loop .inv .1 .1
+
+pub first-refusal-spec : {M : Type 1} → statement M
+first-refusal-spec =
+    tie.close
+    (tie.spec
+    Inv-loop
+    μ-loop
+    fields-of-requires
+    line-widths-requires
+    first-spot-requires
+    loop-holds
+    read-here-requires
+    refusal-of-requires
+    returns
+    next-spot-requires
+    add-j
+    loop-less
+    loop-again
+    returns-2)

@@ -1,0 +1,7 @@
+pub mod Values
+pub mod Spot
+pub mod SpotLaws
+pub mod Fill
+pub mod FillLaws
+pub mod ValuesLaws
+pub mod EachLaws
