@@ -1,4 +1,6 @@
 pub mod Streaming
 pub mod OpenLaws
 pub mod StreamingLaws
+pub mod Calls
+pub mod CallsLaws
 pub mod Examples
