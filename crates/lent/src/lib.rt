@@ -225,9 +225,9 @@ pub fn burst(numbers: &mut [u64], line: &mut [u8], bytes: &[u8]) -> Reply
             place: 0,
         };
     }
-    let told = standing::turn(record_in(numbers, line), bytes);
-    let left = told.stream;
-    let answer = told.answer;
+    let after = standing::after_burst(record_in(numbers, line), bytes);
+    let left = after.stream;
+    let answer = after.answer;
     put_record(numbers, line, left);
     reply_of(answer)
 }

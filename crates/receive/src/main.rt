@@ -52,9 +52,9 @@ fn receive() -> Stream {
         if n == 0 {
             return record;
         }
-        let told = standing::turn(record, &burst[..n]);
-        let answer = told.answer;
-        record = told.stream;
+        let after = standing::after_burst(record, &burst[..n]);
+        let answer = after.answer;
+        record = after.stream;
         show_answer(answer);
         if n < BURST {
             return record;
@@ -66,7 +66,7 @@ fn receive() -> Stream {
 
 // The end: the whole file's answer.
 fn main() {
-    let closed = standing::last(receive());
+    let closed = standing::after_end(receive());
     let reply = closed.reply;
     if 0 < reply.number {
         return show_refusal(reply.number, reply.place);

@@ -6,7 +6,7 @@ use stream::Answer;
 use stream::Stream;
 
 // A record, and what a burst answered.
-pub struct Told {
+pub struct Answered {
     pub stream: Stream,
     pub answer: Answer,
 }
@@ -36,10 +36,10 @@ pub fn end(c: &mut Stream) -> Reply
 }
 
 // A record with an answer.
-fn with_answer(stream: Stream, answer: Answer) -> Told
+fn with_answer(stream: Stream, answer: Answer) -> Answered
     ensures { λ r. ⌜ (r .stream ≡ stream) × (r .answer ≡ answer) ⌝ }
 {
-    Told { stream, answer }
+    Answered { stream, answer }
 }
 
 // A record with a reply.
@@ -50,7 +50,7 @@ fn with_reply(stream: Stream, reply: Reply) -> Closed
 }
 
 // A burst, with the record by value.
-pub fn turn(c: Stream, bytes: &[u8]) -> Told
+pub fn after_burst(c: Stream, bytes: &[u8]) -> Answered
     ensures { λ r. ⌜ Stepped c (now (bytes .entry)) (r .stream) × (r .answer ≡ answerOf (r .stream .ended) (seen (r .stream))) ⌝ }
 {
     let mut x = c;
@@ -59,7 +59,7 @@ pub fn turn(c: Stream, bytes: &[u8]) -> Told
 }
 
 // The end, with the record by value.
-pub fn last(c: Stream) -> Closed
+pub fn after_end(c: Stream) -> Closed
     ensures { λ r. ⌜ (r .stream ≡ closed c) × (r .reply ≡ endReply (seen c)) ⌝ }
 {
     let mut x = c;

@@ -23,8 +23,8 @@ returns-2 c = burst-ended (c .before .before .before .before .before .before .be
 record-in-requires : tie.Need-record-in-requires
 record-in-requires c κs = room _ _ (sym (c .before .before .before .before .before .is-short .ensures) ∙ c .before .before .before .before .if1 .left)
 
-turn-requires : tie.Need-turn-requires
-turn-requires c κs = search needs
+after-burst-requires : tie.Need-after-burst-requires
+after-burst-requires c κs = search needs
 
 put-record-requires : tie.Need-put-record-requires
 put-record-requires c κs = room _ _ (sym (c .before .before .before .before .before .before .before .before .before .before .is-short .ensures) ∙ c .before .before .before .before .before .before .before .before .before .if1 .left)
@@ -39,7 +39,7 @@ same-length-2 : tie.Need-same-length-2
 same-length-2 c = search needs
 
 returns-3 : tie.Need-returns-3
-returns-3 c = burst-further (c .before .before .before .before .before .before .before .before .before .before .before .before .before .before .before .before .before .before .before .before .args .numbers .now) (c .before .before .before .before .before .before .before .before .before .before .before .before .before .before .before .before .before .before .before .before .args .line .now) _ (sym (c .before .before .before .before .before .before .before .before .before .before .before .before .before .before .before .before .is-short .ensures) ∙ c .before .before .before .before .before .before .before .before .before .before .before .before .before .before .before .if1 .left) (omega (arith, c .before .before .before .before .before .before .before .before .before .before .before .before .before .if2 .left)) _ (c .before .before .before .before .before .before .before .before .before .before .record-in .ensures) _ (c .before .before .before .before .before .before .before .before .before .turn .ensures .0) (c .before .before .before .before .before .put-record .ensures .2) _ _ (c .before .before .before .before .before .put-record .ensures .0) (c .before .before .before .before .before .put-record .ensures .1) _ (c .reply-of .ensures ∙ ap paper (c .before .before .before .before .before .before .before .before .before .turn .ensures .1))
+returns-3 c = burst-further (c .before .before .before .before .before .before .before .before .before .before .before .before .before .before .before .before .before .before .before .before .args .numbers .now) (c .before .before .before .before .before .before .before .before .before .before .before .before .before .before .before .before .before .before .before .before .args .line .now) _ (sym (c .before .before .before .before .before .before .before .before .before .before .before .before .before .before .before .before .is-short .ensures) ∙ c .before .before .before .before .before .before .before .before .before .before .before .before .before .before .before .if1 .left) (omega (arith, c .before .before .before .before .before .before .before .before .before .before .before .before .before .if2 .left)) _ (c .before .before .before .before .before .before .before .before .before .before .record-in .ensures) _ (c .before .before .before .before .before .before .before .before .before .after-burst .ensures .0) (c .before .before .before .before .before .put-record .ensures .2) _ _ (c .before .before .before .before .before .put-record .ensures .0) (c .before .before .before .before .before .put-record .ensures .1) _ (c .reply-of .ensures ∙ ap paper (c .before .before .before .before .before .before .before .before .before .after-burst .ensures .1))
 
 pub burst-spec : {M : Type 1} → statement M
 burst-spec =
@@ -50,7 +50,7 @@ burst-spec =
     slice-read-if2
     returns-2
     record-in-requires
-    turn-requires
+    after-burst-requires
     put-record-requires
     reply-of-requires
     same-length

@@ -10,7 +10,7 @@ use Rattle.receive.proofs.receive.Reads as reads
 use Rattle.receive.proofs.receive.Lts as lts
 use Rattle.io.proofs.read_full.Reads as read-full-reads
 use Rattle.receive.proofs.show_answer.Reads as show-answer-reads
-use Rattle.standing.proofs.turn.Reads as turn-reads
+use Rattle.standing.proofs.after_burst.Reads as after-burst-reads
 use Rattle.stream.proofs.fresh.Reads as fresh-reads
 
 abbrev Inv-loop : tie.InvT-loop
@@ -44,12 +44,12 @@ array-share-prefix-burst : tie.Need-array-share-prefix-burst Inv-loop μ-loop
 array-share-prefix-burst c = search needs
 
 -- src/main.rt:55:43
-slice-aggregate-turn : tie.Need-slice-aggregate-turn Inv-loop μ-loop
-slice-aggregate-turn c = search needs
+slice-aggregate-after-burst : tie.Need-slice-aggregate-after-burst Inv-loop μ-loop
+slice-aggregate-after-burst c = search needs
 
 -- src/main.rt:55:13
-turn-requires : tie.Need-turn-requires Inv-loop μ-loop
-turn-requires c κs = search needs
+after-burst-requires : tie.Need-after-burst-requires Inv-loop μ-loop
+after-burst-requires c κs = search needs
 
 -- src/main.rt:58:9
 show-answer-requires : tie.Need-show-answer-requires Inv-loop μ-loop
@@ -87,8 +87,8 @@ receive-spec =
     read-full-requires
     returns
     array-share-prefix-burst
-    slice-aggregate-turn
-    turn-requires
+    slice-aggregate-after-burst
+    after-burst-requires
     show-answer-requires
     returns-2
     sub-left

@@ -1,4 +1,4 @@
--- `standing::turn` meets its contract: a walk of its MIR, by hand. The local is lent to `burst` for a lifetime of the call, and comes back.
+-- `standing::after_burst` meets its contract: a walk of its MIR, by hand. The local is lent to `burst` for a lifetime of the call, and comes back.
 use mathlib.Core.Path.{_≡_, refl}
 use Prim.Native.Nat.{ℕ}
 use mathlib.Core.List.{[], _∷_, List}
@@ -47,9 +47,9 @@ use Rattle.stream.proofs.Answer as S
 use Rattle.stream.proofs.Answer.Laws as S′
 use Rattle.stream.proofs.Stream as T
 use Rattle.stream.proofs.Stream.Laws as T′
-use Rattle.standing.specs.declared.Told.{Told}
-use Rattle.standing.proofs.Told as D
-use Rattle.standing.proofs.Told.Laws as D′
+use Rattle.standing.specs.declared.Answered.{Answered}
+use Rattle.standing.proofs.Answered as D
+use Rattle.standing.proofs.Answered.Laws as D′
 use Rattle.standing.proofs.burst as burst
 use Rattle.standing.proofs.burst.Symbol as burst-def
 use Rattle.standing.proofs.burst.Symbol.{name as #burst}
@@ -58,12 +58,12 @@ use Rattle.standing.proofs.with_answer as made
 use Rattle.standing.proofs.with_answer.Symbol as made-def
 use Rattle.standing.proofs.with_answer.Symbol.{name as #made}
 use Rattle.standing.proofs.with_answer.Met as made-thm
-use Rattle.standing.proofs.turn.Key.{name as #turn}
-use Rattle.standing.proofs.turn as turn
-use Rattle.standing.proofs.turn.Statement as stated
-use Rattle.standing.proofs.turn.Code as code
+use Rattle.standing.proofs.after_burst.Key.{name as #after-burst}
+use Rattle.standing.proofs.after_burst as after-burst
+use Rattle.standing.proofs.after_burst.Statement as stated
+use Rattle.standing.proofs.after_burst.Code as code
 
-abbrev stayed : Stays (turn.ended .signature .params) (turn.ended .kept)
+abbrev stayed : Stays (after-burst.ended .signature .params) (after-burst.ended .kept)
 stayed = (stay-none (λ _. T.the-row) yes, (stay-none-slice (0 ∷ []) tt (plain (λ _. u8)) yes, tt))
 
 -- what is said of the record and the answer that a burst leaves
@@ -94,7 +94,7 @@ module _ {M : Type 1} (𝓤 : URA M) (H : Heap 𝓤) (A : Atoms 𝓤) (W : Given
   Own = ShrSlice (named 0) κ u8 .own s (v ∷ [])
 
   abbrev Post : Val → SProp 𝓤
-  Post = walkOf 𝓤 H A turn.ended stayed (turn.clauses 𝓤 H A at-mem run) .post (((κ, tt), (q, tt), tt, x, at), tt)
+  Post = walkOf 𝓤 H A after-burst.ended stayed (after-burst.clauses 𝓤 H A at-mem run) .post (((κ, tt), (q, tt), tt, x, at), tt)
 
   -- the local at the block l, lent under the name δ
   abbrev lent : ℕ → GName → RefT Stream
@@ -115,20 +115,20 @@ module _ {M : Type 1} (𝓤 : URA M) (H : Heap 𝓤) (A : Atoms 𝓤) (W : Given
   goes-made r t u =
       qed W (‵ (T.the-row .own r (mach r ∷ [])) ∷ ‵ (S.the-row .own t (u ∷ [])) ∷ []) ∵ nothing ! $ move ! (2 ∷ 0 ∷ []) $ fjoin ! $ move ! (1 ∷ 0 ∷ []) $ fjoin ! $ nothing ! $ join ! $ frame ! $ done !
 
-  said : (r : Stream) (t : Answer) (d : Told) → ent 𝓤 (ensured 𝓤 H A made.ended (made.clauses 𝓤 H A at-mem run) tt (r, (t, tt)) tt d) (fact 𝓤 ((d .stream ≡ r) × (d .answer ≡ t)))
+  said : (r : Stream) (t : Answer) (d : Answered) → ent 𝓤 (ensured 𝓤 H A made.ended (made.clauses 𝓤 H A at-mem run) tt (r, (t, tt)) tt d) (fact 𝓤 ((d .stream ≡ r) × (d .answer ≡ t)))
   said r t d = exE 𝓤 _ (λ ws. snd∗ 𝓤 (sem 𝓤 H A (lasts made.ended tt (r, (t, tt)) ws)) (fact 𝓤 ((d .stream ≡ r) × (d .answer ≡ t))))
 
-  exits : (d : Told) (u : Val) → Says h (now s) (d .stream) (d .answer) → Is T.the-row h (mach h ∷ []) → ent 𝓤 (⋆ 𝓤 H A (‵ (D.the-row .own d (u ∷ [])) ∷ (‵ (flft κ q) ⊛ ‵ ftrue) ∷ ‵ Own ∷ [])) (Post u)
+  exits : (d : Answered) (u : Val) → Says h (now s) (d .stream) (d .answer) → Is T.the-row h (mach h ∷ []) → ent 𝓤 (⋆ 𝓤 H A (‵ (D.the-row .own d (u ∷ [])) ∷ (‵ (flft κ q) ⊛ ‵ ftrue) ∷ ‵ Own ∷ [])) (Post u)
   exits d u e is =
       qed W (‵ (D.the-row .own d (u ∷ [])) ∷ (‵ (flft κ q) ⊛ ‵ ftrue) ∷ ‵ Own ∷ []) ∵
-      suffices ! _ (ends-at 𝓤 H A turn.ended stayed (turn.clauses 𝓤 H A at-mem run) W (((κ, tt), (q, tt), tt, x, at), tt) u d (tt, (tt, tt)) (tt, (tt, tt))) $ says ! e $
+      suffices ! _ (ends-at 𝓤 H A after-burst.ended stayed (after-burst.clauses 𝓤 H A at-mem run) W (((κ, tt), (q, tt), tt, x, at), tt) u d (tt, (tt, tt)) (tt, (tt, tt))) $ says ! e $
       move ! (1 ∷ []) $ frame ! $ nothing ! $ move ! (2 ∷ 0 ∷ []) $ fjoin ! $ owned ! T.the-row (Is T.the-row) ((LL.makes T.the-type T′.the-plain) 𝓤 H A) h (mach h ∷ []) is $ fjoin ! $ frame ! $ done !
 
-  told : (r : Stream) (t : Answer) (d : Told) → Says h (now s) r t → (d .stream ≡ r) × (d .answer ≡ t) → Says h (now s) (d .stream) (d .answer)
+  told : (r : Stream) (t : Answer) (d : Answered) → Says h (now s) r t → (d .stream ≡ r) × (d .answer ≡ t) → Says h (now s) (d .stream) (d .answer)
   told r t d e e′ = rw (e′ .0, e′ .1) e
 
   module _ (C : Calls 𝓤 H) (Λ : Loops 𝓤 H) (fm : FmC 𝓤 H (W .laws) C) (known : Triple 𝓤 (C #burst) (BurstC 𝓤 H A at-mem run)) (known-made : Triple 𝓤 (C #made) (MadeC 𝓤 H A at-mem run)) where
-    walk : Is (ShrSlice (named 0) κ u8) s (v ∷ []) → Is T.the-row h (mach h ∷ []) → ent 𝓤 (onEntry 𝓤 H A turn.signature (κ, tt) (q, tt) x at) (WpFn 𝓤 H C Λ code.function (mach h ∷ v ∷ []) Post)
+    walk : Is (ShrSlice (named 0) κ u8) s (v ∷ []) → Is T.the-row h (mach h ∷ []) → ent 𝓤 (onEntry 𝓤 H A after-burst.signature (κ, tt) (q, tt) x at) (WpFn 𝓤 H C Λ code.function (mach h ∷ v ∷ []) Post)
     unfolding partOf
     walk p is =
         qed W ((‵ (flft κ q) ⊛ ‵ ftrue) ∷ ‵ (owns (T.the-row ∷ ShrSlice (named 0) κ u8 ∷ []) x at) ∷ []) ∵ split ! $ move ! (2 ∷ []) $ fsplit ! $ move ! (1 ∷ []) $ fsplit ! $
@@ -160,7 +160,7 @@ module _ {M : Type 1} (𝓤 : URA M) (H : Heap 𝓤) (A : Atoms 𝓤) (W : Given
         assigns ! (of-opd ! (load ! (from ! (stop !)) (look ! 1 refl))) (from ! (stop !)) (init ! 5 refl (LL.lawful T.the-type T′.the-laws 𝓤 H A W .typed (ws .0) _ is′ .0)) $
         move ! (0 ∷ 3 ∷ []) $ use2 W (raw (MadeC 𝓤 H A at-mem run .pre (to-made (ws .0) t u))) (goes-made (ws .0) t u) $
         calls-at ! fm (MadeC 𝓤 H A at-mem run) known-made (to-made (ws .0) t u) (and-then ! (load ! (from ! (stop !)) (look ! 4 refl)) (and-then ! (load ! (from ! (stop !)) (look ! 8 refl)) (no-more !))) (λ u′.
-        use1 W (later (some (λ (d : Told). (‵ ftrue ⊛ ‵ (D.the-row .own d (u′ ∷ []))) ⊛ raw (ensured 𝓤 H A made.ended (made.clauses 𝓤 H A at-mem run) tt (ws .0, (t, tt)) tt d)))) (id⊢ 𝓤 _) $ await ! tt $ pick ! (λ d.
+        use1 W (later (some (λ (d : Answered). (‵ ftrue ⊛ ‵ (D.the-row .own d (u′ ∷ []))) ⊛ raw (ensured 𝓤 H A made.ended (made.clauses 𝓤 H A at-mem run) tt (ws .0, (t, tt)) tt d)))) (id⊢ 𝓤 _) $ await ! tt $ pick ! (λ d.
         split ! $ move ! (1 ∷ []) $ use1 W (raw (fact 𝓤 ((d .stream ≡ ws .0) × (d .answer ≡ t)))) (said (ws .0) t d) $ heard ! ((d .stream ≡ ws .0) × (d .answer ≡ t)) (λ e′. split ! $ drop ! $
         -- [what d owns; _3; κ's token; …; _6; …; _5; …; _4; …; what frees _3; _2; …; _1; …; room for _0; …; what s owns; …]
         peeks ! D.the-row (Is D.the-row) (shows 𝓤 H A D.the-row) d (u′ ∷ []) (λ is-d.
@@ -170,23 +170,23 @@ module _ {M : Type 1} (𝓤 : URA M) (H : Heap 𝓤) (A : Atoms 𝓤) (W : Given
         keep ! (0 ∷ 1 ∷ 3 ∷ []) $ by ! (exits d u′ (told (ws .0) t d e e′) is)))))))))))))))))))))
 
 module _ {M : Type 1} (𝓤 : URA M) (H : Heap 𝓤) (A : Atoms 𝓤) (W : Given 𝓤 H A) (at-mem : Memory → SProp 𝓤) (run : Routine → Fun 𝓤) where
-  turn-walks : (C : Calls 𝓤 H) (Λ : Loops 𝓤 H) → FmC 𝓤 H (W .laws) C → Triple 𝓤 (C #burst) (BurstC 𝓤 H A at-mem run) → Triple 𝓤 (C #made) (MadeC 𝓤 H A at-mem run) → Walks 𝓤 H A turn.ended stayed (WpFn 𝓤 H C Λ code.function) (turn.clauses 𝓤 H A at-mem run)
-  turn-walks C Λ fm known known-made = walked 𝓤 H A turn.ended stayed (turn.clauses 𝓤 H A at-mem run) (WpFn 𝓤 H C Λ code.function) (λ κs. (LL.vals T.the-type T′.the-laws, (slice-vals, tt))) (λ κs. (LL.tells T.the-type T′.the-laws, (shr-slice-tells (named 0) (κs .0) u8, tt)))
+  after-burst-walks : (C : Calls 𝓤 H) (Λ : Loops 𝓤 H) → FmC 𝓤 H (W .laws) C → Triple 𝓤 (C #burst) (BurstC 𝓤 H A at-mem run) → Triple 𝓤 (C #made) (MadeC 𝓤 H A at-mem run) → Walks 𝓤 H A after-burst.ended stayed (WpFn 𝓤 H C Λ code.function) (after-burst.clauses 𝓤 H A at-mem run)
+  after-burst-walks C Λ fm known known-made = walked 𝓤 H A after-burst.ended stayed (after-burst.clauses 𝓤 H A at-mem run) (WpFn 𝓤 H C Λ code.function) (λ κs. (LL.vals T.the-type T′.the-laws, (slice-vals, tt))) (λ κs. (LL.tells T.the-type T′.the-laws, (shr-slice-tells (named 0) (κs .0) u8, tt)))
       (λ κs qs bounds a g are. via 𝓤 _ (fst∗ 𝓤 _ (emp 𝓤)) (walk 𝓤 H A W at-mem run (κs .0) (qs .0) (a .0) (a .1 .0) C Λ fm known known-made (are .1 .0) (are .0)))
 
-  goes-all : AllGo 𝓤 H A W 1 (turn.signature .params) (turn.ended .kept) stayed
+  goes-all : AllGo 𝓤 H A W 1 (after-burst.signature .params) (after-burst.ended .kept) stayed
   goes-all = (goes-none 𝓤 H A W 1 (λ _. T.the-row) yes (λ κs x f. refl), (goes-none-slice 𝓤 H A W 1 (0 ∷ []) tt (plain (λ _. u8)) yes, tt))
 
-turn-meets : {M : Type 1} (𝓤 : URA M) (H : Heap 𝓤) (A : Atoms 𝓤) (W : Given 𝓤 H A) (at-mem : Memory → SProp 𝓤) (run : Routine → Fun 𝓤) (𝓣 : Tables 𝓤 H)
+after-burst-meets : {M : Type 1} (𝓤 : URA M) (H : Heap 𝓤) (A : Atoms 𝓤) (W : Given 𝓤 H A) (at-mem : Memory → SProp 𝓤) (run : Routine → Fun 𝓤) (𝓣 : Tables 𝓤 H)
     → Triple 𝓤 (𝓣 .C #burst) (BurstC 𝓤 H A at-mem run) → Triple 𝓤 (𝓣 .C #made) (MadeC 𝓤 H A at-mem run)
-    → Meets 𝓤 H A turn.signature (WpFn 𝓤 H (𝓣 .C) (𝓣 .Λ) code.function) (turn.spec 𝓤 H A at-mem run)
-turn-meets 𝓤 H A W at-mem run 𝓣 known known-made = walk-meets 𝓤 H A turn.ended stayed W (goes-all 𝓤 H A W at-mem run) (turn.clauses 𝓤 H A at-mem run) (WpFn 𝓤 H (𝓣 .C) (𝓣 .Λ) code.function) (WpFn-mono 𝓤 H (W .laws) 𝓣 code.function) (turn-walks 𝓤 H A W at-mem run (𝓣 .C) (𝓣 .Λ) (fmOf 𝓤 H (W .laws) 𝓣) known known-made)
+    → Meets 𝓤 H A after-burst.signature (WpFn 𝓤 H (𝓣 .C) (𝓣 .Λ) code.function) (after-burst.spec 𝓤 H A at-mem run)
+after-burst-meets 𝓤 H A W at-mem run 𝓣 known known-made = walk-meets 𝓤 H A after-burst.ended stayed W (goes-all 𝓤 H A W at-mem run) (after-burst.clauses 𝓤 H A at-mem run) (WpFn 𝓤 H (𝓣 .C) (𝓣 .Λ) code.function) (WpFn-mono 𝓤 H (W .laws) 𝓣 code.function) (after-burst-walks 𝓤 H A W at-mem run (𝓣 .C) (𝓣 .Λ) (fmOf 𝓤 H (W .laws) 𝓣) known known-made)
 
-pub turn-spec : {M : Type 1} → stated.statement M
+pub after-burst-spec : {M : Type 1} → stated.statement M
 unfolding code.routine tablesOf
-turn-spec 𝓤 H 𝓜 𝓖 𝓡 =
-    entered 𝓤 H (tripleOf 𝓤 H (𝓖 .A) turn.signature (turn.spec 𝓤 H (𝓖 .A) (𝓜 .mem) (𝓡 .run)))
-    (tables 𝓤 H 𝓜 𝓡 code.env .C) (tables 𝓤 H 𝓜 𝓡 code.env .Λ) #turn code.function (code.unfolded 𝓤 H 𝓜 𝓡)
-    (turn-meets 𝓤 H (𝓖 .A) (givenOf 𝓤 H 𝓜 𝓖) (𝓜 .mem) (𝓡 .run) (tablesOf 𝓤 H 𝓜 (tables 𝓤 H 𝓜 𝓡 code.env))
+after-burst-spec 𝓤 H 𝓜 𝓖 𝓡 =
+    entered 𝓤 H (tripleOf 𝓤 H (𝓖 .A) after-burst.signature (after-burst.spec 𝓤 H (𝓖 .A) (𝓜 .mem) (𝓡 .run)))
+    (tables 𝓤 H 𝓜 𝓡 code.env .C) (tables 𝓤 H 𝓜 𝓡 code.env .Λ) #after-burst code.function (code.unfolded 𝓤 H 𝓜 𝓡)
+    (after-burst-meets 𝓤 H (𝓖 .A) (givenOf 𝓤 H 𝓜 𝓖) (𝓜 .mem) (𝓡 .run) (tablesOf 𝓤 H 𝓜 (tables 𝓤 H 𝓜 𝓡 code.env))
     (cited 𝓤 H (BurstC 𝓤 H (𝓖 .A) (𝓜 .mem) (𝓡 .run)) 𝓜 𝓡 code.env #burst burst-def.routine code.calls-standing·burst (burst-thm.met 𝓤 H 𝓜 𝓖 𝓡))
     (cited 𝓤 H (MadeC 𝓤 H (𝓖 .A) (𝓜 .mem) (𝓡 .run)) 𝓜 𝓡 code.env #made made-def.routine code.calls-standing·with-answer (made-thm.met 𝓤 H 𝓜 𝓖 𝓡)))

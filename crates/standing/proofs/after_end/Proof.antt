@@ -1,4 +1,4 @@
--- `standing::last` meets its contract: a walk of its MIR, by hand. The local is lent to `end` for a lifetime of the call, and comes back.
+-- `standing::after_end` meets its contract: a walk of its MIR, by hand. The local is lent to `end` for a lifetime of the call, and comes back.
 use mathlib.Core.Path.{_≡_, refl}
 use Prim.Native.Nat.{ℕ}
 use mathlib.Core.List.{[], _∷_, List}
@@ -53,12 +53,12 @@ use Rattle.standing.proofs.with_reply as made
 use Rattle.standing.proofs.with_reply.Symbol as made-def
 use Rattle.standing.proofs.with_reply.Symbol.{name as #made}
 use Rattle.standing.proofs.with_reply.Met as made-thm
-use Rattle.standing.proofs.last.Key.{name as #last}
-use Rattle.standing.proofs.last as last
-use Rattle.standing.proofs.last.Statement as stated
-use Rattle.standing.proofs.last.Code as code
+use Rattle.standing.proofs.after_end.Key.{name as #after-end}
+use Rattle.standing.proofs.after_end as after-end
+use Rattle.standing.proofs.after_end.Statement as stated
+use Rattle.standing.proofs.after_end.Code as code
 
-abbrev stayed : Stays (last.ended .signature .params) (last.ended .kept)
+abbrev stayed : Stays (after-end.ended .signature .params) (after-end.ended .kept)
 stayed = (stay-none (λ _. T.the-row) yes, tt)
 
 -- what is said of the record and the reply that the end leaves
@@ -83,7 +83,7 @@ module _ {M : Type 1} (𝓤 : URA M) (H : Heap 𝓤) (A : Atoms 𝓤) (W : Given
   at = (mach h ∷ [], tt)
 
   abbrev Post : Val → SProp 𝓤
-  Post = walkOf 𝓤 H A last.ended stayed (last.clauses 𝓤 H A at-mem run) .post ((tt, tt, tt, x, at), tt)
+  Post = walkOf 𝓤 H A after-end.ended stayed (after-end.clauses 𝓤 H A at-mem run) .post ((tt, tt, tt, x, at), tt)
 
   -- the local at the block l, lent under the name δ
   abbrev lent : ℕ → GName → RefT Stream
@@ -110,14 +110,14 @@ module _ {M : Type 1} (𝓤 : URA M) (H : Heap 𝓤) (A : Atoms 𝓤) (W : Given
   exits : (d : Closed) (u : Val) → Says h (d .stream) (d .reply) → Is T.the-row h (mach h ∷ []) → ent 𝓤 (⋆ 𝓤 H A (‵ (D.the-row .own d (u ∷ [])) ∷ [])) (Post u)
   exits d u e is =
       qed W (‵ (D.the-row .own d (u ∷ [])) ∷ []) ∵
-      suffices ! _ (ends-at 𝓤 H A last.ended stayed (last.clauses 𝓤 H A at-mem run) W ((tt, tt, tt, x, at), tt) u d (tt, tt) (tt, tt)) $ says ! e $
+      suffices ! _ (ends-at 𝓤 H A after-end.ended stayed (after-end.clauses 𝓤 H A at-mem run) W ((tt, tt, tt, x, at), tt) u d (tt, tt) (tt, tt)) $ says ! e $
       nothing ! $ frame ! $ nothing ! $ owned ! T.the-row (Is T.the-row) ((LL.makes T.the-type T′.the-plain) 𝓤 H A) h (mach h ∷ []) is $ fjoin ! $ frame ! $ done !
 
   told : (r : Stream) (t : Reply) (d : Closed) → Says h r t → (d .stream ≡ r) × (d .reply ≡ t) → Says h (d .stream) (d .reply)
   told r t d e e′ = rw (e′ .0, e′ .1) e
 
   module _ (C : Calls 𝓤 H) (Λ : Loops 𝓤 H) (fm : FmC 𝓤 H (W .laws) C) (known : Triple 𝓤 (C #end) (EndC 𝓤 H A at-mem run)) (known-made : Triple 𝓤 (C #made) (MadeC 𝓤 H A at-mem run)) where
-    walk : Is T.the-row h (mach h ∷ []) → ent 𝓤 (onEntry 𝓤 H A last.signature tt tt x at) (WpFn 𝓤 H C Λ code.function (mach h ∷ []) Post)
+    walk : Is T.the-row h (mach h ∷ []) → ent 𝓤 (onEntry 𝓤 H A after-end.signature tt tt x at) (WpFn 𝓤 H C Λ code.function (mach h ∷ []) Post)
     unfolding partOf
     walk is =
         qed W (‵ ftrue ∷ ‵ (owns (T.the-row ∷ []) x at) ∷ []) ∵ move ! (1 ∷ []) $ fsplit ! $
@@ -158,23 +158,23 @@ module _ {M : Type 1} (𝓤 : URA M) (H : Heap 𝓤) (A : Atoms 𝓤) (W : Given
         keep ! (0 ∷ []) $ by ! (exits d u′ (told (ws .0) t d e e′) is))))))))))))))))))))
 
 module _ {M : Type 1} (𝓤 : URA M) (H : Heap 𝓤) (A : Atoms 𝓤) (W : Given 𝓤 H A) (at-mem : Memory → SProp 𝓤) (run : Routine → Fun 𝓤) where
-  last-walks : (C : Calls 𝓤 H) (Λ : Loops 𝓤 H) → FmC 𝓤 H (W .laws) C → Triple 𝓤 (C #end) (EndC 𝓤 H A at-mem run) → Triple 𝓤 (C #made) (MadeC 𝓤 H A at-mem run) → Walks 𝓤 H A last.ended stayed (WpFn 𝓤 H C Λ code.function) (last.clauses 𝓤 H A at-mem run)
-  last-walks C Λ fm known known-made = walked 𝓤 H A last.ended stayed (last.clauses 𝓤 H A at-mem run) (WpFn 𝓤 H C Λ code.function) (λ κs. (LL.vals T.the-type T′.the-laws, tt)) (λ κs. (LL.tells T.the-type T′.the-laws, tt))
+  after-end-walks : (C : Calls 𝓤 H) (Λ : Loops 𝓤 H) → FmC 𝓤 H (W .laws) C → Triple 𝓤 (C #end) (EndC 𝓤 H A at-mem run) → Triple 𝓤 (C #made) (MadeC 𝓤 H A at-mem run) → Walks 𝓤 H A after-end.ended stayed (WpFn 𝓤 H C Λ code.function) (after-end.clauses 𝓤 H A at-mem run)
+  after-end-walks C Λ fm known known-made = walked 𝓤 H A after-end.ended stayed (after-end.clauses 𝓤 H A at-mem run) (WpFn 𝓤 H C Λ code.function) (λ κs. (LL.vals T.the-type T′.the-laws, tt)) (λ κs. (LL.tells T.the-type T′.the-laws, tt))
       (λ κs qs bounds a g are. via 𝓤 _ (fst∗ 𝓤 _ (emp 𝓤)) (walk 𝓤 H A W at-mem run (a .0) C Λ fm known known-made (are .0)))
 
-  goes-all : AllGo 𝓤 H A W 0 (last.signature .params) (last.ended .kept) stayed
+  goes-all : AllGo 𝓤 H A W 0 (after-end.signature .params) (after-end.ended .kept) stayed
   goes-all = (goes-none 𝓤 H A W 0 (λ _. T.the-row) yes (λ κs x f. refl), tt)
 
-last-meets : {M : Type 1} (𝓤 : URA M) (H : Heap 𝓤) (A : Atoms 𝓤) (W : Given 𝓤 H A) (at-mem : Memory → SProp 𝓤) (run : Routine → Fun 𝓤) (𝓣 : Tables 𝓤 H)
+after-end-meets : {M : Type 1} (𝓤 : URA M) (H : Heap 𝓤) (A : Atoms 𝓤) (W : Given 𝓤 H A) (at-mem : Memory → SProp 𝓤) (run : Routine → Fun 𝓤) (𝓣 : Tables 𝓤 H)
     → Triple 𝓤 (𝓣 .C #end) (EndC 𝓤 H A at-mem run) → Triple 𝓤 (𝓣 .C #made) (MadeC 𝓤 H A at-mem run)
-    → Meets 𝓤 H A last.signature (WpFn 𝓤 H (𝓣 .C) (𝓣 .Λ) code.function) (last.spec 𝓤 H A at-mem run)
-last-meets 𝓤 H A W at-mem run 𝓣 known known-made = walk-meets 𝓤 H A last.ended stayed W (goes-all 𝓤 H A W at-mem run) (last.clauses 𝓤 H A at-mem run) (WpFn 𝓤 H (𝓣 .C) (𝓣 .Λ) code.function) (WpFn-mono 𝓤 H (W .laws) 𝓣 code.function) (last-walks 𝓤 H A W at-mem run (𝓣 .C) (𝓣 .Λ) (fmOf 𝓤 H (W .laws) 𝓣) known known-made)
+    → Meets 𝓤 H A after-end.signature (WpFn 𝓤 H (𝓣 .C) (𝓣 .Λ) code.function) (after-end.spec 𝓤 H A at-mem run)
+after-end-meets 𝓤 H A W at-mem run 𝓣 known known-made = walk-meets 𝓤 H A after-end.ended stayed W (goes-all 𝓤 H A W at-mem run) (after-end.clauses 𝓤 H A at-mem run) (WpFn 𝓤 H (𝓣 .C) (𝓣 .Λ) code.function) (WpFn-mono 𝓤 H (W .laws) 𝓣 code.function) (after-end-walks 𝓤 H A W at-mem run (𝓣 .C) (𝓣 .Λ) (fmOf 𝓤 H (W .laws) 𝓣) known known-made)
 
-pub last-spec : {M : Type 1} → stated.statement M
+pub after-end-spec : {M : Type 1} → stated.statement M
 unfolding code.routine tablesOf
-last-spec 𝓤 H 𝓜 𝓖 𝓡 =
-    entered 𝓤 H (tripleOf 𝓤 H (𝓖 .A) last.signature (last.spec 𝓤 H (𝓖 .A) (𝓜 .mem) (𝓡 .run)))
-    (tables 𝓤 H 𝓜 𝓡 code.env .C) (tables 𝓤 H 𝓜 𝓡 code.env .Λ) #last code.function (code.unfolded 𝓤 H 𝓜 𝓡)
-    (last-meets 𝓤 H (𝓖 .A) (givenOf 𝓤 H 𝓜 𝓖) (𝓜 .mem) (𝓡 .run) (tablesOf 𝓤 H 𝓜 (tables 𝓤 H 𝓜 𝓡 code.env))
+after-end-spec 𝓤 H 𝓜 𝓖 𝓡 =
+    entered 𝓤 H (tripleOf 𝓤 H (𝓖 .A) after-end.signature (after-end.spec 𝓤 H (𝓖 .A) (𝓜 .mem) (𝓡 .run)))
+    (tables 𝓤 H 𝓜 𝓡 code.env .C) (tables 𝓤 H 𝓜 𝓡 code.env .Λ) #after-end code.function (code.unfolded 𝓤 H 𝓜 𝓡)
+    (after-end-meets 𝓤 H (𝓖 .A) (givenOf 𝓤 H 𝓜 𝓖) (𝓜 .mem) (𝓡 .run) (tablesOf 𝓤 H 𝓜 (tables 𝓤 H 𝓜 𝓡 code.env))
     (cited 𝓤 H (EndC 𝓤 H (𝓖 .A) (𝓜 .mem) (𝓡 .run)) 𝓜 𝓡 code.env #end end-def.routine code.calls-standing·end (end-thm.met 𝓤 H 𝓜 𝓖 𝓡))
     (cited 𝓤 H (MadeC 𝓤 H (𝓖 .A) (𝓜 .mem) (𝓡 .run)) 𝓜 𝓡 code.env #made made-def.routine code.calls-standing·with-reply (made-thm.met 𝓤 H 𝓜 𝓖 𝓡)))
