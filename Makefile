@@ -9,11 +9,12 @@ WARN = -std=c11 -Wall -Wextra -Werror
 ARCHIVE = target/staticlib/libhost.a
 VERSION = $(shell sed -n 's/^.define UFF_VERSION "\(.*\)"/\1/p' include/uff.h)
 VALGRIND = $(shell command -v valgrind)
+FOUND_CXX = $(shell command -v $(CXX))
 
 all: target/uff
 
-# Proves the calls; not built again while it stands.
-$(ARCHIVE):
+# Proves the calls; `rt` proves again only the crates that have changed.
+$(ARCHIVE): crates.txt $(wildcard crates/*/src/*.rt crates/*/specs/*.antt crates/*/proofs/*/Proof.antt)
 	rt staticlib host
 
 target/uff: cmd/uff.c include/uff.h $(ARCHIVE)
@@ -23,10 +24,11 @@ target/canaries: tests/host/canaries.c include/uff.h $(ARCHIVE)
 	$(CC) $(WARN) $(CFLAGS) $(CPPFLAGS) -g -Iinclude -o $@ tests/host/canaries.c $(ARCHIVE) $(LDFLAGS)
 
 check: target/uff target/canaries
-	if command -v $(CXX) >/dev/null; then $(CXX) -std=c++11 -Wall -Wextra -Werror -fsyntax-only -x c++ include/uff.h -x none; fi
+	$(if $(FOUND_CXX),$(CXX) -std=c++11 -Wall -Wextra -Werror -fsyntax-only -x c++ include/uff.h -x none,@echo 'no C++ compiler: the header was not tried with one')
 	target/canaries
 	$(if $(VALGRIND),$(VALGRIND) -q --error-exitcode=1 --leak-check=full target/canaries,@echo 'no valgrind: canaries were run without it')
 	bash tests/host/command target/uff
+	bash tests/host/install
 
 install: target/uff
 	install -d '$(DESTDIR)$(PREFIX)/bin' '$(DESTDIR)$(PREFIX)/include' '$(DESTDIR)$(PREFIX)/lib/pkgconfig' '$(DESTDIR)$(PREFIX)/share/man/man1'
@@ -37,8 +39,21 @@ install: target/uff
 	chmod 644 '$(DESTDIR)$(PREFIX)/lib/pkgconfig/uff.pc'
 	install -m 644 cmd/uff.1 '$(DESTDIR)$(PREFIX)/share/man/man1/uff.1'
 
+# The speeds of the calls beside plain Rust, C's strtod and, where there is gfortran, its formatted READ.
+GFORTRAN = $(shell command -v gfortran)
+BENCH = $(wildcard bench/*) tests/judge/files.rs tests/judge/judge.rs tests/reader/reader.rs
+
+target/bench: $(BENCH) $(ARCHIVE)
+	$(CC) $(WARN) -O2 -c -o target/strtod.o bench/strtod.c
+	$(if $(GFORTRAN),$(GFORTRAN) -std=f2018 -Wall -Wextra -Werror -O2 -c -o target/read.o bench/read.f90)
+	rustc --edition 2021 -O -D warnings -L target/staticlib -l static=host -C link-arg=target/strtod.o \
+		$(if $(GFORTRAN),--cfg fortran -C link-arg=target/read.o -C link-arg=$(shell $(GFORTRAN) -print-file-name=libgfortran.so)) -o $@ bench/bench.rs
+
+bench: target/bench
+	target/bench
+
 # The archive stays: its proofs take long, and `rt` made it.
 clean:
-	rm -f target/uff target/canaries
+	rm -f target/uff target/canaries target/bench target/strtod.o target/read.o
 
-.PHONY: all check install clean
+.PHONY: all check install bench clean

@@ -1,163 +1,227 @@
-//! Times the proved judge and the plain Rust judge on the same files, and the proved judge of bursts beside that of whole files.
+//! Times the proved calls beside plain Rust that does the same, and the reading of all values also
+//! beside C's strtod on fixed columns and gfortran's formatted READ, which judge nothing.
 //!
-//! Each file is built once, before the clock starts. In every round each judge reads the whole
-//! file once, one after the other; the best round counts. Nothing is cleared in between: the file
-//! may stand in the processor's caches as far as it fits. No buffer is lent besides the file.
+//! Each file is built once, and each lent buffer is laid out and touched once, before the clock
+//! starts. In every round each side does the whole work, one side after the other; the best round
+//! counts. Nothing is cleared in between: the file may stand in the processor's caches as far as it
+//! fits. The plain Rust answers in a Vec of its own, made inside the clock. After the rounds the answers
+//! of all sides are held against each other, f64 by their bits.
 
+mod calls;
 #[path = "../tests/judge/files.rs"]
 mod files;
 #[path = "../tests/judge/judge.rs"]
 mod judge;
+#[allow(dead_code)]
+#[path = "../tests/reader/reader.rs"]
+mod reader;
+mod sets;
 
+use sets::LONGEST;
 use std::hint::black_box;
 use std::time::Instant;
 
-extern "C" {
-    fn uff_judge(file: *const u8, len: usize) -> u64;
-    fn uff_start(numbers: *mut u64, numbers_len: usize, line: *mut u8, line_len: usize) -> u64;
-    fn uff_burst(
-        numbers: *mut u64,
-        numbers_len: usize,
-        line: *mut u8,
-        line_len: usize,
-        bytes: *const u8,
-        bytes_len: usize,
-    ) -> u64;
-    fn uff_end(numbers: *mut u64, numbers_len: usize, line: *mut u8, line_len: usize) -> u64;
-}
-
 const ROUNDS: usize = 9;
-const LONGEST: usize = 16_777_216;
 
-/// One 58 with numbers that differ from line to line.
-fn set(case: usize, count: usize) -> Vec<u8> {
-    let mut file = files::function(case, count, count);
-    // The digits of the data, from line 14 on, are varied; the fields keep their form.
-    let data = file.iter().enumerate().filter(|(_, &b)| b == b'\n').nth(12).map_or(0, |(n, _)| n + 1);
-    let mut state: u32 = 58;
-    let past = file.len() - 7;
-    for n in data..past {
-        // Only the coefficient's digits: those behind the point, and the one before it.
-        let coefficient = file[n].is_ascii_digit() && (file[n + 1] != b'\n') && file[n - 1] != b'-' && file[n - 2] != b'-';
-        if coefficient {
-            state = state.wrapping_mul(1_664_525).wrapping_add(1_013_904_223);
-            file[n] = b'0' + (state >> 24) as u8 % 10;
-        }
-    }
-    file
-}
-
-/// Sets of 65,536 values and one smaller set, as many as the length allows.
-fn many(case: usize, length: usize) -> Vec<u8> {
-    let one = set(case, 65_536);
-    let mut file = Vec::with_capacity(length);
-    while file.len() + one.len() <= length {
-        file.extend_from_slice(&one);
-    }
-    // The rest: a value takes at most 14 (case 1) or 21 (case 5) bytes with its line's end.
-    let rest = length - file.len();
-    let value = if case == 5 { 21 } else { 14 };
-    if rest > 1_000 + value {
-        file.extend_from_slice(&set(case, (rest - 1_000) / value));
-    }
-    file
-}
-
-fn filled() -> Vec<u8> {
-    let one = files::filled(&set(1, 65_536), b"\r\n");
-    one.repeat(LONGEST / one.len())
-}
-
-/// 4,096 sets 82 of one entry.
-fn traces() -> Vec<u8> {
-    b"    -1\n    82\n         1         1         0\nNONE\n         7\n    -1\n".repeat(4_096)
-}
-
-/// Million bytes a second of the best round of each judge: proved, plain.
-fn time(name: &str, file: &[u8]) -> (f64, f64) {
-    let mut best = [f64::INFINITY; 2];
-    // Small files are read several times a round, so that the clock's step does not matter.
+/// Million bytes a second of the best round of each side, each of which goes through the file once.
+/// Small files are taken several times a round, so that the clock's step does not matter.
+fn best(file: &[u8], sides: &mut [&mut dyn FnMut()]) -> Vec<f64> {
     let times = (LONGEST / 4 / file.len()).max(1);
+    let mut best = vec![f64::INFINITY; sides.len()];
     for _ in 0..ROUNDS {
-        let start = Instant::now();
-        let mut word = 0;
-        for _ in 0..times {
-            let file = black_box(file);
-            word = black_box(unsafe { uff_judge(file.as_ptr(), file.len()) });
-        }
-        best[0] = best[0].min(start.elapsed().as_secs_f64());
-        let start = Instant::now();
-        let mut plain = judge::Reply { number: 0, place: 0 };
-        for _ in 0..times {
-            plain = black_box(judge::judge(black_box(file)));
-        }
-        best[1] = best[1].min(start.elapsed().as_secs_f64());
-        let proved = judge::Reply { number: (word >> 57) as u32, place: word as u32 };
-        if plain.number != 0 || proved != plain {
-            println!("{name}: proved {proved:?}, plain {plain:?}; the file should be accepted");
-            std::process::exit(1);
+        for (side, best) in sides.iter_mut().zip(&mut best) {
+            let start = Instant::now();
+            for _ in 0..times {
+                side();
+            }
+            *best = best.min(start.elapsed().as_secs_f64());
         }
     }
-    let bytes = (file.len() * times) as f64 / 1e6;
-    (bytes / best[0], bytes / best[1])
+    best.iter().map(|seconds| (file.len() * times) as f64 / 1e6 / seconds).collect()
 }
 
-/// The end's word for a file that comes in bursts of so many bytes.
-fn in_bursts(file: &[u8], length: usize) -> u64 {
-    let mut numbers = [0u64; 12];
-    let mut line = [0u8; 82];
-    let (n, l) = (numbers.as_mut_ptr(), line.as_mut_ptr());
-    unsafe {
-        uff_start(n, 12, l, 82);
-        for burst in file.chunks(length) {
-            black_box(uff_burst(n, 12, l, 82, burst.as_ptr(), burst.len()));
-        }
-        uff_end(n, 12, l, 82)
+/// Ends the program unless the sides agree.
+fn check(name: &str, same: bool) {
+    if !same {
+        println!("{name}: the answers differ, or the file is refused");
+        std::process::exit(1);
     }
 }
 
-/// Million bytes a second of the best round: the file in bursts, and the proved judge of the whole file.
-fn time_bursts(file: &[u8], length: usize) -> (f64, f64) {
-    let mut best = [f64::INFINITY; 2];
-    for _ in 0..ROUNDS {
-        let start = Instant::now();
-        let ended = black_box(in_bursts(black_box(file), length));
-        best[0] = best[0].min(start.elapsed().as_secs_f64());
-        let start = Instant::now();
-        let whole = black_box(unsafe { uff_judge(black_box(file).as_ptr(), file.len()) });
-        best[1] = best[1].min(start.elapsed().as_secs_f64());
-        if ended != whole || whole >> 57 != 0 {
-            println!("bursts of {length}: {ended:#x}, whole {whole:#x}; the file should be accepted");
-            std::process::exit(1);
+/// Prints a table's heading: its first column, bytes, then columns of speeds and ratios.
+fn heading(title: &str, first: &str, columns: &[&str]) {
+    println!("\n{title}");
+    print!("{first:<38} {:>10}", "bytes");
+    for column in columns {
+        print!(" {column:>17}");
+    }
+    println!();
+}
+
+/// Prints a row: speeds in MB/s and the ratios of the first to each of the others.
+fn row(name: &str, bytes: usize, speeds: &[f64]) {
+    print!("{name:<38} {bytes:>10}");
+    for speed in speeds {
+        print!(" {speed:>17.0}");
+    }
+    for other in &speeds[1..] {
+        print!(" {:>17.2}", speeds[0] / other);
+    }
+    println!();
+}
+
+// Judging --------------------------------------------------------------------------------------
+
+fn judge_row(name: &str, file: &[u8]) {
+    let mut word = 0;
+    let mut plain = judge::judge(b"");
+    let speeds = best(file, &mut [
+        &mut || word = black_box(calls::judge(black_box(file))),
+        &mut || plain = black_box(judge::judge(black_box(file))),
+    ]);
+    check(name, plain.number == 0 && word == u64::from(plain.place));
+    row(name, file.len(), &speeds);
+}
+
+fn judge_table() {
+    heading("the judge", "file", &["proved MB/s", "Rust MB/s", "proved/Rust"]);
+    judge_row("case 1, 16 MB", &sets::many(1, LONGEST));
+    judge_row("case 5, 16 MB", &sets::many(5, LONGEST));
+    judge_row("case 1, one set of 65,536 values", &sets::set(1, 65_536));
+    judge_row("the same, signs and exponents vary", &sets::signed(1, 65_536));
+    judge_row("4,096 plain sets without lines", &files::empty_sets(4_096));
+    judge_row("4,096 sets 82 of one entry", &sets::traces());
+    judge_row("case 1, CR LF, 80 columns, 16 MB", &sets::filled());
+    judge_row("case 1, 1 MB", &sets::many(1, LONGEST / 16));
+    judge_row("case 1, 4 MB", &sets::many(1, LONGEST / 4));
+    judge_row("case 1, 16 MB again", &sets::many(1, LONGEST));
+}
+
+// Reading all values ---------------------------------------------------------------------------
+
+fn same_bits(a: &[f64], b: &[f64]) -> bool {
+    a.len() == b.len() && a.iter().zip(b).all(|(x, y)| x.to_bits() == y.to_bits())
+}
+
+/// The file judged and all values of its last set read: proved and plain Rust.
+fn values_row(name: &str, file: &[u8]) {
+    let set = calls::list(file).len() as u32;
+    let due = reader::values(file, set).unwrap_or_default();
+    let name = &format!("{name}, set {set}, {} values", due.len());
+    let mut word = 0;
+    let mut proved = vec![1.0; due.len()];
+    let mut plain = Vec::new();
+    let speeds = best(file, &mut [
+        &mut || word = black_box(calls::values(black_box(file), set, &mut proved)),
+        &mut || plain = black_box(reader::values(black_box(file), set).unwrap_or_default()),
+    ]);
+    check(name, word == due.len() as u64 && same_bits(&proved, &due) && same_bits(&plain, &due));
+    row(name, file.len(), &speeds);
+}
+
+/// The same for a file of one set, and its values read without a judge by strtod and gfortran's READ.
+fn columns_row(name: &str, case: usize, file: &[u8]) {
+    let data = calls::Data::new(file, calls::list(file)[0], case);
+    let due = reader::values(file, 1).unwrap_or_default();
+    let mut word = 0;
+    let mut plain = Vec::new();
+    let [mut proved, mut strtod, mut fortran] = [(); 3].map(|()| vec![1.0; due.len()]);
+    let mut by_proved = || word = black_box(calls::values(black_box(file), 1, &mut proved));
+    let mut by_plain = || plain = black_box(reader::values(black_box(file), 1).unwrap_or_default());
+    let mut by_strtod = || black_box(&data).strtod(black_box(&mut strtod));
+    let mut by_fortran = || black_box(&data).fortran(black_box(&mut fortran));
+    let sides: &mut [&mut dyn FnMut()] =
+        &mut [&mut by_proved, &mut by_plain, &mut by_strtod, &mut by_fortran];
+    let built = if calls::FORTRAN { 4 } else { 3 };
+    let speeds = best(file, &mut sides[..built]);
+    check(name, word == due.len() as u64 && same_bits(&proved, &due) && same_bits(&plain, &due));
+    check(name, same_bits(&strtod, &due) && (!calls::FORTRAN || same_bits(&fortran, &due)));
+    row(name, file.len(), &speeds);
+}
+
+fn values_tables() {
+    let columns = [
+        "proved MB/s",
+        "Rust MB/s",
+        "strtod MB/s",
+        "gfortran MB/s",
+        "proved/Rust",
+        "proved/strtod",
+        "proved/gfortran",
+    ];
+    let without = [0, 1, 2, 4, 5].map(|n| columns[n]);
+    let title = "the judge and all values of a file's one set; strtod and gfortran judge nothing";
+    heading(title, "file", if calls::FORTRAN { &columns } else { &without });
+    columns_row("case 1, 65,536 values", 1, &sets::set(1, 65_536));
+    columns_row("the same, signs and exponents vary", 1, &sets::signed(1, 65_536));
+    columns_row("case 2, 65,536 values", 2, &sets::set(2, 65_536));
+    columns_row("case 5, 65,536 values", 5, &sets::set(5, 65_536));
+    columns_row("the same, signs and exponents vary", 5, &sets::signed(5, 65_536));
+    columns_row("case 8, 65,536 values", 8, &sets::set(8, 65_536));
+
+    let title = "the judge and all values of the last of many sets";
+    heading(title, "file", &["proved MB/s", "Rust MB/s", "proved/Rust"]);
+    values_row("case 1, 16 MB", &sets::many(1, LONGEST));
+    values_row("case 5, 16 MB", &sets::many(5, LONGEST));
+}
+
+// Rewriting ------------------------------------------------------------------------------------
+
+fn rewrite_row(name: &str, file: &[u8]) {
+    let mut word = 0;
+    let mut proved = vec![b'x'; file.len()];
+    let mut plain = Vec::new();
+    let speeds = best(file, &mut [
+        &mut || word = black_box(calls::rewrite(black_box(file), &mut proved)),
+        &mut || plain = black_box(reader::rewrite(black_box(file)).unwrap_or_default()),
+    ]);
+    check(name, word == plain.len() as u64 && word > 0 && proved[..plain.len()] == plain);
+    row(name, file.len(), &speeds);
+}
+
+fn rewrite_table() {
+    heading("the rewriter", "file", &["proved MB/s", "Rust MB/s", "proved/Rust"]);
+    rewrite_row("case 1, 16 MB", &sets::many(1, LONGEST));
+    rewrite_row("case 5, 16 MB", &sets::many(5, LONGEST));
+    rewrite_row("case 1, one set of 65,536 values", &sets::set(1, 65_536));
+    rewrite_row("4,096 plain sets without lines", &files::empty_sets(4_096));
+    rewrite_row("4,096 sets 82 of one entry", &sets::traces());
+    rewrite_row("case 1, CR LF, 80 columns, 16 MB", &sets::filled());
+}
+
+// Bursts ---------------------------------------------------------------------------------------
+
+fn bursts_row(name: &str, file: &[u8], length: usize) {
+    let name = format!("{length}, {name}");
+    let (mut ended, mut whole) = (0, 0);
+    let mut plain = judge::judge(b"");
+    let speeds = best(file, &mut [
+        &mut || ended = black_box(calls::in_bursts(black_box(file), length)),
+        &mut || whole = black_box(calls::judge(black_box(file))),
+        &mut || plain = black_box(judge::judge(black_box(file))),
+    ]);
+    check(&name, ended == whole && plain.number == 0 && whole == u64::from(plain.place));
+    row(&name, file.len(), &speeds);
+}
+
+fn bursts_table() {
+    let title = "a file in bursts beside the two judges of the whole file, proved and Rust";
+    let columns = ["bursts MB/s", "whole MB/s", "Rust MB/s", "bursts/whole", "bursts/Rust"];
+    heading(title, "bursts of", &columns);
+    for (name, file) in [("case 1", sets::many(1, LONGEST / 4)), ("case 5", sets::many(5, LONGEST / 4))] {
+        for length in [1, 64, 512, 4_096] {
+            bursts_row(name, &file, length);
         }
     }
-    let bytes = file.len() as f64 / 1e6;
-    (bytes / best[0], bytes / best[1])
 }
 
 fn main() {
-    let files: [(&str, Vec<u8>); 9] = [
-        ("case 1, 16 MB", many(1, LONGEST)),
-        ("case 5, 16 MB", many(5, LONGEST)),
-        ("case 1, one set of 65,536 values", set(1, 65_536)),
-        ("4,096 plain sets without lines", files::empty_sets(4_096)),
-        ("4,096 sets 82 of one entry", traces()),
-        ("case 1, CR LF, 80 columns, 16 MB", filled()),
-        ("case 1, 1 MB", many(1, LONGEST / 16)),
-        ("case 1, 4 MB", many(1, LONGEST / 4)),
-        ("case 1, 16 MB again", many(1, LONGEST)),
-    ];
-    println!("best of {ROUNDS} rounds; files built once, caches not cleared; MB are 1,000,000 bytes");
-    println!("{:<34} {:>10} {:>12} {:>12} {:>14}", "file", "bytes", "proved MB/s", "Rust MB/s", "proved / Rust");
-    for (name, file) in &files {
-        let (proved, plain) = time(name, file);
-        println!("{name:<34} {:>10} {proved:>12.0} {plain:>12.0} {:>14.2}", file.len(), proved / plain);
+    println!("best of {ROUNDS} rounds; files built once, caches not cleared; MB are 1,000,000 bytes of the file");
+    if !calls::FORTRAN {
+        println!("built without gfortran");
     }
-    println!("{:<34} {:>10} {:>12} {:>12} {:>14}", "bursts of", "bytes", "bursts MB/s", "whole MB/s", "bursts / whole");
-    for (name, file) in [("case 1", many(1, LONGEST / 4)), ("case 5", many(5, LONGEST / 4))] {
-        for length in [1, 64, 512, 4_096] {
-            let (bursts, whole) = time_bursts(&file, length);
-            println!("{:<34} {:>10} {bursts:>12.0} {whole:>12.0} {:>14.2}", format!("{length}, {name}"), file.len(), bursts / whole);
-        }
-    }
+    judge_table();
+    values_tables();
+    rewrite_table();
+    bursts_table();
 }

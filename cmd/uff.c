@@ -23,15 +23,19 @@ enum { ACCEPTED = 0, REFUSED = 1, TROUBLE = 2 };
 #define BURST 65536
 
 static const char usage[] =
-    "usage: uff judge FILE...           say whether each file is a Universal File\n"
+    "usage: uff judge [-H] FILE...      say whether each file is a Universal File\n"
     "       uff list FILE               list its sets\n"
     "       uff number FILE SET INDEX   show a stored number of a set 58 (SET from 1, INDEX from 0)\n"
+    "       uff values FILE SET         show all values of a set 58, one a line (SET from 1)\n"
     "       uff rewrite IN OUT          write IN to OUT in plain form\n"
     "       uff watch FILE              judge FILE while it arrives\n"
     "       uff help | --help           show this\n"
     "       uff --version               show the version\n"
+    "With -H judge prints name and count for one file too, as it does for several.\n"
+    "After -- no word is an option.\n"
     "A FILE of - is standard input, an OUT of - standard output.\n"
-    "Exit status: 0 accepted, 1 refused, 2 wrong usage or trouble with a file.\n";
+    "Exit status: 0 accepted, 1 refused (the file, or what was asked of it),\n"
+    "2 wrong usage or trouble with a file.\n";
 
 /* Milliseconds on a clock that never goes back. */
 static int64_t now(void)
@@ -151,7 +155,7 @@ static bool read_from(int fd, struct text *t)
     return true;
 }
 
-/* Reads a file, or says what is wrong with it. */
+/* Reads a file, or says what is wrong with it and keeps no room. */
 static bool read_file(const char *name, struct text *t)
 {
     int fd = open_input(name);
@@ -159,9 +163,12 @@ static bool read_file(const char *name, struct text *t)
     int error = errno;
     if (fd >= 0)
         close_input(name, fd);
-    if (!good)
-        trouble(shown_name(name), strerror(error));
-    return good;
+    if (good)
+        return true;
+    free(t->bytes);
+    *t = (struct text){NULL, 0, 0};
+    trouble(shown_name(name), strerror(error));
+    return false;
 }
 
 /* Replies. */
@@ -202,12 +209,28 @@ static int print_verdict(FILE *to, uint64_t reply, const struct text *t)
     return UFF_NUMBER(reply) == UFF_ACCEPTED ? ACCEPTED : REFUSED;
 }
 
+/* Writes what was printed in one piece; where that fails there is nothing left to do. */
+static void flush_output(void)
+{
+    if (fflush(stdout) != 0)
+        exit(trouble("standard output", strerror(errno)));
+}
+
 /* Commands. Each takes its words and gives the exit status. */
 
+/* The option -H: `judge` prints name and count for one file too. */
+static bool always_named;
+
+/* Room for a line of `judge`: the longest name that opens, and a reply. */
+static char judge_line[16384];
+
+/* Each line is one write, so that several processes may share a file or a pipe. */
 static int run_judge(int count, char **words)
 {
     struct text t = {NULL, 0, 0};
     int seen[3] = {0, 0, 0};
+    bool named = always_named || count > 1;
+    setvbuf(stdout, judge_line, _IOFBF, sizeof judge_line);
     progress.on = count > 1 && isatty(STDERR_FILENO);
     for (int i = 0; i < count; i++) {
         uint64_t reply;
@@ -218,22 +241,24 @@ static int run_judge(int count, char **words)
         }
         reply = uff_judge(t.bytes, t.count);
         clear_progress();
-        if (count > 1)
+        if (named)
             printf("%s: ", words[i]);
         seen[print_verdict(stdout, reply, &t)]++;
-        if (progress.on)
-            fflush(stdout);
+        flush_output();
     }
     clear_progress();
     free(t.bytes);
-    if (count > 1)
-        printf("%d files: %d accepted, %d refused, %d not read\n", count, seen[ACCEPTED], seen[REFUSED], seen[TROUBLE]);
+    if (named)
+        printf("%d file%s: %d accepted, %d refused, %d not read\n", count, count == 1 ? "" : "s", seen[ACCEPTED],
+               seen[REFUSED], seen[TROUBLE]);
     return seen[TROUBLE] ? TROUBLE : seen[REFUSED] ? REFUSED : ACCEPTED;
 }
 
+/* Room for what the lister gives of any file. */
+static uint32_t rows[UFF_SETS * UFF_ROW];
+
 static int run_list(int count, char **words)
 {
-    static uint32_t rows[UFF_SETS * UFF_ROW];
     struct text t = {NULL, 0, 0};
     uint64_t reply;
     int status;
@@ -308,6 +333,47 @@ static int run_number(int count, char **words)
     reply = uff_number(t.bytes, t.count, set, index, answer, sizeof answer);
     if (UFF_NUMBER(reply) == UFF_ACCEPTED)
         print_number(answer, set, index);
+    else
+        status = print_verdict(stdout, reply, &t);
+    free(t.bytes);
+    return status;
+}
+
+/* The count of values that a set of an accepted file declares, as the lister gives it. */
+static uint32_t declared_count(const struct text *t, uint32_t set)
+{
+    uff_list(t->bytes, t->count, rows, UFF_SETS * UFF_ROW);
+    return rows[(set - 1) * UFF_ROW + 2];
+}
+
+/*
+ * Prints the values one a line, each number so that it reads back as the same double. How many numbers a value has is
+ * found by division, so that nothing here needs to know the kinds of values.
+ */
+static void print_values(const double *numbers, uint32_t count, uint32_t values)
+{
+    for (uint32_t i = 0; i < values; i++) {
+        uint32_t width = count / values;
+        for (uint32_t k = 0; k < width; k++)
+            printf("%.17g%c", numbers[i * width + k], k + 1 < width ? ' ' : '\n');
+    }
+}
+
+static int run_values(int count, char **words)
+{
+    static double numbers[UFF_DOUBLES];
+    struct text t = {NULL, 0, 0};
+    uint32_t set;
+    uint64_t reply;
+    int status = ACCEPTED;
+    (void)count;
+    if (!parse_number(words[1], &set))
+        return misused("SET is not a number from 0 to 4294967295", words[1]);
+    if (!read_file(words[0], &t))
+        return TROUBLE;
+    reply = uff_values(t.bytes, t.count, set, numbers, UFF_DOUBLES);
+    if (UFF_NUMBER(reply) == UFF_ACCEPTED)
+        print_values(numbers, UFF_PLACE(reply), declared_count(&t, set));
     else
         status = print_verdict(stdout, reply, &t);
     free(t.bytes);
@@ -502,12 +568,10 @@ struct watch {
     int64_t next;
 };
 
-/* Shows the reply; where it cannot be shown there is nothing left to do. */
 static void show(struct watch *w)
 {
     print_reply(stdout, w->reply, w->lines + (w->open ? 1 : 0));
-    if (fflush(stdout) != 0)
-        exit(trouble("standard output", strerror(errno)));
+    flush_output();
     w->shown = w->reply;
     w->next = now() + 1000;
 }
@@ -591,27 +655,46 @@ struct command {
 };
 
 static const struct command commands[] = {
-    {"judge", 1, 1 << 30, run_judge}, {"list", 1, 1, run_list},   {"number", 3, 3, run_number},
-    {"rewrite", 2, 2, run_rewrite},   {"watch", 1, 1, run_watch}, {"help", 0, 0, run_help},
-    {"--help", 0, 0, run_help},       {"-h", 0, 0, run_help},     {"--version", 0, 0, run_version},
+    {"judge", 1, 1 << 30, run_judge}, {"list", 1, 1, run_list},       {"number", 3, 3, run_number},
+    {"values", 2, 2, run_values},     {"rewrite", 2, 2, run_rewrite}, {"watch", 1, 1, run_watch},
+    {"help", 0, 0, run_help},         {"--help", 0, 0, run_help},     {"-h", 0, 0, run_help},
+    {"--version", 0, 0, run_version},
 };
 
-/* Runs a command on its words. A word that begins with a minus is an option, and there are none but --help. */
+/* Is it the option -H of judge, or the end of options? */
+static bool stands_first(const struct command *c, const char *word)
+{
+    return strcmp(word, "--") == 0 || (c->run == run_judge && strcmp(word, "-H") == 0);
+}
+
+/* Says what is wrong with a word that begins with a minus. */
+static int refuse_option(const struct command *c, const char *word)
+{
+    return misused(stands_first(c, word) ? "options stand before the other words" : "no such option", word);
+}
+
+/*
+ * Runs a command on its words. Options stand before the others, and -- ends them. Without -- a later word that begins
+ * with a minus is refused, so that no option typed late or wrong is taken for a name.
+ */
 static int run_command(const struct command *c, int count, char **words)
 {
-    int options = count > 0 && strcmp(words[0], "--") == 0 ? 1 : 0;
-    for (int i = 0; options == 0 && i < count; i++) {
+    bool ended = false;
+    for (; count > 0 && !ended && stands_first(c, words[0]); count--, words++) {
+        ended = strcmp(words[0], "--") == 0;
+        always_named |= !ended;
+    }
+    for (int i = 0; !ended && i < count; i++) {
         if (strcmp(words[i], "--help") == 0)
             return run_help(0, NULL);
         if (words[i][0] == '-' && words[i][1] != '\0')
-            return misused("no such option", words[i]);
+            return refuse_option(c, words[i]);
     }
-    count -= options;
     if (count < c->least)
         return misused("too few words after", c->name);
     if (count > c->most)
         return misused("too many words after", c->name);
-    return c->run(count, words + options);
+    return c->run(count, words);
 }
 
 static int run(int count, char **words)

@@ -26,9 +26,10 @@
 #define UFF_SETS 4096
 #define UFF_ROW 6
 
-/* The bytes of an answer of uff_number, and the most that uff_value gives. */
+/* The bytes of an answer of uff_number, the most that uff_value gives, and the most doubles that uff_values gives. */
 #define UFF_NUMBER_BYTES 20
 #define UFF_VALUE_BYTES 24
+#define UFF_DOUBLES 196608
 
 /*
  * Every call replies with one word: number * 2^57 + column * 2^32 + place. The number is one of the
@@ -106,9 +107,21 @@ uint64_t uff_number(const uint8_t *file, size_t file_len, uint32_t set, uint32_t
  * The reader of values: value `index` of set `set`, a 58, as one to three doubles (IEEE 754 binary64)
  * of 8 bytes, lowest byte first. The answer is the kind: 1 a real, 2 a real and an imaginary part, 3 an
  * abscissa and a real, 4 an abscissa, a real and an imaginary part. Refused as by the judge, then with
- * 18, 21 (a coefficient above 2^53 or a scale outside -22 to 22), 20.
+ * 18, 21 (a coefficient above 2^53 or a scale outside -22 to 22, of a zero too), 20.
  */
 uint64_t uff_value(const uint8_t *file, size_t file_len, uint32_t set, uint32_t index, uint8_t *out, size_t out_len);
+
+/*
+ * The reader of all values of set `set`, a 58, which judges the file once: the doubles that uff_value
+ * gives for value 0, then those for value 1, and so on. They are the host's own doubles, which must be
+ * IEEE 754 binary64. The answer is the number of doubles. Divided by the declared count (the third
+ * number of the set's row from uff_list) it is 1 (a real), 3 (abscissa, real, imaginary) or 2 (a complex
+ * pair, or abscissa and real: the kind that uff_value answers for value 0 tells which). Refused as by
+ * the judge, then with 18, 21, 20. One number outside the range of uff_value is enough for 21, a zero
+ * whose scale is outside -22 to 22 too; uff_value, index by index, tells which value it is. UFF_DOUBLES
+ * places are enough for every set.
+ */
+uint64_t uff_values(const uint8_t *file, size_t file_len, uint32_t set, double *out, size_t places);
 
 /*
  * The rewriter: the file with LF ends, no blanks at line ends, no lines outside sets, delimiters and

@@ -1,8 +1,9 @@
 /*
  * Every exported call on accepted and refused inputs, against replies typed by hand from document 01. Each case is run
  * with its buffers lent in four ways: between canaries, as pieces of the heap of just their length (for valgrind), before
- * a page that may not be touched, and after one. No byte outside a lent buffer, and none past the answer, may differ
- * afterwards. The first difference ends the program with 1; its last line counts the cases.
+ * a page that may not be touched, and after one. What is lent to be filled, and the canaries, hold NaNs of every sort
+ * among other bits. No byte outside a lent buffer, and none past the answer, may differ afterwards. The first difference
+ * ends the program with 1; its last line counts the cases.
  */
 #define _DEFAULT_SOURCE
 
@@ -17,7 +18,6 @@
 #include "uff.h"
 
 #define GUARD 64
-#define CANARY 0xc5
 
 enum { GUARDED, HEAP, BEFORE_PAGE, AFTER_PAGE, WAYS };
 
@@ -58,6 +58,23 @@ struct lent {
     uint8_t *before;
 };
 
+/* Bits of doubles: quiet NaNs of both signs, signalling ones, with payloads and with the least, and what is no NaN. */
+static const uint64_t doubles[] = {
+    0x7ff8000000000000, 0xfff8000000000000, 0x7ff0000000000001, 0xfff0000000000001, 0x7ff4a5a55a5a0137, 0xfff4a5a55a5a0137,
+    0x7ffca5a55a5a0137, 0xfffca5a55a5a0137, 0x7ff7ffffffffffff, 0xffffffffffffffff, 0x7ff0000000000000, 0x8000000000000000,
+    0x180a11181f262d34,
+};
+
+/* Byte i of the pattern: those doubles in turn, with other low bits each time they come again. */
+static uint8_t pattern(size_t i)
+{
+    size_t count = sizeof doubles / sizeof *doubles, n = i / 8;
+    uint64_t bits = doubles[n % count] ^ n / count;
+    uint8_t bytes[8];
+    memcpy(bytes, &bits, 8);
+    return bytes[i % 8];
+}
+
 static void place_at_page(struct lent *l)
 {
     size_t page = (size_t)sysconf(_SC_PAGESIZE), inside = (l->size / page + 1) * page;
@@ -68,16 +85,17 @@ static void place_at_page(struct lent *l)
         differs("no page without access");
 }
 
-/* Lends a copy of these bytes, or bytes of a pattern where there are none. */
+/* Lends a copy of these bytes, or the pattern where there are none. */
 static struct lent lend(const void *bytes, size_t size)
 {
     struct lent l = {NULL, size, NULL, 0, need(malloc(size + 1))};
     for (size_t i = 0; i < size; i++)
-        l.before[i] = bytes != NULL ? ((const uint8_t *)bytes)[i] : (uint8_t)(i * 7 + 3);
+        l.before[i] = bytes != NULL ? ((const uint8_t *)bytes)[i] : pattern(i);
     if (way == GUARDED) {
         l.piece_size = size + 2 * GUARD;
         l.piece = need(malloc(l.piece_size));
-        memset(l.piece, CANARY, l.piece_size);
+        for (size_t i = 0; i < GUARD; i++)
+            l.piece[i] = l.piece[GUARD + size + i] = pattern(i);
         l.at = l.piece + GUARD;
     } else if (way == HEAP) {
         l.piece_size = size;
@@ -102,7 +120,7 @@ static void take_back(struct lent *l, const void *due, size_t due_size)
         differs("bytes past the answer, or of a refusal, were touched");
     if (way == GUARDED)
         for (size_t i = 0; i < GUARD; i++)
-            if (l->piece[i] != CANARY || l->piece[GUARD + l->size + i] != CANARY)
+            if (l->piece[i] != pattern(i) || l->piece[GUARD + l->size + i] != pattern(i))
                 differs("a canary was touched");
     free(l->before);
     if (way == GUARDED || way == HEAP)
@@ -169,6 +187,14 @@ static void add(struct text *t, const char *more)
     t->count += n;
 }
 
+static void add_text(struct text *t, struct text more)
+{
+    if (t->count + more.count > sizeof t->bytes)
+        differs("the case is typed wrong: too long");
+    memcpy(t->bytes + t->count, more.bytes, more.count);
+    t->count += more.count;
+}
+
 /* The example's lines `from` to `to`; line `n` is another one, or left out where that is null. */
 static struct text with(int from, int to, int n, const char *line)
 {
@@ -205,6 +231,7 @@ static void refuse_all(const void *bytes, size_t count, uint64_t number, uint64_
     check_reply(uff_list(file.at, count, (uint32_t *)(void *)rows.at, 64), number, place);
     check_reply(uff_number(file.at, count, 1, 0, out.at, 1000), number, place);
     check_reply(uff_value(file.at, count, 1, 0, out.at, 1000), number, place);
+    check_reply(uff_values(file.at, count, 1, (double *)(void *)out.at, 125), number, place);
     check_reply(uff_rewrite(file.at, count, out.at, 1000), number, place);
     take_back(&file, NULL, 0);
     take_back(&rows, NULL, 0);
@@ -279,6 +306,7 @@ static void judge_ends(void)
     check_reply(uff_list(NULL, 0, NULL, 0), 16, 0);
     check_reply(uff_number(NULL, 0, 1, 0, NULL, 0), 16, 0);
     check_reply(uff_value(NULL, 0, 1, 0, NULL, 0), 16, 0);
+    check_reply(uff_values(NULL, 0, 1, NULL, 0), 16, 0);
     check_reply(uff_rewrite(NULL, 0, NULL, 0), 16, 0);
     name = "blank lines only";
     refuse_all("\n  \n", 4, 16, 0);
@@ -384,34 +412,42 @@ static void numbers(void)
     ask_number("number 7 and no room", 2, 7, 0, 18, NULL);
 }
 
+/* Doubles as the reader of values gives them: 8 bytes each, lowest first. */
+static void spell(uint8_t *bytes, const double *numbers, size_t count)
+{
+    for (size_t i = 0; i < count; i++) {
+        uint64_t bits;
+        memcpy(&bits, &numbers[i], 8);
+        for (int k = 0; k < 8; k++)
+            bytes[8 * i + (size_t)k] = (uint8_t)(bits >> (8 * k));
+    }
+}
+
 /* A question for value `index` of set 1; the kind and its doubles, or a refusal with kind 0. */
 static void ask_value(const char *what, struct text t, uint32_t index, size_t room, uint64_t refusal, uint64_t kind,
                       const double *due, size_t count)
 {
     struct lent file = lend(t.bytes, t.count), out = lend(NULL, room);
     uint8_t bytes[24];
-    for (size_t i = 0; i < count; i++) {
-        uint64_t bits;
-        memcpy(&bits, &due[i], 8);
-        for (int k = 0; k < 8; k++)
-            bytes[8 * i + (size_t)k] = (uint8_t)(bits >> (8 * k));
-    }
+    spell(bytes, due, count);
     name = what;
     check_reply(uff_value(file.at, t.count, 1, index, out.at, room), refusal, kind);
     take_back(&file, NULL, 0);
     take_back(&out, bytes, 8 * count);
 }
 
-#define COUNTED(ordinate, spacing, increment) "         " ordinate "         2         " spacing "  0.00000E+00  " increment "  0.00000E+00"
+/* Line 7 of a 58 for this ordinate type and a count of one digit. */
+#define EVEN(ordinate, count) "         " ordinate "         " count "         1  0.00000E+00  1.00000E-03  0.00000E+00"
+#define UNEVEN(ordinate, count) "         " ordinate "         " count "         0  0.00000E+00  0.00000E+00  0.00000E+00"
 
 static void values(void)
 {
-    struct text real = with_data(COUNTED("2", "1", "1.00000E-03"), "  1.00000E-01 -0.00000E+00\n");
-    struct text pair = with_data(COUNTED("5", "1", "1.00000E-03"), "  1.00000E+00 -2.50000E+00  3.00000E+00  4.00000E+00\n");
-    struct text uneven = with_data(COUNTED("2", "0", "0.00000E+00"), "  1.00000E-01  2.00000E+00  2.00000E-01  5.00000E+00\n");
-    struct text all = with_data(COUNTED("6", "0", "0.00000E+00"), "  5.00000E-01  1.500000000000E+00 -2.500000000000E+00\n"
-                                                                  "  7.50000E-01  3.000000000000E+00  4.000000000000E+00\n");
-    struct text far = with_data(COUNTED("2", "1", "1.00000E-03"), "  1.00000E+27  1.00000E+28\n");
+    struct text real = with_data(EVEN("2", "2"), "  1.00000E-01 -0.00000E+00\n");
+    struct text pair = with_data(EVEN("5", "2"), "  1.00000E+00 -2.50000E+00  3.00000E+00  4.00000E+00\n");
+    struct text uneven = with_data(UNEVEN("2", "2"), "  1.00000E-01  2.00000E+00  2.00000E-01  5.00000E+00\n");
+    struct text all = with_data(UNEVEN("6", "2"), "  5.00000E-01  1.500000000000E+00 -2.500000000000E+00\n"
+                                                  "  7.50000E-01  3.000000000000E+00  4.000000000000E+00\n");
+    struct text far = with_data(EVEN("2", "2"), "  1.00000E+27  1.00000E+28\n");
     const double tenth[] = {0.1}, minus_zero[] = {-0.0}, first_pair[] = {1, -2.5}, second_pair[] = {3, 4};
     const double at[] = {0.2, 5}, three[] = {0.5, 1.5, -2.5}, edge[] = {1e27};
     ask_value("a real", real, 0, 8, 0, 1, tenth, 1);
@@ -430,6 +466,210 @@ static void values(void)
     ask_value("scale 22", far, 0, 8, 0, 1, edge, 1);
     ask_value("scale 23", far, 1, 8, 21, 0, NULL, 0);
     ask_value("scale 23 and no room", far, 1, 0, 21, 0, NULL, 0);
+}
+
+/* A question for all values of a set; their doubles, or a refusal and none. */
+static void ask_values(const char *what, struct text t, uint32_t set, size_t places, uint64_t refusal, const double *due,
+                       size_t count)
+{
+    struct lent file = lend(t.bytes, t.count), out = lend(NULL, places * 8);
+    name = what;
+    check_reply(uff_values(file.at, t.count, set, (double *)(void *)out.at, places), refusal, count);
+    take_back(&file, NULL, 0);
+    take_back(&out, due, count * 8);
+}
+
+/* The reader of values gives the same doubles index by index, and 18 past the last. */
+static void ask_each(struct text t, uint32_t set, uint64_t kind, const double *due, size_t count)
+{
+    static const size_t widths[] = {0, 1, 2, 2, 3};
+    size_t width = widths[kind], past = count / width;
+    struct lent file = lend(t.bytes, t.count);
+    for (size_t i = 0; i <= past; i++) {
+        struct lent out = lend(NULL, 24);
+        uint8_t bytes[24];
+        size_t n = i < past ? width : 0;
+        spell(bytes, due + i * width, n);
+        check_reply(uff_value(file.at, t.count, set, (uint32_t)i, out.at, 24), n > 0 ? 0 : 18, n > 0 ? kind : 0);
+        take_back(&out, bytes, 8 * n);
+    }
+    take_back(&file, NULL, 0);
+}
+
+/* A set whose values these are: room that is just enough, more, one place short and none; and the same one by one. */
+static void give_values(const char *what, struct text t, uint32_t set, uint64_t kind, const double *due, size_t count)
+{
+    ask_values(what, t, set, count, 0, due, count);
+    ask_values(what, t, set, count + 1, 0, due, count);
+    ask_values(what, t, set, count + 50, 0, due, count);
+    ask_values(what, t, set, count - 1, 20, NULL, 0);
+    ask_values(what, t, set, 0, 20, NULL, 0);
+    check_reply(uff_values((const uint8_t *)t.bytes, t.count, set, NULL, 0), 20, 0);
+    ask_each(t, set, kind, due, count);
+}
+
+/* Set 1 has numbers outside the range: 21 for all its values at once, whatever the room. `far` marks those values with x. */
+static void far_values(const char *what, struct text t, size_t count, const char *far)
+{
+    ask_values(what, t, 1, 50, 21, NULL, 0);
+    ask_values(what, t, 1, count, 21, NULL, 0);
+    ask_values(what, t, 1, 0, 21, NULL, 0);
+    check_reply(uff_values((const uint8_t *)t.bytes, t.count, 1, NULL, 0), 21, 0);
+    ask_values(what, t, 0, 50, 18, NULL, 0);
+    ask_values(what, t, 2, 50, 18, NULL, 0);
+    for (uint32_t i = 0; far[i] != '\0'; i++) {
+        uint8_t out[24];
+        uint64_t reply = uff_value((const uint8_t *)t.bytes, t.count, 1, i, out, sizeof out);
+        if (UFF_NUMBER(reply) != (far[i] == 'x' ? 21 : 0))
+            differs("a single value is 21 where it should not be, or the other way round");
+        cases++;
+    }
+}
+
+/* Cases 1 to 4 of document 01's table, each with a last line that is not full. */
+static void single_values(void)
+{
+    const double case_1[] = {0.1, -0.0, 3, -0.025, 1.234567e22, -1.234567e-9, 1.23456e10};
+    const double case_2[] = {0, 1, 0.1, -2, 0.2, 3, 0.4, -0.0};
+    const double case_3[] = {1, -2.5, 3, 4, -0.5, 0.6, -7, 8};
+    const double case_4[] = {0.001, 1, -2, 0.002, 3, -4, 0.005, -5, 6};
+    give_values("case 1",
+                with_data(EVEN("2", "7"),
+                          "  1.00000E-01 -0.00000E+00      +3.E+00     -.25D-01 1.234567e+22-1.234567E-09\n"
+                          " 1.23456E+010\n"),
+                1, 1, case_1, 7);
+    give_values("case 2",
+                with_data(UNEVEN("2", "4"),
+                          "  0.00000E+00  1.00000E+00  1.00000E-01 -2.00000E+00  2.00000E-01  3.00000E+00\n"
+                          "  4.00000E-01 -0.00000E+00\n"),
+                1, 3, case_2, 8);
+    give_values("case 3",
+                with_data(EVEN("5", "4"),
+                          "  1.00000E+00 -2.50000E+00  3.00000E+00  4.00000E+00 -5.00000E-01  6.00000E-01\n"
+                          " -7.00000E+00  8.00000E+00\n"),
+                1, 2, case_3, 8);
+    give_values("case 4",
+                with_data(UNEVEN("5", "3"),
+                          "  1.00000E-03  1.00000E+00 -2.00000E+00  2.00000E-03  3.00000E+00 -4.00000E+00\n"
+                          "  5.00000E-03 -5.00000E+00  6.00000E+00\n"),
+                1, 4, case_4, 9);
+}
+
+/* Cases 5 to 8, where fields touch too. */
+static void double_values(void)
+{
+    const double case_5[] = {0.1, -1.2345678901234, 123456789012345, -0.0, 0.5};
+    const double case_6[] = {0.1, 1, 0.2, -0.23456789012345, 0.3, 3};
+    const double case_7[] = {1, -2.5, 3, 0.4, -5, 0};
+    const double case_8[] = {0.5, 1.5, -2.5, 0.75, 3, 4};
+    give_values("case 5",
+                with_data(EVEN("4", "5"),
+                          "  1.000000000000E-01-1.2345678901234E+00123456789012345.E+00 -0.000000000000E+00\n"
+                          "  5.000000000000E-01\n"),
+                1, 1, case_5, 5);
+    give_values("case 6",
+                with_data(UNEVEN("4", "3"),
+                          "  1.00000E-01  1.000000000000E+00  2.00000E-01-2.3456789012345E-01\n"
+                          "  3.00000E-01  3.000000000000E+00\n"),
+                1, 3, case_6, 6);
+    give_values("case 7",
+                with_data(EVEN("6", "3"),
+                          "  1.000000000000E+00 -2.500000000000E+00  3.000000000000E+00  4.000000000000E-01\n"
+                          " -5.000000000000E+00  0.000000000000E+00\n"),
+                1, 2, case_7, 6);
+    give_values("case 8",
+                with_data(UNEVEN("6", "2"),
+                          "  5.00000E-01  1.500000000000E+00 -2.500000000000E+00\n"
+                          "  7.50000E-01  3.000000000000E+00  4.000000000000E+00\n"),
+                1, 4, case_8, 6);
+}
+
+/* Sets before and after the one asked for, line ends, one value, and sets that are not there. */
+static void sets_of_values(void)
+{
+    const double seven[] = {0.1, -0.2, 0.3, -0.4, 0.5, -0.6, 0.7}, one[] = {2.5}, two[] = {0.25, 1, 0.5, -1};
+    struct text example_text = whole();
+    struct text three = with_data(UNEVEN("2", "2"), "  2.50000E-01  1.00000E+00  5.00000E-01 -1.00000E+00  \r\n");
+    add(&three, " \n");
+    add_text(&three, example_text);
+    give_values("the example's values", example_text, 2, 1, seven, 7);
+    give_values("the first of three sets", three, 1, 3, two, 4);
+    give_values("the third of three sets", three, 3, 1, seven, 7);
+    give_values("one value", with_data(EVEN("2", "1"), "  2.50000E+00\n"), 1, 1, one, 1);
+    ask_values("all of set 0", example_text, 0, 7, 18, NULL, 0);
+    ask_values("all of a 164", example_text, 1, 7, 18, NULL, 0);
+    ask_values("all of set 3", example_text, 3, 7, 18, NULL, 0);
+    ask_values("all of set 4294967295", example_text, 4294967295u, 7, 18, NULL, 0);
+    ask_values("all of set 3 and no room", example_text, 3, 0, 18, NULL, 0);
+    name = "all of a 164 and a null pointer";
+    check_reply(uff_values((const uint8_t *)example_text.bytes, example_text.count, 1, NULL, 0), 18, 0);
+}
+
+/* Scales of -22 and 22, and of -23 and 23: 1.00000E+27 has the scale 22. */
+static void ranges_of_values(void)
+{
+    const double edge[] = {1e27, -1e-17, 0}, two[] = {1, 2};
+    struct text first = with_data(EVEN("2", "2"), "  1.00000E+28  1.00000E+00\n"), both = first;
+    add_text(&both, with_data(EVEN("2", "2"), "  1.00000E+00  2.00000E+00\n"));
+    give_values("scales of 22", with_data(EVEN("2", "3"), "  1.00000E+27 -1.00000E-17  0.00000E+27\n"), 1, 1, edge, 3);
+    far_values("the first is too far", first, 2, "x.");
+    far_values("the last is too far",
+               with_data(EVEN("2", "7"),
+                         "  1.00000E+00  1.00000E+00  1.00000E+00  1.00000E+00  1.00000E+00  1.00000E+00\n"
+                         "  1.00000E+28\n"),
+               7, "......x");
+    far_values("a scale of -23", with_data(EVEN("2", "3"), "  1.00000E+00 -1.00000E-18  1.00000E+00\n"), 3, ".x.");
+    far_values("zero with a scale of 23", with_data(EVEN("2", "2"), "  1.00000E+00  0.00000E+28\n"), 2, ".x");
+    far_values("an abscissa is too far",
+               with_data(UNEVEN("2", "2"), "  1.00000E+00  2.00000E+00  3.00000E+28  4.00000E+00\n"), 4, ".x");
+    far_values("an imaginary part is too far",
+               with_data(EVEN("5", "2"), "  1.00000E+00  2.00000E+28  3.00000E+00  4.00000E+00\n"), 4, "x.");
+    far_values("too far in double precision",
+               with_data(UNEVEN("6", "2"),
+                         "  5.00000E-01  1.500000000000E+00 -2.500000000000E-11\n"
+                         "  7.50000E-01  3.000000000000E+00  4.000000000000E+00\n"),
+               6, "x.");
+    give_values("too far in another set", both, 2, 1, two, 2);
+    ask_values("too far in the first set of two", both, 1, 2, 21, NULL, 0);
+}
+
+/* A 58 with the most values, of three numbers each: i, -(i + 0.5) and 2 i for value i. It has 3.5 MB, and is made once. */
+static struct {
+    uint8_t *bytes;
+    size_t count;
+    double due[UFF_DOUBLES];
+} most;
+
+static void make_most(void)
+{
+    struct text head = with(7, 19, 15, "         6     65536         0  0.00000E+00  0.00000E+00  0.00000E+00");
+    char *at = need(malloc(head.count + 65536 * 54 + 8));
+    most.bytes = (uint8_t *)at;
+    memcpy(at, head.bytes, head.count);
+    at += head.count;
+    for (int i = 0; i < 65536; i++) {
+        const double three[] = {i, -(i + 0.5), 2.0 * i};
+        at += sprintf(at, "%13.5E%20.12E%20.12E\n", three[0], three[1], three[2]);
+        memcpy(most.due + 3 * i, three, sizeof three);
+    }
+    at += sprintf(at, "    -1\n");
+    most.count = (size_t)((uint8_t *)at - most.bytes);
+}
+
+static void most_values(void)
+{
+    struct lent file = lend(most.bytes, most.count), out = lend(NULL, 24);
+    struct lent exact = lend(NULL, UFF_DOUBLES * 8), few = lend(NULL, UFF_DOUBLES * 8 - 8);
+    uint8_t last[24];
+    name = "65,536 values of three numbers";
+    check_reply(uff_values(file.at, most.count, 1, (double *)(void *)exact.at, UFF_DOUBLES), 0, UFF_DOUBLES);
+    check_reply(uff_values(file.at, most.count, 1, (double *)(void *)few.at, UFF_DOUBLES - 1), 20, 0);
+    check_reply(uff_value(file.at, most.count, 1, 65535, out.at, 24), 0, 4);
+    spell(last, most.due + UFF_DOUBLES - 3, 3);
+    take_back(&file, NULL, 0);
+    take_back(&exact, most.due, UFF_DOUBLES * 8);
+    take_back(&few, NULL, 0);
+    take_back(&out, last, 24);
 }
 
 static void rewrite(const char *what, struct text t, size_t room, uint64_t number)
@@ -535,10 +775,10 @@ static uint64_t end(struct record *r)
 /* Takes a record back that was written to: canaries, and the bytes past it. */
 static void take_back_record(struct record *r)
 {
-    uint8_t numbers[96], line[82];
-    memcpy(numbers, r->numbers.at, 96);
+    uint8_t places[96], line[82];
+    memcpy(places, r->numbers.at, 96);
     memcpy(line, r->line.at, 82);
-    take_back(&r->numbers, numbers, 96);
+    take_back(&r->numbers, places, 96);
     take_back(&r->line, line, 82);
 }
 
@@ -638,11 +878,12 @@ static void wild_records(void)
 {
     for (unsigned k = 0; k < 64; k++) {
         struct record r = lend_record(12, 82);
+        uint64_t *places = numbers_of(&r);
         struct text t = whole();
         name = "a record of any contents";
         for (int i = 0; i < 12; i++)
-            numbers_of(&r)[i] = k & 1 ? UINT64_MAX >> (k % 60) : (uint64_t)k * (uint64_t)i;
-        numbers_of(&r)[11] = 0;
+            places[i] = k & 1 ? UINT64_MAX >> (k % 60) : (uint64_t)k * (uint64_t)i;
+        places[11] = 0;
         burst(&r, (const uint8_t *)t.bytes, t.count);
         end(&r);
         take_back_record(&r);
@@ -666,6 +907,7 @@ int main(void)
     signal(SIGSEGV, on_fault);
     signal(SIGBUS, on_fault);
     texts();
+    make_most();
     for (way = 0; way < WAYS; way++) {
         judge_lines();
         judge_ends();
@@ -674,11 +916,17 @@ int main(void)
         lister();
         numbers();
         values();
+        single_values();
+        double_values();
+        sets_of_values();
+        ranges_of_values();
+        most_values();
         rewriter();
         writer();
         streams();
         wild_records();
     }
+    free(most.bytes);
     long_stream();
     printf("%u cases\n", cases);
     return 0;

@@ -1,8 +1,9 @@
 //! Holds the proved judge against the plain one, file by file.
 //!
-//! `compare` takes every edge file and a few hundred thousand generated files, asks both judges
-//! and stops at the first disagreement (exit 1). `compare --self` asks the plain judge alone and
-//! checks it against the replies typed by hand; built with `--cfg alone` it needs no library.
+//! `compare` takes every edge file, a few hundred thousand generated files and arbitrary strings of
+//! bytes, asks both judges and stops at the first disagreement (exit 1). `compare --self` asks the
+//! plain judge alone and checks it against the replies typed by hand; built with `--cfg alone` it needs
+//! no library.
 
 #[path = "edges.rs"]
 mod edges;
@@ -18,6 +19,9 @@ use judge::Reply;
 
 /// Generated files, half of them proper and half of them faulty or damaged.
 const FILES: usize = 240_000;
+
+/// Strings of bytes that are a file by chance only.
+const ARBITRARY: usize = 60_000;
 
 /// Files around the limit of 4,096 sets.
 const FILES_OF_MANY_SETS: usize = 48;
@@ -155,6 +159,9 @@ fn main() {
                 run.take("damaged file", &file, None);
             }
         }
+    }
+    for _ in 0..ARBITRARY {
+        run.take("arbitrary bytes", &generate::arbitrary(&mut random), None);
     }
     for n in 0..FILES_OF_MANY_SETS {
         let sets = 4_095 + n % 4;

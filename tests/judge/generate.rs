@@ -3,6 +3,7 @@
 //! `proper` writes a random list of sets in random spellings; both judges must accept the result.
 //! `faulty` does the same but now and then writes a wrong field, a wrong line or a wrong count.
 //! `damage` changes the bytes of a finished file: bytes, lines, line ends, columns, length.
+//! `arbitrary` gives strings of bytes that are a file by chance only.
 //! All choices come from one xorshift generator, so a seed always gives the same files.
 
 /// xorshift64 with a closing product.
@@ -803,6 +804,34 @@ impl<'a> Pen<'a> {
         self.end();
         for count in [orders, display] {
             self.reals(&[15; 5], count);
+        }
+    }
+}
+
+// Arbitrary bytes ------------------------------------------------------------------------------
+
+/// Lines and fields of files, and their parts.
+const PIECES: [&[u8]; 20] = [
+    b"    -1\n", b"    -1\n", b"    -1  \r\n", b"\n", b"\r\n", b"NONE\n", b"    58\n", b"    82\n",
+    b"   151\n", b"   164\n", b"  1815\n", b"     7\n", b"         1", b"         0",
+    b"  1.00000E+00", b"  1.000000000000E+00", b"    ", b"-1", b"x", b"\x7f",
+];
+
+/// Any bytes, bytes that files hold, pieces of files in any order, or any text as a plain set's lines.
+pub fn arbitrary(random: &mut Random) -> Vec<u8> {
+    let most = random.pick(&[4, 60, 600]);
+    let length = random.below(most);
+    match random.below(4) {
+        0 => (0..length).map(|_| random.below(256) as u8).collect(),
+        1 => (0..length).map(|_| random.pick(b"    0123456789+-.EeDd\r\n\n")).collect(),
+        2 => (0..length / 2).flat_map(|_| random.pick(&PIECES).to_vec()).collect(),
+        _ => {
+            let mut file = b"    -1\n     7\n".to_vec();
+            for _ in 0..length {
+                file.push(if random.one_in(20) { b'\n' } else { 32 + random.below(95) as u8 });
+            }
+            file.extend_from_slice(b"\n    -1\n");
+            file
         }
     }
 }

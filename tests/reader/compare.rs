@@ -1,10 +1,12 @@
 //! Holds the proved lister, reader and rewriter against the plain ones, file by file.
 //!
-//! `compare` takes the fixed files, every edge file of the judge and some tens of thousands of
-//! generated files, asks both sides the same questions and stops at the first difference (exit 1).
-//! `compare --self` asks the plain side alone: against the answers typed by hand, and against what
-//! must hold of its answers whatever the file is. Each export has a cfg of its own (list, number,
-//! value, rewrite); one that is not built in is not asked.
+//! `compare` takes the fixed files, every edge file of the judge, some tens of thousands of generated
+//! files and arbitrary strings of bytes, asks both sides the same questions and stops at the first
+//! difference (exit 1). All values of a set are also held against its values one by one, both of the
+//! proved side, in the fixed files and where they are few. `compare --self` asks the plain side alone:
+//! against the answers typed by hand, and against what must hold of its answers whatever the file is.
+//! Each export has a cfg of its own (list, number, value, values, rewrite); one that is not built in is
+//! not asked.
 
 #[path = "../judge/edges.rs"]
 mod edges;
@@ -25,11 +27,17 @@ use std::fmt::Debug;
 /// Generated files, half of them proper and half of them faulty or damaged.
 const FILES: usize = 24_000;
 
+/// Strings of bytes that are no file's, or by chance.
+const ARBITRARY: usize = 12_000;
+
 /// Files around the limit of 4,096 sets.
 const FILES_OF_MANY_SETS: usize = 12;
 
 /// Longer files are asked a few questions only.
 const LONG: usize = 60_000;
+
+/// Sets of more numbers are not asked value by value, but those of the fixed files.
+const FEW: usize = 12;
 
 /// Places before and after the lent ones, which no call may touch.
 const MARGIN: usize = 24;
@@ -59,6 +67,9 @@ const LEAST: [(usize, u32); 20] = [
 ];
 const LEAST_OF_17: u32 = 10_000;
 const LEAST_OF_A_KIND: u32 = 1_000;
+/// All values of a set are there only where every number is in the exact path.
+const LEAST_OF_ALL_VALUES: u32 = 5_000;
+const LEAST_AT_ONCE: u32 = 1_000;
 
 /// The proved side. A call that is not built in answers none.
 mod proved {
@@ -88,16 +99,31 @@ mod proved {
             out_len: usize,
         ) -> u64;
     }
+    #[cfg(values)]
+    extern "C" {
+        fn uff_values(
+            file: *const u8,
+            file_len: usize,
+            set: u32,
+            out: *mut f64,
+            places: usize,
+        ) -> u64;
+    }
     #[cfg(rewrite)]
     extern "C" {
         fn uff_rewrite(file: *const u8, file_len: usize, out: *mut u8, out_len: usize) -> u64;
     }
 
-    pub const BUILT_IN: [bool; 4] =
-        [cfg!(list), cfg!(number), cfg!(value), cfg!(rewrite)];
+    pub const BUILT_IN: [(&str, bool); 5] = [
+        ("uff_list", cfg!(list)),
+        ("uff_number", cfg!(number)),
+        ("uff_value", cfg!(value)),
+        ("uff_values", cfg!(values)),
+        ("uff_rewrite", cfg!(rewrite)),
+    ];
 
     /// A slice lent to C. An empty one goes as a null pointer every second time.
-    #[cfg(any(list, number, value, rewrite))]
+    #[cfg(any(list, number, value, values, rewrite))]
     mod lend {
         use std::sync::atomic::{AtomicBool, Ordering};
 
@@ -148,6 +174,18 @@ mod proved {
         None
     }
 
+    /// The places hold f64, seen here as their bits.
+    #[cfg(values)]
+    pub fn values(file: &[u8], set: u32, out: &mut [u64]) -> Option<u64> {
+        let places = out.len();
+        let (file, file_len) = (lend::bytes(file), file.len());
+        Some(unsafe { uff_values(file, file_len, set, lend::places(out).cast(), places) })
+    }
+    #[cfg(not(values))]
+    pub fn values(_: &[u8], _: u32, _: &mut [u64]) -> Option<u64> {
+        None
+    }
+
     #[cfg(rewrite)]
     pub fn rewrite(file: &[u8], out: &mut [u8]) -> Option<u64> {
         let length = out.len();
@@ -181,6 +219,9 @@ struct Run {
     numbers: Tally,
     values: Tally,
     kinds: [u32; 5],
+    all_values: Tally,
+    /// Sets whose values at once and one by one were held against each other: accepted, 21.
+    at_once: [u32; 2],
     rewritten: Tally,
 }
 
@@ -281,6 +322,23 @@ fn row_pattern(n: usize) -> u32 {
     (n as u32).wrapping_mul(2_654_435_761) ^ 0xA5A5_5A5A
 }
 
+/// Bits of f64: quiet NaNs of both signs, signalling ones, all with payloads, and any other bits.
+fn bits_pattern(n: usize) -> u64 {
+    let mixed = (n as u64).wrapping_mul(0x9E37_79B9_7F4A_7C15) ^ 0xA5A5_5A5A_A5A5_5A5A;
+    let payload = mixed >> 13 | 1;
+    match n % 5 {
+        0 => 0x7FF8 << 48 | payload,
+        1 => 0xFFF8 << 48 | payload,
+        2 => 0x7FF0 << 48 | payload,
+        3 => 0xFFF0 << 48 | payload,
+        _ => mixed,
+    }
+}
+
+fn bits(values: &[f64]) -> Vec<u64> {
+    values.iter().map(|y| y.to_bits()).collect()
+}
+
 /// The twenty bytes of a stored number.
 fn number_bytes(number: &Number) -> Vec<u8> {
     let mut bytes = Vec::with_capacity(20);
@@ -347,6 +405,22 @@ impl Run {
         });
     }
 
+    fn ask_values(&mut self, subject: &Subject, set: u32, places: usize) {
+        let answer = |accepted: &Accepted| {
+            let values = accepted.values(set)?;
+            Ok((values.len() as u32, bits(&values)))
+        };
+        let due = subject.due(answer, places, 20);
+        self.all_values.came[number_of(&due)] += 1;
+        if self.alone {
+            return;
+        }
+        let name = format!("uff_values, set {set}, {places} places");
+        subject.hold(&mut self.all_values, &name, (places, &due), bits_pattern, |out| {
+            proved::values(subject.file, set, out)
+        });
+    }
+
     fn ask_rewrite(&mut self, subject: &Subject, lent: usize) {
         let answer = |accepted: &Accepted| {
             let text = accepted.rewrite();
@@ -400,6 +474,9 @@ impl Run {
         for (set, index, _) in &fixed.values {
             self.ask_value(&subject, *set, *index, 24);
         }
+        for (set, _) in &fixed.all_values {
+            self.ask_values(&subject, *set, 60);
+        }
     }
 
     /// Every call gives the judge's refusal, whatever is asked and lent.
@@ -410,6 +487,8 @@ impl Run {
         self.ask_list(subject, lent);
         self.ask_number(subject, set, index, lent);
         self.ask_value(subject, set, index, lent);
+        let places = self.random.below(3) * lent;
+        self.ask_values(subject, set, places);
         let lent = self.random.below(2) * subject.file.len().min(LONG);
         self.ask_rewrite(subject, lent);
     }
@@ -423,6 +502,10 @@ impl Run {
         let last = rows.len() as u32;
         self.no_such(subject, 0, 0);
         self.no_such(subject, last + 1, 0);
+        for set in [0, last + 1, u32::MAX] {
+            let places = self.random.below(2) * self.random.below(40);
+            self.ask_values(subject, set, places);
+        }
         if long {
             self.long_function(subject, &rows);
             return;
@@ -435,10 +518,16 @@ impl Run {
         if let Some(set) = (1..=last).find(other) {
             self.no_such(subject, set, 0);
         }
-        let functions: Vec<u32> = (1..=last).filter(|set| !other(set)).collect();
-        for set in functions {
+        for set in 1..=last {
+            if other(&set) {
+                let places = self.random.below(40);
+                self.ask_values(subject, set, places);
+                continue;
+            }
             let numbers = numbers_of(accepted, set).len() as u32;
-            self.function(subject, (set, rows[set as usize - 1][2], numbers), every);
+            let function = (set, rows[set as usize - 1][2], numbers);
+            self.function(subject, function, every);
+            self.function_at_once(subject, function, every);
         }
     }
 
@@ -509,6 +598,55 @@ impl Run {
         }
     }
 
+    /// All values of a 58 in exact room, more, one place too few and none; value by value too where
+    /// they are few.
+    fn function_at_once(
+        &mut self,
+        subject: &Subject,
+        (set, count, numbers): (u32, u32, u32),
+        every: bool,
+    ) {
+        let enough = numbers as usize;
+        let more = enough + 1 + self.random.below(30);
+        for places in [enough, more, enough - 1, 0] {
+            self.ask_values(subject, set, places);
+        }
+        if !self.alone && (every || enough <= FEW) {
+            self.one_by_one(subject, (set, count, numbers));
+        }
+    }
+
+    /// Holds all values of a 58 against its values one by one, both of the proved side: the same bits,
+    /// or 21 where one of them is 21.
+    fn one_by_one(&mut self, subject: &Subject, (set, count, numbers): (u32, u32, u32)) {
+        let mut at_once: Vec<u64> = (0..numbers as usize).map(bits_pattern).collect();
+        let Some(word) = proved::values(subject.file, set, &mut at_once) else {
+            return;
+        };
+        let k = (numbers / count) as usize;
+        let mut expected = Vec::new();
+        let mut refused = false;
+        for index in 0..count {
+            let mut out = vec![0; 8 * k];
+            let Some(word) = proved::value(subject.file, set, index, &mut out) else {
+                return;
+            };
+            refused |= word >> 57 == 21;
+            let parts = out.chunks_exact(8).map(|part| part.try_into().expect("eight bytes"));
+            expected.extend(parts.map(u64::from_le_bytes));
+        }
+        self.at_once[usize::from(refused)] += 1;
+        let good = if refused {
+            word == 21 << 57 && at_once.iter().enumerate().all(|(n, &y)| y == bits_pattern(n))
+        } else {
+            word == u64::from(numbers) && at_once == expected
+        };
+        if !good {
+            let what = format!("{}\nat once:    {at_once:x?}\none by one: {expected:x?}", shown(word));
+            subject.fail(&format!("uff_values and uff_value, set {set}"), &what);
+        }
+    }
+
     /// A few questions about the last set of a long file.
     fn long_function(&mut self, subject: &Subject, rows: &[[u32; 6]]) {
         let set = rows.len() as u32;
@@ -520,6 +658,8 @@ impl Run {
             self.ask_value(subject, set, count - 1, 8 * k);
             self.ask_number(subject, set, numbers, 20);
             self.ask_value(subject, set, *count, 8 * k);
+            self.ask_values(subject, set, numbers as usize);
+            self.ask_values(subject, set, numbers as usize - 1);
         }
     }
 }
@@ -556,8 +696,8 @@ fn sound(subject: &Subject, accepted: &Accepted) {
     sound_text(subject, accepted, &rows);
 }
 
-/// Every non-blank byte of the data lines is in just one field, and each field in std's reading is
-/// the f64 of the exact path.
+/// Every non-blank byte of the data lines is in just one field, each field in std's reading is the f64
+/// of the exact path, and all values at once are those of the fields.
 fn sound_numbers(subject: &Subject, accepted: &Accepted, set: u32, row: [u32; 6]) {
     let file = subject.file;
     let numbers = numbers_of(accepted, set);
@@ -579,6 +719,12 @@ fn sound_numbers(subject: &Subject, accepted: &Accepted, set: u32, row: [u32; 6]
     }
     if !is_blank(&file[at..closing]) || numbers.len() % count as usize != 0 {
         subject.fail("plain number", &format!("{} numbers in set {set}", numbers.len()));
+    }
+    let real = |n: &Number| reader::real(n.negative, n.coefficient, n.scale);
+    let due = numbers.iter().map(real).collect::<Option<Vec<_>>>().ok_or(no_place(21));
+    let got = accepted.values(set);
+    if got.as_deref().map(bits) != due.as_deref().map(bits) {
+        subject.fail("plain values", &format!("set {set}: {got:?}, of its fields {due:?}"));
     }
 }
 
@@ -643,21 +789,26 @@ fn check_fixed() -> usize {
                 wrong(format!("number, set {set}, index {index}"), right, &got);
             }
         }
-        let bits = |(kind, shown): &(u32, Vec<f64>)| {
-            (*kind, shown.iter().map(|y| y.to_bits()).collect::<Vec<_>>())
-        };
+        let kind_and_bits = |(kind, shown): &(u32, Vec<f64>)| (*kind, bits(shown));
         for (set, index, right) in &fixed.values {
             let got = reader::value(file, *set, *index);
-            let right_bits = right.as_ref().map(bits).map_err(|&number| no_place(number));
-            if got.as_ref().map(bits).map_err(|&reply| reply) != right_bits {
+            let right_bits = right.as_ref().map(kind_and_bits).map_err(|&number| no_place(number));
+            if got.as_ref().map(kind_and_bits).map_err(|&reply| reply) != right_bits {
                 wrong(format!("value, set {set}, index {index}"), right, &got);
+            }
+        }
+        for (set, right) in &fixed.all_values {
+            let got = reader::values(file, *set);
+            let right_bits = right.as_deref().map(bits).map_err(|&number| no_place(number));
+            if got.as_deref().map(bits).map_err(|&reply| reply) != right_bits {
+                wrong(format!("all values, set {set}"), right, &got);
             }
         }
         let text = reader::rewrite(file).map(|text| String::from_utf8_lossy(&text).into_owned());
         if text.as_ref() != Ok(&fixed.rewritten) {
             wrong("rewrite".to_string(), &fixed.rewritten, &text);
         }
-        answers += 2 + fixed.numbers.len() + fixed.values.len();
+        answers += 2 + fixed.numbers.len() + fixed.values.len() + fixed.all_values.len();
     }
     answers
 }
@@ -666,8 +817,8 @@ fn no_place(number: u32) -> Reply {
     Reply { number, place: 0 }
 }
 
-/// Gives most numbers of a proper file's 58s other exponents, so that their scales are in the
-/// exact path, at its ends or just past them. The spelling is kept otherwise.
+/// Gives the numbers of a proper file's 58s other exponents, so that their scales are in the exact
+/// path or at its ends, in half of the files also just past them. The spelling is kept otherwise.
 fn near_exact_path(random: &mut Random, file: &mut [u8]) {
     let numbers: Vec<Number> = match reader::accept(file) {
         Ok(accepted) => {
@@ -676,13 +827,14 @@ fn near_exact_path(random: &mut Random, file: &mut [u8]) {
         }
         Err(_) => return,
     };
+    let past = random.one_in(2);
     for number in numbers {
         let scale = match random.below(60) {
-            0 => -23,
-            1 => 23,
-            2 => -22,
-            3 => 22,
-            4 => continue,
+            0 if past => -23,
+            1 if past => 23,
+            2 if past => continue,
+            3 => -22,
+            4 => 22,
             _ => random.below(45) as i32 - 22,
         };
         let field = &mut file[number.first as usize..number.past as usize];
@@ -726,6 +878,10 @@ fn take_generated(run: &mut Run) {
             }
         }
     }
+    for _ in 0..ARBITRARY {
+        let bytes = generate::arbitrary(&mut random);
+        run.take("arbitrary bytes", &bytes, None, false);
+    }
     for n in 0..FILES_OF_MANY_SETS {
         let sets = 4_095 + n % 4;
         let made = generate::many_sets(&mut random, sets);
@@ -736,12 +892,12 @@ fn take_generated(run: &mut Run) {
 
 /// Prints how often each outcome came and ends the program if one came too seldom.
 fn check_outcomes(run: &Run) {
-    println!("refusal    lists  numbers   values  rewritten");
-    let calls = [&run.lists, &run.numbers, &run.values, &run.rewritten];
+    println!("refusal    lists  numbers   values  all values  rewritten");
+    let calls = [&run.lists, &run.numbers, &run.values, &run.all_values, &run.rewritten];
     for number in 0..23 {
-        let [a, b, c, d] = calls.map(|tally| tally.came[number]);
-        if a + b + c + d > 0 {
-            println!("{number:7} {a:8} {b:8} {c:8} {d:10}");
+        let [a, b, c, d, e] = calls.map(|tally| tally.came[number]);
+        if a + b + c + d + e > 0 {
+            println!("{number:7} {a:8} {b:8} {c:8} {d:11} {e:10}");
         }
     }
     println!("values of the four kinds: {:?}", &run.kinds[1..]);
@@ -750,12 +906,19 @@ fn check_outcomes(run: &Run) {
     for (number, least) in LEAST {
         // 18 and 21 are the reader's, 20 is not the lister's, all others every call's.
         let asked = match number {
-            18 => &calls[1..3],
-            20 => &calls[1..4],
-            21 => &calls[2..3],
+            18 => &calls[1..4],
+            20 => &calls[1..5],
+            21 => &calls[2..4],
+            0 => &[&run.lists, &run.numbers, &run.values, &run.rewritten],
             _ => &calls[..],
         };
         seldom |= asked.iter().any(|tally| tally.came[number] < least);
+    }
+    seldom |= run.all_values.came[0] < LEAST_OF_ALL_VALUES;
+    if !run.alone && cfg!(value) && cfg!(values) {
+        let [same, refused] = run.at_once;
+        println!("all values as one by one: {same} sets; 21 as one of them: {refused} sets");
+        seldom |= same.min(refused) < LEAST_AT_ONCE;
     }
     if seldom {
         println!("some outcome came too seldom");
@@ -765,7 +928,7 @@ fn check_outcomes(run: &Run) {
 
 fn main() {
     let alone = std::env::args().any(|argument| argument == "--self");
-    if !alone && !proved::BUILT_IN.contains(&true) {
+    if !alone && !proved::BUILT_IN.iter().any(|(_, built_in)| *built_in) {
         eprintln!("built without any export: only `compare --self` can run");
         std::process::exit(2);
     }
@@ -780,6 +943,8 @@ fn main() {
         numbers: Tally::default(),
         values: Tally::default(),
         kinds: [0; 5],
+        all_values: Tally::default(),
+        at_once: [0; 2],
         rewritten: Tally::default(),
     };
     for fixed in fixed::fixed() {
@@ -795,17 +960,16 @@ fn main() {
         println!("the plain side alone, {} files", run.files);
         return;
     }
-    for (name, built_in) in ["list", "number", "value", "rewrite"].iter().zip(proved::BUILT_IN) {
-        if !built_in {
-            println!("uff_{name} was not built in");
-        }
+    for (name, _) in proved::BUILT_IN.iter().filter(|(_, built_in)| !built_in) {
+        println!("{name} was not built in");
     }
     println!(
-        "compared {} files, {} lists, {} numbers, {} values, {} rewritten",
+        "compared {} files, {} lists, {} numbers, {} values, {} rewritten, {} all values",
         run.files,
         run.lists.compared,
         run.numbers.compared,
         run.values.compared,
-        run.rewritten.compared
+        run.rewritten.compared,
+        run.all_values.compared
     );
 }

@@ -6,6 +6,9 @@ use crate::reader::Number;
 /// What a question about a value is answered: kind and f64, or the refusal's number.
 type Value = Result<(u32, Vec<f64>), u32>;
 
+/// What a question about all values of a set is answered.
+type AllValues = Result<Vec<f64>, u32>;
+
 pub struct Fixed {
     pub name: &'static str,
     pub file: String,
@@ -13,6 +16,8 @@ pub struct Fixed {
     /// Set, index and the stored number there, or the refusal's number.
     pub numbers: Vec<(u32, u32, Result<Number, u32>)>,
     pub values: Vec<(u32, u32, Value)>,
+    /// Set and all its values.
+    pub all_values: Vec<(u32, AllValues)>,
     pub rewritten: String,
 }
 
@@ -27,7 +32,9 @@ pub fn fixed() -> Vec<Fixed> {
         double_touching(),
         double_uneven(),
         double_complex_even(),
+        double_complex_even_exact(),
         double_complex_uneven(),
+        double_complex_uneven_exact(),
         exact_path(),
         plain_sets(),
         messy(),
@@ -155,6 +162,13 @@ fn example() -> Fixed {
             (3, 0, Err(18)),
             (u32::MAX, 0, Err(18)),
         ],
+        all_values: vec![
+            (2, Ok(vec![0.1, -0.2, 0.3, -0.4, 0.5, -0.6, 0.7])),
+            (1, Err(18)),
+            (0, Err(18)),
+            (3, Err(18)),
+            (u32::MAX, Err(18)),
+        ],
         rewritten: EXAMPLE.to_string(),
     }
 }
@@ -180,8 +194,9 @@ fn example_untidy() -> Fixed {
         (1, 0, Err(18)),
     ];
     let values = vec![(2, 0, real(0.1)), (2, 6, real(0.7)), (2, 7, Err(18)), (3, 0, Err(18))];
+    let all_values = vec![(2, Ok(vec![0.1, -0.2, 0.3, -0.4, 0.5, -0.6, 0.7])), (1, Err(18))];
     let rewritten = EXAMPLE.to_string();
-    Fixed { name: "example, untidy", file, rows, numbers, values, rewritten }
+    Fixed { name: "example, untidy", file, rows, numbers, values, all_values, rewritten }
 }
 
 /// A 58 of its own: its data begin at line 14.
@@ -214,12 +229,14 @@ fn alone(
     count: u32,
     numbers: Vec<(u32, Result<Number, u32>)>,
     values: Vec<(u32, Value)>,
+    all_values: AllValues,
 ) -> Fixed {
     Fixed {
         name,
         rows: vec![[1, 58, count, 0, file.len() as u32, begins(&file, 14)]],
         numbers: numbers.into_iter().map(|(index, number)| (1, index, number)).collect(),
         values: values.into_iter().map(|(index, value)| (1, index, value)).collect(),
+        all_values: vec![(1, all_values), (0, Err(18)), (2, Err(18))],
         rewritten: file.clone(),
         file,
     }
@@ -248,7 +265,8 @@ fn real_uneven() -> Fixed {
         // Twice this index wraps to 0 in 32 bits.
         (0x8000_0000, Err(18)),
     ];
-    alone("case 2", file, 4, numbers, values)
+    let all_values = vec![1.0, -0.25, 2.0, 0.5, 3.0, -0.0, 4.0, -0.5];
+    alone("case 2", file, 4, numbers, values, Ok(all_values))
 }
 
 /// Case 3: count 3 stores six numbers.
@@ -272,7 +290,8 @@ fn complex_even() -> Fixed {
         (5, Err(18)),
         (0x8000_0001, Err(18)),
     ];
-    alone("case 3", file, 3, numbers, values)
+    let all_values = vec![3.0, 4.0, -150.0, 0.002, 0.0, 1.0];
+    alone("case 3", file, 3, numbers, values, Ok(all_values))
 }
 
 /// Case 4: two values a line, three values.
@@ -297,7 +316,8 @@ fn complex_uneven() -> Fixed {
         // Three times this index wraps to 2 in 32 bits.
         (0x5555_5556, Err(18)),
     ];
-    alone("case 4", file, 3, numbers, values)
+    let all_values = vec![0.001, 1.0, -1.0, 0.002, 2.0, -2.0, 0.003, 3.2, -3.0];
+    alone("case 4", file, 3, numbers, values, Ok(all_values))
 }
 
 /// Case 5: fields that touch, 15 digits, a minus zero.
@@ -322,7 +342,9 @@ fn double_touching() -> Fixed {
         (4, real(-0.0)),
         (5, Err(18)),
     ];
-    alone("case 5", file, 5, numbers, values)
+    let all_values =
+        vec![-1.234_567_890_123_4, -0.987_654_321_098_76, 123_456_789_012_345.0, 1e-22, -0.0];
+    alone("case 5", file, 5, numbers, values, Ok(all_values))
 }
 
 /// Case 6: fields of 13 and 20 columns in turn, the second pair touching.
@@ -346,7 +368,8 @@ fn double_uneven() -> Fixed {
         (2, point(3.0, 0.0)),
         (3, Err(18)),
     ];
-    alone("case 6", file, 3, numbers, values)
+    let all_values = vec![1.0, 1.234_567_890_123, -1.0, -1.234_567_890_123_4e-5, 3.0, 0.0];
+    alone("case 6", file, 3, numbers, values, Ok(all_values))
 }
 
 /// Case 7: an imaginary part outside the exact path takes its real part with it.
@@ -366,7 +389,23 @@ fn double_complex_even() -> Fixed {
     ];
     let values =
         vec![(0, pair(1.0, -2.0)), (1, pair(-33.0, 44.0)), (2, Err(21)), (3, Err(18))];
-    alone("case 7", file, 3, numbers, values)
+    alone("case 7", file, 3, numbers, values, Err(21))
+}
+
+/// Case 7 with every number in the exact path; the last line holds one value.
+fn double_complex_even_exact() -> Fixed {
+    let file = function(6, 3, 1, &[
+        "  1.000000000000E+00 -2.000000000000E+00-3.3000000000000E+01+4.4000000000000E+01",
+        " -0.000000000000E+00  6.000000000000E+34",
+    ]);
+    let numbers = vec![
+        (4, number(&file, (15, 1, 20), true, 0, -12)),
+        (5, number(&file, (15, 21, 40), false, 6_000_000_000_000, 22)),
+        (6, Err(18)),
+    ];
+    let values = vec![(0, pair(1.0, -2.0)), (1, pair(-33.0, 44.0)), (2, pair(-0.0, 6e34))];
+    let all_values = vec![1.0, -2.0, -33.0, 44.0, -0.0, 6e34];
+    alone("case 7, all exact", file, 3, numbers, values, Ok(all_values))
 }
 
 /// Case 8: one value a line; an abscissa outside the exact path takes its ordinate with it.
@@ -384,7 +423,28 @@ fn double_complex_uneven() -> Fixed {
         (6, Err(18)),
     ];
     let values = vec![(0, point_pair(0.5, 1.5, -2.5)), (1, Err(21)), (2, Err(18))];
-    alone("case 8", file, 2, numbers, values)
+    alone("case 8", file, 2, numbers, values, Err(21))
+}
+
+/// Case 8 with every number in the exact path.
+fn double_complex_uneven_exact() -> Fixed {
+    let file = function(6, 3, 0, &[
+        "  5.00000E-01  1.500000000000E+00 -2.500000000000E+00",
+        "-1.000000E-16-9.9999999999999E-09+0.000000000000d+000",
+        "       2.E+22            -.25E-20  1.000000000000E-10",
+    ]);
+    let numbers = vec![
+        (3, number(&file, (15, 1, 13), true, 1_000_000, -22)),
+        (4, number(&file, (15, 14, 33), true, 99_999_999_999_999, -22)),
+        (5, number(&file, (15, 34, 53), false, 0, -12)),
+        (7, number(&file, (16, 14, 33), true, 25, -22)),
+        (9, Err(18)),
+    ];
+    let values = vec![(0, point_pair(0.5, 1.5, -2.5)), (2, point_pair(2e22, -2.5e-21, 1e-10))];
+    let all_values = vec![
+        0.5, 1.5, -2.5, -1e-16, -9.999_999_999_999_9e-9, 0.0, 2e22, -2.5e-21, 1e-10,
+    ];
+    alone("case 8, all exact", file, 3, numbers, values, Ok(all_values))
 }
 
 /// The ends of the exact path, for zero too.
@@ -413,7 +473,7 @@ fn exact_path() -> Fixed {
         (7, real(123_456_789_012_300.0)),
         (8, Err(18)),
     ];
-    alone("exact path", file, 8, numbers, values)
+    alone("exact path", file, 8, numbers, values, Err(21))
 }
 
 /// Blank lines outside sets, an empty plain set, blank lines inside a plain one; places typed.
@@ -450,6 +510,7 @@ fn plain_sets() -> Fixed {
         rows: vec![[3, 1, 0, 6, 27, 0], [7, 15, 0, 28, 68, 0]],
         numbers: vec![(0, 0, Err(18)), (1, 0, Err(18)), (2, 0, Err(18)), (3, 0, Err(18))],
         values: vec![(0, 0, Err(18)), (1, 0, Err(18)), (2, 0, Err(18)), (3, 0, Err(18))],
+        all_values: vec![(0, Err(18)), (1, Err(18)), (2, Err(18)), (3, Err(18))],
         rewritten: rewritten.to_string(),
     }
 }
@@ -571,6 +632,7 @@ fn messy() -> Fixed {
             (3, 0, Err(18)),
             (5, 0, Err(18)),
         ],
+        all_values: vec![(1, Err(18)), (2, Err(21)), (3, Err(18)), (4, Err(18)), (5, Err(18))],
         rewritten: rewritten.to_string(),
     }
 }

@@ -36,6 +36,12 @@ pub fn value(file: &[u8], set: u32, index: u32) -> Result<(u32, Vec<f64>), Reply
     accept(file)?.value(set, index)
 }
 
+/// Every stored number of a set (from 1) as f64: abscissa where uneven, real part, imaginary part
+/// where complex, value after value.
+pub fn values(file: &[u8], set: u32) -> Result<Vec<f64>, Reply> {
+    accept(file)?.values(set)
+}
+
 /// Document 01's rewriter.
 pub fn rewrite(file: &[u8]) -> Result<Vec<u8>, Reply> {
     Ok(accept(file)?.rewrite())
@@ -155,14 +161,29 @@ impl Accepted<'_> {
         Ok((kind, shown))
     }
 
+    /// One pass over the data lines; the last one has only the fields that are left.
+    pub fn values(&self, set: u32) -> Result<Vec<f64>, Reply> {
+        let (set, form) = self.function(set)?;
+        let total = form.count as usize * form.numbers() as usize;
+        let mut values = Vec::with_capacity(total);
+        for line in &set.lines[HEADER_LINES..] {
+            let mut rest = line.text;
+            for &width in form.widths.iter().take(total - values.len()) {
+                let (field, after) = rest.split_at(width);
+                let (negative, coefficient, scale) = meaning(field);
+                values.push(real(negative, coefficient, scale).ok_or(NOT_EXACT)?);
+                rest = after;
+            }
+        }
+        Ok(values)
+    }
+
     pub fn rewrite(&self) -> Vec<u8> {
         let mut out = Vec::new();
         for set in &self.sets {
             let number = format!("{:6}", set.number);
-            let mut lines = vec![DELIMITER, number.as_bytes()];
-            lines.extend(set.lines.iter().map(|line| line.text));
-            lines.push(DELIMITER);
-            for line in lines {
+            let inside = set.lines.iter().map(|line| line.text);
+            for line in [DELIMITER, number.as_bytes()].into_iter().chain(inside).chain([DELIMITER]) {
                 out.extend_from_slice(line);
                 out.push(b'\n');
             }
@@ -235,16 +256,25 @@ fn integer(field: &[u8]) -> i64 {
 
 /// What an accepted real field means: is it negative, its coefficient and its scale.
 fn meaning(field: &[u8]) -> (bool, u64, i16) {
-    let text = text(field);
-    let negative = text.starts_with('-');
-    let (digits, exponent) = text.split_once(['E', 'e', 'D', 'd']).expect("an accepted real field");
-    let (whole, decimals) = digits.split_once('.').expect("an accepted real field");
-    let whole = whole.trim_start_matches(['+', '-']);
-    // 18 digits at most, so nothing overflows.
-    let digits = whole.bytes().chain(decimals.bytes());
-    let coefficient = digits.fold(0, |c, digit| 10 * c + u64::from(digit - b'0'));
-    let exponent: i16 = exponent.parse().expect("an accepted real field");
-    (negative, coefficient, exponent - decimals.len() as i16)
+    let mut rest = field.iter();
+    let (mut negative, mut coefficient, mut decimals, mut pointed) = (false, 0, 0, false);
+    for &byte in &mut rest {
+        match byte {
+            // 18 digits at most, so nothing overflows.
+            b'0'..=b'9' => {
+                coefficient = 10 * coefficient + u64::from(byte - b'0');
+                decimals += i16::from(pointed);
+            }
+            b'.' => pointed = true,
+            b'-' => negative = true,
+            b'+' | b' ' => {}
+            // The letter; a sign and the exponent's digits are left.
+            _ => break,
+        }
+    }
+    let below = rest.next() == Some(&b'-');
+    let exponent = rest.fold(0, |x, &digit| 10 * x + i16::from(digit - b'0'));
+    (negative, coefficient, if below { -exponent } else { exponent } - decimals)
 }
 
 /// The powers of ten that f64 has exactly.

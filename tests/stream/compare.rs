@@ -1,9 +1,9 @@
 //! Holds the proved judge of bursts against the plain judge, cut by cut.
 //!
-//! Each file, fixed, generated or damaged, comes in bursts of random lengths, some of none; after each
-//! burst the answer must be what the plain judge says of the lines whose LF has come, at the end what
-//! it says of the whole file, and again when asked again; a burst after that is 23. The program stops
-//! at the first difference (exit 1).
+//! Each file, fixed, generated, damaged or of arbitrary bytes, comes in bursts of random lengths, some
+//! of none; after each burst the answer must be what the plain judge says of the lines whose LF has
+//! come, at the end what it says of the whole file, and again when asked again; a burst after that is
+//! 23. The program stops at the first difference (exit 1).
 
 #[allow(dead_code)]
 #[path = "../judge/edges.rs"]
@@ -21,6 +21,9 @@ use judge::Reply;
 
 /// Generated files, half of them proper and half of them faulty or damaged.
 const FILES: usize = 12_000;
+
+/// Strings of bytes that are a file by chance only.
+const ARBITRARY: usize = 6_000;
 
 /// Cuts of each file.
 const CUTS: usize = 4;
@@ -250,6 +253,12 @@ fn main() {
         }
         for _ in 0..CUTS {
             run.take("generated file", &file);
+        }
+    }
+    for _ in 0..ARBITRARY {
+        let bytes = generate::arbitrary(&mut random);
+        for _ in 0..CUTS {
+            run.take("arbitrary bytes", &bytes);
         }
     }
     too_short();

@@ -1,8 +1,8 @@
 //! Holds the proved writer of dataset 58 against the plain one, header by header.
 //!
-//! `compare` takes the fixed headers, some tens of thousands of generated ones and the longest sets,
-//! lends both sides the same numbers and room, and stops at the first difference (exit 1). Every set
-//! that is written is judged, read back and rewritten by both sides. `compare --self` asks the plain
+//! `compare` takes the fixed headers, some tens of thousands of generated ones, arbitrary bytes and the
+//! longest sets, lends both sides the same numbers and room, and stops at the first difference (exit 1).
+//! Every set that is written is judged, read back and rewritten by both sides. `compare --self` asks the plain
 //! side alone: against what was typed by hand, and against what must hold of each set it writes.
 //! `compare --fortran DIR` takes the files that a Fortran program wrote. The proved calls are asked
 //! when built with `--cfg write`.
@@ -27,6 +27,9 @@ use std::path::Path;
 
 /// Generated headers, half of them proper and half of them faulty or damaged.
 const HEADERS: usize = 24_000;
+
+/// Headers and numbers that are nobody's.
+const ARBITRARY: usize = 12_000;
 
 /// Bytes before and after the lent ones, which no call may touch.
 const MARGIN: usize = 24;
@@ -519,6 +522,21 @@ fn take_generated(run: &mut Run) {
     }
 }
 
+/// Arbitrary bytes as headers, alone and in place of lines of a proper one, and arbitrary numbers.
+fn take_arbitrary(run: &mut Run) {
+    let mut random = Random::new(0x5EED_0A4B_0058_0007);
+    for n in 0..ARBITRARY {
+        let (name, header) = match n % 3 {
+            0 => ("proper header, arbitrary numbers", inputs::proper(&mut random)),
+            1 => ("header with arbitrary lines", inputs::arbitrary_lines(&mut random)),
+            _ => ("arbitrary bytes", generate::arbitrary(&mut random)),
+        };
+        let stored = writer::form(&header).map_or_else(|_| random.below(20), |form| form.stored);
+        let numbers = inputs::arbitrary(&mut random, stored);
+        run.take(name, &header, &numbers);
+    }
+}
+
 /// The largest count in each of the eight cases, and once more with the last number spoiled.
 fn take_longest(run: &mut Run) {
     let mut random = Random::new(0x5EED_0058_6553_6000);
@@ -681,6 +699,7 @@ fn main() {
     let mut run = Run::new(alone);
     take_fixed(&mut run);
     take_generated(&mut run);
+    take_arbitrary(&mut run);
     take_longest(&mut run);
     take_long_headers(&mut run);
     check_outcomes(&run);

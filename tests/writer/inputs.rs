@@ -46,6 +46,21 @@ pub fn damaged(random: &mut Random) -> Vec<u8> {
     header
 }
 
+/// Eleven lines, some of them good, the others of arbitrary bytes.
+pub fn arbitrary_lines(random: &mut Random) -> Vec<u8> {
+    let mut header = Vec::new();
+    for line in proper(random).split_inclusive(|&b| b == b'\n') {
+        if random.one_in(8) {
+            let bytes = generate::arbitrary(random);
+            header.extend(bytes.into_iter().filter(|&b| b != b'\n').take(80));
+            header.push(b'\n');
+        } else {
+            header.extend_from_slice(line);
+        }
+    }
+    header
+}
+
 /// Numbers lent together.
 pub struct Numbers {
     pub coefficients: Vec<i64>,
@@ -69,6 +84,13 @@ pub fn any(random: &mut Random, stored: usize) -> Numbers {
         }
     };
     let (coefficients, scales) = (0..stored).map(|_| number(random)).unzip();
+    Numbers { coefficients, scales }
+}
+
+/// So many numbers of any bits, large and small.
+pub fn arbitrary(random: &mut Random, stored: usize) -> Numbers {
+    let coefficients = (0..stored).map(|_| random.next() as i64 >> random.below(64)).collect();
+    let scales = (0..stored).map(|_| random.next() as i16 >> random.below(16)).collect();
     Numbers { coefficients, scales }
 }
 
