@@ -29,7 +29,7 @@ static const char usage[] =
     "       uff values FILE SET         show all values of a set 58, one a line (SET from 1)\n"
     "       uff rewrite IN OUT          write IN to OUT in plain form\n"
     "       uff watch FILE              judge FILE while it arrives\n"
-    "       uff help | --help           show this\n"
+    "       uff help | --help | -h      show this\n"
     "       uff --version               show the version\n"
     "With -H judge prints name and count for one file too, as it does for several.\n"
     "After -- no word is an option.\n"

@@ -98,7 +98,7 @@ uint64_t uff_list(const uint8_t *file, size_t file_len, uint32_t *rows, size_t r
 /*
  * The reader of stored numbers: number `index` of set `set`, a 58, in 20 bytes, each part with its
  * lowest byte first: first byte of its columns (4 bytes), byte past them (4), coefficient (8), scale
- * (2, two's complement), sign (1: 1 if negative), zero (1). It means coefficient * 10^scale. The answer
+ * (2, two's complement), sign (1: 1 if negative), zero (1). It means coefficient * 10^scale, with that sign. The answer
  * is 20. Refused as by the judge, then with 18, 20.
  */
 uint64_t uff_number(const uint8_t *file, size_t file_len, uint32_t set, uint32_t index, uint8_t *out, size_t out_len);

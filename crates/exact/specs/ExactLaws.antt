@@ -1,4 +1,4 @@
--- Coefficient and power of ten are exact, so that the one operation rounds the number itself, and once.
+-- Coefficient and power of ten are exact, so that the one operation rounds the number itself, and once. No answer is a NaN.
 use mathlib.Core.Path.{_≡_, refl, sym, _∙_}
 use mathlib.Core.Logic.{⊎-elim}
 use mathlib.Core.Bool.{Bool, true, false, cond}

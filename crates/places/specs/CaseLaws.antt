@@ -1,4 +1,5 @@
--- A 58 of a list has one of the eight cases: its line 7 holds an ordinate type and a spacing of those listed.
+-- A 58 of a list has one of the eight cases: its line 7 holds an ordinate type and a spacing of those listed, and it declares one to 65,536
+-- values.
 use mathlib.Core.Path.{_≡_, refl, sym, ap, subst, _∙_}
 use mathlib.Core.Logic.{_⊎_, inl, inr, ⊎-elim}
 use mathlib.Core.Bool.{Bool, true, false, _&&_, _||_}

@@ -96,7 +96,7 @@ values-none p e = go (isFunction p) (ltb (caseOf p) 8) refl refl e
     go true false f g h = rw g refl
     go false t f g h = rw f (pick-same (ltb (caseOf p) 8) 0)
 
--- the numbers of a value by two accounts that agree on them
+-- numbers by two accounts that agree on them
 pub reads-same : (g f : ℕ → Real) (i j k : ℕ) → ((r : ℕ) → r < k → g (i + r) ≡ f (j + r)) → reads g i k ≡ reads f j k
 unfolding reads
 reads-same g f i j zero h = refl

@@ -1,4 +1,4 @@
-// The records of 58, 82, 151, 164 and 1815 as one table.
+// The records of 58, 82, 151, 164 and 1815, one constant each.
 ghost use Rattle.rows.specs.Tabled.{Tabled};
 use codes::ACQUISITION_MONITOR;
 use codes::ACQUISITION_RESULTS;

@@ -6,13 +6,13 @@ use stream::Answer;
 use stream::Stream;
 
 // A record, and what a burst answered.
-pub struct Answered {
+pub struct AfterBurst {
     pub stream: Stream,
     pub answer: Answer,
 }
 
 // A record, and what the end answered.
-pub struct Closed {
+pub struct AfterEnd {
     pub stream: Stream,
     pub reply: Reply,
 }
@@ -36,21 +36,21 @@ pub fn end(c: &mut Stream) -> Reply
 }
 
 // A record with an answer.
-fn with_answer(stream: Stream, answer: Answer) -> Answered
+fn with_answer(stream: Stream, answer: Answer) -> AfterBurst
     ensures { λ r. ⌜ (r .stream ≡ stream) × (r .answer ≡ answer) ⌝ }
 {
-    Answered { stream, answer }
+    AfterBurst { stream, answer }
 }
 
 // A record with a reply.
-fn with_reply(stream: Stream, reply: Reply) -> Closed
+fn with_reply(stream: Stream, reply: Reply) -> AfterEnd
     ensures { λ r. ⌜ (r .stream ≡ stream) × (r .reply ≡ reply) ⌝ }
 {
-    Closed { stream, reply }
+    AfterEnd { stream, reply }
 }
 
 // A burst, with the record by value.
-pub fn after_burst(c: Stream, bytes: &[u8]) -> Answered
+pub fn after_burst(c: Stream, bytes: &[u8]) -> AfterBurst
     ensures { λ r. ⌜ Stepped c (now (bytes .entry)) (r .stream) × (r .answer ≡ answerOf (r .stream .ended) (seen (r .stream))) ⌝ }
 {
     let mut x = c;
@@ -59,7 +59,7 @@ pub fn after_burst(c: Stream, bytes: &[u8]) -> Answered
 }
 
 // The end, with the record by value.
-pub fn after_end(c: Stream) -> Closed
+pub fn after_end(c: Stream) -> AfterEnd
     ensures { λ r. ⌜ (r .stream ≡ closed c) × (r .reply ≡ endReply (seen c)) ⌝ }
 {
     let mut x = c;

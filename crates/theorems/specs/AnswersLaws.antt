@@ -35,7 +35,7 @@ use Rattle.places.specs.CaseLaws.{case-eight, declared-some}
 use Rattle.places.specs.FieldLaws.{Spelled}
 use Rattle.places.specs.ShownLaws.{stored-held, stored-shown}
 use Rattle.places.specs.OrderLaws.{columns-inside}
-use Rattle.values.specs.Values.{allFrom, allValues, allReply, allPlaces}
+use Rattle.values.specs.Values.{allFrom, allValues}
 use Rattle.values.specs.EachLaws.{Each, all-each, all-refused}
 use Rattle.theorems.specs.Answers.{realOfItem, valueSaid, allSaid, ownBytes}
 
@@ -85,9 +85,9 @@ module _ {s : Set} {p : Parts.Part} (bytes : List ℕ) (ps : List Parts.Part) (w
   value-past i l = let m : valuesIn p ≤ i = rw values-held l in rw (le-ltb i (valuesIn p) m) refl
 
   -- all of them at once
-  pub all-answered : allFrom bytes (p ∷ ps) ≡ allSaid s
+  pub all-by-list : allFrom bytes (p ∷ ps) ≡ allSaid s
   unfolding allSaid
-  all-answered =
+  all-by-list =
       let m : 0 < valuesIn p = rw values-held (declared-some (h .lines) e) in
       rw (lt-ltb 0 (valuesIn p) m, stored-held h e)
       (ap (whole (storedCount s) []) (reads-same (realIn bytes p) (λ (j : ℕ). realOfItem (storedItem s j)) 0 0 (storedCount s) (λ r q. realIn-held (0 + r) (omega arith))))

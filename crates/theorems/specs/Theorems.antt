@@ -53,7 +53,7 @@ use Rattle.theorems.specs.ReaderComplete.{reader-complete}
 use Rattle.theorems.specs.ReaderSound.{reader-sound}
 use Rattle.theorems.specs.Answers as Answers
 use Rattle.theorems.specs.Answers.{realOfItem, valueSaid, allSaid, ownBytes}
-use Rattle.theorems.specs.AnswersLaws.{value-own, valueWith-same, number-answered, number-past, number-other, number-asked, value-answered, value-past, value-other, value-asked, all-answered, all-asked, all-other, said-each, said-refused, item-own, real-same}
+use Rattle.theorems.specs.AnswersLaws.{value-own, valueWith-same, number-answered, number-past, number-other, number-asked, value-answered, value-past, value-other, value-asked, all-by-list, all-asked, all-other, said-each, said-refused, item-own, real-same}
 use Rattle.theorems.specs.Columns.{Within, Columns, OfValue}
 use Rattle.theorems.specs.ColumnsLaws.{owned-within, data-start, inside-data, within-once, of-value}
 use Rattle.theorems.specs.LaidOut.{LaidOut, ReadAs}
@@ -233,7 +233,7 @@ pub all-of-list : {sets : List Set} {bytes : List ℕ} → Proper sets bytes →
 unfolding setsFrom
 all-of-list {sets} {bytes} p k s rest d e =
     let f = set-found p k s rest d in
-    all-asked bytes (suc k) (accepted-zero p) ∙ rw (f .sets) (all-answered bytes (f .others) (set-somewhere bytes k s f) (f .holds) e)
+    all-asked bytes (suc k) (accepted-zero p) ∙ rw (f .sets) (all-by-list bytes (f .others) (set-somewhere bytes k s f) (f .holds) e)
 
 -- Where they are shown, there are as many f64 as stored numbers, and the question for each value shows its own part of them.
 pub all-in-turn : {sets : List Set} {bytes : List ℕ} → Proper sets bytes → (k : ℕ) (s : Set) (rest : List Set) → drop k sets ≡ s ∷ rest → s .number ≡ 58
@@ -247,10 +247,10 @@ all-in-turn p k s rest d e n xs h =
     (w .counted, (w .long, λ i l. reader-values p k s rest d e i l ∙ w .value i l))
 
 -- No 58 stores more than 196,608 numbers.
-pub all-few : {sets : List Set} {bytes : List ℕ} → Proper sets bytes → (k : ℕ) (s : Set) (rest : List Set) → drop k sets ≡ s ∷ rest → s .number ≡ 58
+pub stored-few : {sets : List Set} {bytes : List ℕ} → Proper sets bytes → (k : ℕ) (s : Set) (rest : List Set) → drop k sets ≡ s ∷ rest → s .number ≡ 58
     → storedCount s ≤ 196608
 unfolding storedCount
-all-few p k s rest d e =
+stored-few p k s rest d e =
     let f = set-found p k s rest d in
     let m : declared s ≤ 65536 = declared-most (f .holds .lines) e in
     let n : declared s * numbersOf (caseOf s) ≤ declared s * 3 = start-most (declared s) (caseOf s) _ (case-eight (f .holds .lines) e) refl in

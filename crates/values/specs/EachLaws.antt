@@ -53,8 +53,8 @@ refusal-after (r ∷ a) b h =
     (λ (l : refusalOf r ≤ 0). rw (le-ltb 0 (refusalOf r) l) (refusal-after a b (rw (le-ltb 0 (refusalOf r) l) at h)))
     (below-or-not 0 (refusalOf r))
 
-refusal-none : (a b : List Read) → refusalIn (a ++ b) ≤ 0 → (refusalIn a ≤ 0) × (refusalIn b ≤ 0)
-refusal-none a b h =
+refusal-neither : (a b : List Read) → refusalIn (a ++ b) ≤ 0 → (refusalIn a ≤ 0) × (refusalIn b ≤ 0)
+refusal-neither a b h =
     ⊎-elim
     (λ (l : 0 < refusalIn a). absurd (omega (arith, refusal-before a b l)))
     (λ (l : refusalIn a ≤ 0). (l, omega (arith, refusal-after a b l)))
@@ -80,8 +80,8 @@ module _ (g : ℕ → Real) (c : ℕ) where
   unfolding valueWith
   value-part count h i l =
       let rest = reads g (i * k + k) (count * k - suc i * k) in
-      let n = refusal-none (reads g 0 (i * k)) (reads g (i * k) k ++ rest) (rw (around count i l) at h) in
-      let m = refusal-none (reads g (i * k) k) rest (n .1) in
+      let n = refusal-neither (reads g 0 (i * k)) (reads g (i * k) k ++ rest) (rw (around count i l) at h) in
+      let m = refusal-neither (reads g (i * k) k) rest (n .1) in
       let p : floatsIn (all count) ≡ floatsIn (reads g 0 (i * k)) ++ (floatsIn (reads g (i * k) k) ++ floatsIn rest)
       = ap floatsIn (around count i l) ∙ floats-append (reads g 0 (i * k)) (reads g (i * k) k ++ rest) ∙ rw (floats-append (reads g (i * k) k) rest) refl in
       let d : drop (i * k) (floatsIn (all count)) ≡ floatsIn (reads g (i * k) k) ++ floatsIn rest

@@ -30,7 +30,7 @@ floatsIn (read.Value x ∷ rs) = x ∷ floatsIn rs
 floatsIn (read.Refused n ∷ rs) = floatsIn rs
 
 -- the places with the bit patterns put in; where a number is refused, and past the last, they keep their contents
-unfoldable pub filled : List Read → List ℕ → List ℕ
-filled [] out = out
-filled (r ∷ rs) [] = []
-filled (r ∷ rs) (y ∷ out) = patternOr y r ∷ filled rs out
+unfoldable pub patternsPut : List Read → List ℕ → List ℕ
+patternsPut [] out = out
+patternsPut (r ∷ rs) [] = []
+patternsPut (r ∷ rs) (y ∷ out) = patternOr y r ∷ patternsPut rs out

@@ -19,7 +19,7 @@ use Rattle.exact.specs.Bits.{bitsOf}
 use Rattle.reader.specs.declared.Read.{Read}
 use Rattle.reader.specs.declared.Read.the-variants as read
 use Rattle.reader.specs.Reader.{said, refused, onExact, readOf, reads, whole}
-use Rattle.values.specs.Fill.{refusalOf, refusalIn, patternOr, floatsIn, filled}
+use Rattle.values.specs.Fill.{refusalOf, refusalIn, patternOr, floatsIn, patternsPut}
 
 -- one turn of a loop over the numbers, at number j of so many
 module _ (g : ℕ → Real) (j count : ℕ) where
@@ -41,15 +41,15 @@ module _ (g : ℕ → Real) (j count : ℕ) where
   unfolding refusalIn reads
   refusal-none h = let e : count - j ≡ 0 = omega arith in rw e refl
 
-  pub filled-none : count ≤ j → (l : List ℕ) → l ≡ take j l ++ filled (reads g j (count - j)) (drop j l)
-  unfolding filled reads
-  filled-none h l = let e : count - j ≡ 0 = omega arith in rw (e, take-append-drop) refl
+  pub patterns-none : count ≤ j → (l : List ℕ) → l ≡ take j l ++ patternsPut (reads g j (count - j)) (drop j l)
+  unfolding patternsPut reads
+  patterns-none h l = let e : count - j ≡ 0 = omega arith in rw (e, take-append-drop) refl
 
   -- a number is put at its place: what is put, and what is still to be put, stay the same together
-  pub filled-next : j < count → (l : List ℕ) → count ≤ length l → (y v : ℕ) → v ≡ patternOr (getD l j y) (readOf (g j))
-      → take (j + 1) (set l j v) ++ filled (reads g (j + 1) (count - (j + 1))) (drop (j + 1) (set l j v)) ≡ take j l ++ filled (reads g j (count - j)) (drop j l)
-  unfolding filled
-  filled-next h l k y v e =
+  pub patterns-next : j < count → (l : List ℕ) → count ≤ length l → (y v : ℕ) → v ≡ patternOr (getD l j y) (readOf (g j))
+      → take (j + 1) (set l j v) ++ patternsPut (reads g (j + 1) (count - (j + 1))) (drop (j + 1) (set l j v)) ≡ take j l ++ patternsPut (reads g j (count - j)) (drop j l)
+  unfolding patternsPut
+  patterns-next h l k y v e =
       let i : j < length l = omega arith in
       sym (rw (reads-next h, drop-cons l j y i, add-one, take-suc-set l j v i, drop-set-lt (suc j) l j v (omega arith), append-assoc, e) refl)
 
@@ -80,23 +80,23 @@ module _ (x : Real) (rs : List Read) where
 -- the numbers j to j + k − 1
 module _ (g : ℕ → Real) where
   -- one that is refused refuses the whole question
-  pub whole-refused : (j k kind : ℕ) (xs : List Float) → 0 < refusalIn (reads g j k) → whole kind xs (reads g j k) ≡ refused (refusalIn (reads g j k)) 0
+  pub whole-refused : (j k place : ℕ) (xs : List Float) → 0 < refusalIn (reads g j k) → whole place xs (reads g j k) ≡ refused (refusalIn (reads g j k)) 0
   unfolding refusalIn reads whole
-  whole-refused j zero kind xs p = absurd (omega arith)
-  whole-refused j (suc k) kind xs p = go (readOf (g j)) refl (λ (ys : List Float). whole-refused (suc j) k kind ys)
+  whole-refused j zero place xs p = absurd (omega arith)
+  whole-refused j (suc k) place xs p = go (readOf (g j)) refl (λ (ys : List Float). whole-refused (suc j) k place ys)
     where
-      go : (r : Read) → readOf (g j) ≡ r → ((ys : List Float) → 0 < refusalIn (reads g (suc j) k) → whole kind ys (reads g (suc j) k) ≡ refused (refusalIn (reads g (suc j) k)) 0)
-          → whole kind xs (readOf (g j) ∷ reads g (suc j) k) ≡ refused (refusalIn (readOf (g j) ∷ reads g (suc j) k)) 0
+      go : (r : Read) → readOf (g j) ≡ r → ((ys : List Float) → 0 < refusalIn (reads g (suc j) k) → whole place ys (reads g (suc j) k) ≡ refused (refusalIn (reads g (suc j) k)) 0)
+          → whole place xs (readOf (g j) ∷ reads g (suc j) k) ≡ refused (refusalIn (readOf (g j) ∷ reads g (suc j) k)) 0
       go (read.Value x) q ih = rw q (ih (xs ++ (x ∷ [])) (rw q at p))
       go (read.Refused m) q ih = rw (first-refused (g j) (reads g (suc j) k) m q, q) refl
 
   -- otherwise all are shown, in order
-  pub whole-shown : (j k kind : ℕ) (xs : List Float) → refusalIn (reads g j k) ≤ 0 → whole kind xs (reads g j k) ≡ said 0 kind (xs ++ floatsIn (reads g j k))
+  pub whole-shown : (j k place : ℕ) (xs : List Float) → refusalIn (reads g j k) ≤ 0 → whole place xs (reads g j k) ≡ said 0 place (xs ++ floatsIn (reads g j k))
   unfolding refusalIn reads whole floatsIn
-  whole-shown j zero kind xs h = rw append-nil refl
-  whole-shown j (suc k) kind xs h =
+  whole-shown j zero place xs h = rw append-nil refl
+  whole-shown j (suc k) place xs h =
       let v = first-value (g j) (reads g (suc j) k) h in
-      rw (v .1) (whole-shown (suc j) k kind (xs ++ (v .0 ∷ [])) (rw (v .1) at h) ∙ rw append-assoc refl)
+      rw (v .1) (whole-shown (suc j) k place (xs ++ (v .0 ∷ [])) (rw (v .1) at h) ∙ rw append-assoc refl)
 
   -- as many as there are
   pub shown-length : (j k : ℕ) → refusalIn (reads g j k) ≤ 0 → length (floatsIn (reads g j k)) ≡ k
@@ -107,10 +107,10 @@ module _ (g : ℕ → Real) where
       rw (v .1) (ap suc (shown-length (suc j) k (rw (v .1) at h)))
 
   -- and their bit patterns are put into the first places
-  pub filled-shown : (j k : ℕ) (out : List ℕ) → refusalIn (reads g j k) ≤ 0 → k ≤ length out → filled (reads g j k) out ≡ map bitsOf (floatsIn (reads g j k)) ++ drop k out
-  unfolding refusalIn reads filled floatsIn
-  filled-shown j zero out h l = refl
-  filled-shown j (suc k) [] h l = absurd (omega arith)
-  filled-shown j (suc k) (y ∷ out) h l =
+  pub patterns-shown : (j k : ℕ) (out : List ℕ) → refusalIn (reads g j k) ≤ 0 → k ≤ length out → patternsPut (reads g j k) out ≡ map bitsOf (floatsIn (reads g j k)) ++ drop k out
+  unfolding refusalIn reads patternsPut floatsIn
+  patterns-shown j zero out h l = refl
+  patterns-shown j (suc k) [] h l = absurd (omega arith)
+  patterns-shown j (suc k) (y ∷ out) h l =
       let v = first-value (g j) (reads g (suc j) k) h in
-      rw (v .1) (ap (λ (r : List ℕ). bitsOf (v .0) ∷ r) (filled-shown (suc j) k out (rw (v .1) at h) (le-of-suc-le-suc l)))
+      rw (v .1) (ap (λ (r : List ℕ). bitsOf (v .0) ∷ r) (patterns-shown (suc j) k out (rw (v .1) at h) (le-of-suc-le-suc l)))

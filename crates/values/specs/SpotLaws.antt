@@ -80,11 +80,11 @@ spot-first file d at e =
     rw (e, zero-div, zero-mod, z) refl
 
 -- stored number j is there, on a line that begins inside the file
-pub record Stood (file : List ℕ) (d : Data) (j : ℕ) (s : Spot) : Type 0 where
+pub record AtSpot (file : List ℕ) (d : Data) (j : ℕ) (s : Spot) : Type 0 where
   pub spot-is : s ≡ spotOf file d j
   pub inside : s .line ≤ length file
 
-module _ (file : List ℕ) (d : Data) (body : d .body ≤ length file) (eight : d .case < 8) (j : ℕ) (s : Spot) (at : Stood file d j s) (ws : List ℕ) (widths : ws ≡ tabulate (cellOf (d .case)) 0 6) where
+module _ (file : List ℕ) (d : Data) (body : d .body ≤ length file) (eight : d .case < 8) (j : ℕ) (s : Spot) (at : AtSpot file d j s) (ws : List ℕ) (widths : ws ≡ tabulate (cellOf (d .case)) 0 6) where
   abbrev n : ℕ
   n = fieldsOf (d .case)
 
@@ -138,5 +138,5 @@ module _ (file : List ℕ) (d : Data) (body : d .body ≤ length file) (eight : 
       let o : lineAt file d (j + 1) + 0 ≡ lineAt file d (j + 1) = omega arith in
       rw (le-ltb (s .field + 1) m h, a, q .1, o) refl
 
-  pub stood-next : (m : ℕ) (t : Spot) → m ≡ n → (t ≡ nextSpot file (d .closing) m ws s) × (t .line ≤ length file) → Stood file d (j + 1) t
-  stood-next m t e (f, l) = record { spot-is = f ∙ ⊎-elim (further m e) (opening m e) (below-or-not (s .field + 1) m); inside = l }
+  pub spot-next : (m : ℕ) (t : Spot) → m ≡ n → (t ≡ nextSpot file (d .closing) m ws s) × (t .line ≤ length file) → AtSpot file d (j + 1) t
+  spot-next m t e (f, l) = record { spot-is = f ∙ ⊎-elim (further m e) (opening m e) (below-or-not (s .field + 1) m); inside = l }

@@ -21,8 +21,8 @@ use Rattle.reader.specs.Find.{nothing, dataOf, realAt}
 use Rattle.reader.specs.FindLaws.{stands}
 use Rattle.reader.specs.ReaderLaws.{values-none, reads-same, own, real-own}
 use Rattle.values.specs.Values.{allFrom, allValues, replyIn, placesIn, allReply, allPlaces}
-use Rattle.values.specs.Fill.{refusalIn, floatsIn, filled}
-use Rattle.values.specs.FillLaws.{whole-refused, whole-shown, shown-length, filled-shown}
+use Rattle.values.specs.Fill.{refusalIn, floatsIn, patternsPut}
+use Rattle.values.specs.FillLaws.{whole-refused, whole-shown, shown-length, patterns-shown}
 
 -- by where the numbers are
 unfoldable allBy : List ℕ → Data → Said Float
@@ -81,10 +81,10 @@ module _ (file : List ℕ) (set : ℕ) (out : List ℕ) (r : Reply) (f : r ≡ j
         unfolding allReply allPlaces
         too-few l = (rw (shows, as-many, lt-ltb (length out) count l) refl, rw (shows, as-many, lt-ltb (length out) count l) refl)
 
-        pub all-filled : count ≤ length out → (after : List ℕ) → after ≡ filled (reads (realAt file d) 0 count) out
+        pub all-filled : count ≤ length out → (after : List ℕ) → after ≡ patternsPut (reads (realAt file d) 0 count) out
             → (reply 0 count ≡ allReply file set (length out)) × (after ≡ allPlaces file set out)
         unfolding allReply allPlaces
         all-filled l after e = (
           rw (shows, as-many, le-ltb (length out) count l) refl,
-          e ∙ filled-shown (realAt file d) 0 count out (rw first at h) l ∙ sym (rw (shows, as-many, le-ltb (length out) count l) refl),
+          e ∙ patterns-shown (realAt file d) 0 count out (rw first at h) l ∙ sym (rw (shows, as-many, le-ltb (length out) count l) refl),
         )

@@ -6,7 +6,7 @@ ghost use Rattle.reader.specs.Reader.{readIn, readOf, reads};
 ghost use Rattle.reader.specs.Find.{realAt};
 ghost use Rattle.values.specs.Values.{allReply, allPlaces};
 ghost use Rattle.values.specs.Spot.{spotOf, nextSpot};
-ghost use Rattle.values.specs.Fill.{refusalOf, refusalIn, patternOr, filled};
+ghost use Rattle.values.specs.Fill.{refusalOf, refusalIn, patternOr, patternsPut};
 use judge::Reply;
 use laws::index;
 use parts::line_start;
@@ -111,7 +111,7 @@ fn first_refusal(file: &[u8], d: Data, stored: usize) -> u8
 // place.
 fn fill(file: &[u8], d: Data, stored: usize, out: &mut [u64])
     requires { ⌜ (d .body ≤ length (now file)) × ((d .case < 8) × (stored ≤ length (now out))) ⌝ }
-    ensures { λ _. ⌜ now (out .exit) ≡ filled (reads (realAt (now (file .entry)) d) 0 stored) (now (out .entry)) ⌝ }
+    ensures { λ _. ⌜ now (out .exit) ≡ patternsPut (reads (realAt (now (file .entry)) d) 0 stored) (now (out .entry)) ⌝ }
 {
     let fields = layout::fields_of(d.case);
     let widths = layout::line_widths(d.case);

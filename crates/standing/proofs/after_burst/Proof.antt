@@ -47,9 +47,9 @@ use Rattle.stream.proofs.Answer as S
 use Rattle.stream.proofs.Answer.Laws as S′
 use Rattle.stream.proofs.Stream as T
 use Rattle.stream.proofs.Stream.Laws as T′
-use Rattle.standing.specs.declared.Answered.{Answered}
-use Rattle.standing.proofs.Answered as D
-use Rattle.standing.proofs.Answered.Laws as D′
+use Rattle.standing.specs.declared.AfterBurst.{AfterBurst}
+use Rattle.standing.proofs.AfterBurst as D
+use Rattle.standing.proofs.AfterBurst.Laws as D′
 use Rattle.standing.proofs.burst as burst
 use Rattle.standing.proofs.burst.Symbol as burst-def
 use Rattle.standing.proofs.burst.Symbol.{name as #burst}
@@ -115,16 +115,16 @@ module _ {M : Type 1} (𝓤 : URA M) (H : Heap 𝓤) (A : Atoms 𝓤) (W : Given
   goes-made r t u =
       qed W (‵ (T.the-row .own r (mach r ∷ [])) ∷ ‵ (S.the-row .own t (u ∷ [])) ∷ []) ∵ nothing ! $ move ! (2 ∷ 0 ∷ []) $ fjoin ! $ move ! (1 ∷ 0 ∷ []) $ fjoin ! $ nothing ! $ join ! $ frame ! $ done !
 
-  said : (r : Stream) (t : Answer) (d : Answered) → ent 𝓤 (ensured 𝓤 H A made.ended (made.clauses 𝓤 H A at-mem run) tt (r, (t, tt)) tt d) (fact 𝓤 ((d .stream ≡ r) × (d .answer ≡ t)))
+  said : (r : Stream) (t : Answer) (d : AfterBurst) → ent 𝓤 (ensured 𝓤 H A made.ended (made.clauses 𝓤 H A at-mem run) tt (r, (t, tt)) tt d) (fact 𝓤 ((d .stream ≡ r) × (d .answer ≡ t)))
   said r t d = exE 𝓤 _ (λ ws. snd∗ 𝓤 (sem 𝓤 H A (lasts made.ended tt (r, (t, tt)) ws)) (fact 𝓤 ((d .stream ≡ r) × (d .answer ≡ t))))
 
-  exits : (d : Answered) (u : Val) → Says h (now s) (d .stream) (d .answer) → Is T.the-row h (mach h ∷ []) → ent 𝓤 (⋆ 𝓤 H A (‵ (D.the-row .own d (u ∷ [])) ∷ (‵ (flft κ q) ⊛ ‵ ftrue) ∷ ‵ Own ∷ [])) (Post u)
+  exits : (d : AfterBurst) (u : Val) → Says h (now s) (d .stream) (d .answer) → Is T.the-row h (mach h ∷ []) → ent 𝓤 (⋆ 𝓤 H A (‵ (D.the-row .own d (u ∷ [])) ∷ (‵ (flft κ q) ⊛ ‵ ftrue) ∷ ‵ Own ∷ [])) (Post u)
   exits d u e is =
       qed W (‵ (D.the-row .own d (u ∷ [])) ∷ (‵ (flft κ q) ⊛ ‵ ftrue) ∷ ‵ Own ∷ []) ∵
       suffices ! _ (ends-at 𝓤 H A after-burst.ended stayed (after-burst.clauses 𝓤 H A at-mem run) W (((κ, tt), (q, tt), tt, x, at), tt) u d (tt, (tt, tt)) (tt, (tt, tt))) $ says ! e $
       move ! (1 ∷ []) $ frame ! $ nothing ! $ move ! (2 ∷ 0 ∷ []) $ fjoin ! $ owned ! T.the-row (Is T.the-row) ((LL.makes T.the-type T′.the-plain) 𝓤 H A) h (mach h ∷ []) is $ fjoin ! $ frame ! $ done !
 
-  told : (r : Stream) (t : Answer) (d : Answered) → Says h (now s) r t → (d .stream ≡ r) × (d .answer ≡ t) → Says h (now s) (d .stream) (d .answer)
+  told : (r : Stream) (t : Answer) (d : AfterBurst) → Says h (now s) r t → (d .stream ≡ r) × (d .answer ≡ t) → Says h (now s) (d .stream) (d .answer)
   told r t d e e′ = rw (e′ .0, e′ .1) e
 
   module _ (C : Calls 𝓤 H) (Λ : Loops 𝓤 H) (fm : FmC 𝓤 H (W .laws) C) (known : Triple 𝓤 (C #burst) (BurstC 𝓤 H A at-mem run)) (known-made : Triple 𝓤 (C #made) (MadeC 𝓤 H A at-mem run)) where
@@ -160,7 +160,7 @@ module _ {M : Type 1} (𝓤 : URA M) (H : Heap 𝓤) (A : Atoms 𝓤) (W : Given
         assigns ! (of-opd ! (load ! (from ! (stop !)) (look ! 1 refl))) (from ! (stop !)) (init ! 5 refl (LL.lawful T.the-type T′.the-laws 𝓤 H A W .typed (ws .0) _ is′ .0)) $
         move ! (0 ∷ 3 ∷ []) $ use2 W (raw (MadeC 𝓤 H A at-mem run .pre (to-made (ws .0) t u))) (goes-made (ws .0) t u) $
         calls-at ! fm (MadeC 𝓤 H A at-mem run) known-made (to-made (ws .0) t u) (and-then ! (load ! (from ! (stop !)) (look ! 4 refl)) (and-then ! (load ! (from ! (stop !)) (look ! 8 refl)) (no-more !))) (λ u′.
-        use1 W (later (some (λ (d : Answered). (‵ ftrue ⊛ ‵ (D.the-row .own d (u′ ∷ []))) ⊛ raw (ensured 𝓤 H A made.ended (made.clauses 𝓤 H A at-mem run) tt (ws .0, (t, tt)) tt d)))) (id⊢ 𝓤 _) $ await ! tt $ pick ! (λ d.
+        use1 W (later (some (λ (d : AfterBurst). (‵ ftrue ⊛ ‵ (D.the-row .own d (u′ ∷ []))) ⊛ raw (ensured 𝓤 H A made.ended (made.clauses 𝓤 H A at-mem run) tt (ws .0, (t, tt)) tt d)))) (id⊢ 𝓤 _) $ await ! tt $ pick ! (λ d.
         split ! $ move ! (1 ∷ []) $ use1 W (raw (fact 𝓤 ((d .stream ≡ ws .0) × (d .answer ≡ t)))) (said (ws .0) t d) $ heard ! ((d .stream ≡ ws .0) × (d .answer ≡ t)) (λ e′. split ! $ drop ! $
         -- [what d owns; _3; κ's token; …; _6; …; _5; …; _4; …; what frees _3; _2; …; _1; …; room for _0; …; what s owns; …]
         peeks ! D.the-row (Is D.the-row) (shows 𝓤 H A D.the-row) d (u′ ∷ []) (λ is-d.

@@ -42,9 +42,9 @@ use Rattle.stream.specs.Stream.{seen, endReply, closed}
 use Rattle.stream.specs.declared.Stream.{Stream}
 use Rattle.stream.proofs.Stream as T
 use Rattle.stream.proofs.Stream.Laws as T′
-use Rattle.standing.specs.declared.Closed.{Closed}
-use Rattle.standing.proofs.Closed as D
-use Rattle.standing.proofs.Closed.Laws as D′
+use Rattle.standing.specs.declared.AfterEnd.{AfterEnd}
+use Rattle.standing.proofs.AfterEnd as D
+use Rattle.standing.proofs.AfterEnd.Laws as D′
 use Rattle.standing.proofs.end as end
 use Rattle.standing.proofs.end.Symbol as end-def
 use Rattle.standing.proofs.end.Symbol.{name as #end}
@@ -104,16 +104,16 @@ module _ {M : Type 1} (𝓤 : URA M) (H : Heap 𝓤) (A : Atoms 𝓤) (W : Given
   goes-made r t u =
       qed W (‵ (T.the-row .own r (mach r ∷ [])) ∷ ‵ (S.the-row .own t (u ∷ [])) ∷ []) ∵ nothing ! $ move ! (2 ∷ 0 ∷ []) $ fjoin ! $ move ! (1 ∷ 0 ∷ []) $ fjoin ! $ nothing ! $ join ! $ frame ! $ done !
 
-  said : (r : Stream) (t : Reply) (d : Closed) → ent 𝓤 (ensured 𝓤 H A made.ended (made.clauses 𝓤 H A at-mem run) tt (r, (t, tt)) tt d) (fact 𝓤 ((d .stream ≡ r) × (d .reply ≡ t)))
+  said : (r : Stream) (t : Reply) (d : AfterEnd) → ent 𝓤 (ensured 𝓤 H A made.ended (made.clauses 𝓤 H A at-mem run) tt (r, (t, tt)) tt d) (fact 𝓤 ((d .stream ≡ r) × (d .reply ≡ t)))
   said r t d = exE 𝓤 _ (λ ws. snd∗ 𝓤 (sem 𝓤 H A (lasts made.ended tt (r, (t, tt)) ws)) (fact 𝓤 ((d .stream ≡ r) × (d .reply ≡ t))))
 
-  exits : (d : Closed) (u : Val) → Says h (d .stream) (d .reply) → Is T.the-row h (mach h ∷ []) → ent 𝓤 (⋆ 𝓤 H A (‵ (D.the-row .own d (u ∷ [])) ∷ [])) (Post u)
+  exits : (d : AfterEnd) (u : Val) → Says h (d .stream) (d .reply) → Is T.the-row h (mach h ∷ []) → ent 𝓤 (⋆ 𝓤 H A (‵ (D.the-row .own d (u ∷ [])) ∷ [])) (Post u)
   exits d u e is =
       qed W (‵ (D.the-row .own d (u ∷ [])) ∷ []) ∵
       suffices ! _ (ends-at 𝓤 H A after-end.ended stayed (after-end.clauses 𝓤 H A at-mem run) W ((tt, tt, tt, x, at), tt) u d (tt, tt) (tt, tt)) $ says ! e $
       nothing ! $ frame ! $ nothing ! $ owned ! T.the-row (Is T.the-row) ((LL.makes T.the-type T′.the-plain) 𝓤 H A) h (mach h ∷ []) is $ fjoin ! $ frame ! $ done !
 
-  told : (r : Stream) (t : Reply) (d : Closed) → Says h r t → (d .stream ≡ r) × (d .reply ≡ t) → Says h (d .stream) (d .reply)
+  told : (r : Stream) (t : Reply) (d : AfterEnd) → Says h r t → (d .stream ≡ r) × (d .reply ≡ t) → Says h (d .stream) (d .reply)
   told r t d e e′ = rw (e′ .0, e′ .1) e
 
   module _ (C : Calls 𝓤 H) (Λ : Loops 𝓤 H) (fm : FmC 𝓤 H (W .laws) C) (known : Triple 𝓤 (C #end) (EndC 𝓤 H A at-mem run)) (known-made : Triple 𝓤 (C #made) (MadeC 𝓤 H A at-mem run)) where
@@ -148,7 +148,7 @@ module _ {M : Type 1} (𝓤 : URA M) (H : Heap 𝓤) (A : Atoms 𝓤) (W : Given
         assigns ! (of-opd ! (load ! (from ! (stop !)) (look ! 1 refl))) (from ! (stop !)) (init ! 5 refl (LL.lawful T.the-type T′.the-laws 𝓤 H A W .typed (ws .0) _ is′ .0)) $
         move ! (0 ∷ 3 ∷ []) $ use2 W (raw (MadeC 𝓤 H A at-mem run .pre (to-made (ws .0) t u))) (goes-made (ws .0) t u) $
         calls-at ! fm (MadeC 𝓤 H A at-mem run) known-made (to-made (ws .0) t u) (and-then ! (load ! (from ! (stop !)) (look ! 4 refl)) (and-then ! (load ! (from ! (stop !)) (look ! 8 refl)) (no-more !))) (λ u′.
-        use1 W (later (some (λ (d : Closed). (‵ ftrue ⊛ ‵ (D.the-row .own d (u′ ∷ []))) ⊛ raw (ensured 𝓤 H A made.ended (made.clauses 𝓤 H A at-mem run) tt (ws .0, (t, tt)) tt d)))) (id⊢ 𝓤 _) $ await ! tt $ pick ! (λ d.
+        use1 W (later (some (λ (d : AfterEnd). (‵ ftrue ⊛ ‵ (D.the-row .own d (u′ ∷ []))) ⊛ raw (ensured 𝓤 H A made.ended (made.clauses 𝓤 H A at-mem run) tt (ws .0, (t, tt)) tt d)))) (id⊢ 𝓤 _) $ await ! tt $ pick ! (λ d.
         split ! $ move ! (1 ∷ []) $ use1 W (raw (fact 𝓤 ((d .stream ≡ ws .0) × (d .reply ≡ t)))) (said (ws .0) t d) $ heard ! ((d .stream ≡ ws .0) × (d .reply ≡ t)) (λ e′. split ! $ drop ! $
         -- [what d owns; _2; true; …; _5; …; _4; …; _3; …; what frees _2; _1; …; room for _0; …]
         peeks ! D.the-row (Is D.the-row) (shows 𝓤 H A D.the-row) d (u′ ∷ []) (λ is-d.

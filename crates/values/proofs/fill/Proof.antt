@@ -6,16 +6,16 @@ use lib.ListN.{length, take, drop, length-set}
 use native.Mathlib.Nat.{sub-zero}
 use Rattle.reader.specs.Reader.{reads}
 use Rattle.reader.specs.Find.{realAt}
-use Rattle.values.specs.Fill.{filled, patternOr}
-use Rattle.values.specs.FillLaws.{filled-next, filled-none}
-use Rattle.values.specs.SpotLaws.{Stood, here, read-own, stood-next}
+use Rattle.values.specs.Fill.{patternsPut, patternOr}
+use Rattle.values.specs.FillLaws.{patterns-next, patterns-none}
+use Rattle.values.specs.SpotLaws.{AtSpot, here, read-own, spot-next}
 use borrow.Author.Needs.{needs}
 use native.Mathlib.Omega.{arith}
 use Rattle.values.proofs.fill.Statement.{statement}
 use Rattle.values.proofs.fill.Tie as tie
 
 abbrev Inv-loop : tie.InvT-loop
-Inv-loop file d count out₀ fields widths s₀ j₀ out s j = Stood file d j s × ((j ≤ count) × ((length out ≡ length out₀) × (take j out ++ filled (reads (realAt file d) j (count - j)) (drop j out) ≡ filled (reads (realAt file d) 0 count) out₀)))
+Inv-loop file d count out₀ fields widths s₀ j₀ out s j = AtSpot file d j s × ((j ≤ count) × ((length out ≡ length out₀) × (take j out ++ patternsPut (reads (realAt file d) j (count - j)) (drop j out) ≡ patternsPut (reads (realAt file d) 0 count) out₀)))
 
 abbrev μ-loop : tie.MeasureT-loop
 μ-loop file d count out₀ fields widths s₀ j₀ out s j = count - j
@@ -60,13 +60,13 @@ loop-less : tie.Need-loop-less Inv-loop μ-loop
 loop-less c = search needs
 
 loop-again : tie.Need-loop-again Inv-loop μ-loop
-loop-again c = (stood-next (c .before .before .before .before .before .before .before .before .before .before .before .before .before .args .file .now) (c .before .before .before .before .before .before .before .before .before .before .before .before .before .args .d) (c .before .before .before .before .before .before .before .before .before .before .before .before .before .pre .0) (c .before .before .before .before .before .before .before .before .before .before .before .before .before .pre .1 .0) _ _ (c .before .before .before .before .before .before .before .loop .inv .0) _ (c .before .before .before .before .before .before .before .before .before .line-widths .ensures) _ _ (c .before .before .before .before .before .before .before .before .before .before .fields-of .ensures) (c .next-spot .ensures), (search needs, (simp length-set (c .before .before .before .before .before .before .before .loop .inv .1 .1 .0), filled-next _ _ _ (c .before .before .before .before .before .before .loop-test .taken) (c .before .before .before .before .before .before .before .loop .out) (search needs) _ _ (c .before .before .pattern-or .ensures ∙ ap (patternOr _) (read-own (c .before .before .before .before .before .before .before .before .before .before .before .before .before .args .file .now) (c .before .before .before .before .before .before .before .before .before .before .before .before .before .args .d) (c .before .before .before .before .before .before .before .before .before .before .before .before .before .pre .0) (c .before .before .before .before .before .before .before .before .before .before .before .before .before .pre .1 .0) _ _ (c .before .before .before .before .before .before .before .loop .inv .0) _ (c .before .before .before .before .before .before .before .before .before .line-widths .ensures) _ (c .before .before .before .before .read-here .ensures))) ∙ c .before .before .before .before .before .before .before .loop .inv .1 .1 .1)))
+loop-again c = (spot-next (c .before .before .before .before .before .before .before .before .before .before .before .before .before .args .file .now) (c .before .before .before .before .before .before .before .before .before .before .before .before .before .args .d) (c .before .before .before .before .before .before .before .before .before .before .before .before .before .pre .0) (c .before .before .before .before .before .before .before .before .before .before .before .before .before .pre .1 .0) _ _ (c .before .before .before .before .before .before .before .loop .inv .0) _ (c .before .before .before .before .before .before .before .before .before .line-widths .ensures) _ _ (c .before .before .before .before .before .before .before .before .before .before .fields-of .ensures) (c .next-spot .ensures), (search needs, (simp length-set (c .before .before .before .before .before .before .before .loop .inv .1 .1 .0), patterns-next _ _ _ (c .before .before .before .before .before .before .loop-test .taken) (c .before .before .before .before .before .before .before .loop .out) (search needs) _ _ (c .before .before .pattern-or .ensures ∙ ap (patternOr _) (read-own (c .before .before .before .before .before .before .before .before .before .before .before .before .before .args .file .now) (c .before .before .before .before .before .before .before .before .before .before .before .before .before .args .d) (c .before .before .before .before .before .before .before .before .before .before .before .before .before .pre .0) (c .before .before .before .before .before .before .before .before .before .before .before .before .before .pre .1 .0) _ _ (c .before .before .before .before .before .before .before .loop .inv .0) _ (c .before .before .before .before .before .before .before .before .before .line-widths .ensures) _ (c .before .before .before .before .read-here .ensures))) ∙ c .before .before .before .before .before .before .before .loop .inv .1 .1 .1)))
 
 same-length : tie.Need-same-length Inv-loop μ-loop
 same-length c = c .before .loop .inv .1 .1 .0
 
 returns : tie.Need-returns Inv-loop μ-loop
-returns c = filled-none _ _ _ (c .loop-test .left) _ ∙ c .before .loop .inv .1 .1 .1
+returns c = patterns-none _ _ _ (c .loop-test .left) _ ∙ c .before .loop .inv .1 .1 .1
 
 pub fill-spec : {M : Type 1} → statement M
 fill-spec =

@@ -7,14 +7,14 @@ use Rattle.reader.specs.Reader.{reads}
 use Rattle.reader.specs.Find.{realAt}
 use Rattle.values.specs.Fill.{refusalIn}
 use Rattle.values.specs.FillLaws.{refusal-here, refusal-next, refusal-none}
-use Rattle.values.specs.SpotLaws.{Stood, here, read-own, stood-next}
+use Rattle.values.specs.SpotLaws.{AtSpot, here, read-own, spot-next}
 use borrow.Author.Needs.{needs}
 use native.Mathlib.Omega.{arith}
 use Rattle.values.proofs.first_refusal.Statement.{statement}
 use Rattle.values.proofs.first_refusal.Tie as tie
 
 abbrev Inv-loop : tie.InvT-loop
-Inv-loop file d count fields widths s₀ j₀ s j = Stood file d j s × ((j ≤ count) × (refusalIn (reads (realAt file d) j (count - j)) ≡ refusalIn (reads (realAt file d) 0 count)))
+Inv-loop file d count fields widths s₀ j₀ s j = AtSpot file d j s × ((j ≤ count) × (refusalIn (reads (realAt file d) j (count - j)) ≡ refusalIn (reads (realAt file d) 0 count)))
 
 abbrev μ-loop : tie.MeasureT-loop
 μ-loop file d count fields widths s₀ j₀ s j = count - j
@@ -50,7 +50,7 @@ loop-less : tie.Need-loop-less Inv-loop μ-loop
 loop-less c = search needs
 
 loop-again : tie.Need-loop-again Inv-loop μ-loop
-loop-again c = (stood-next (c .before .before .before .before .before .before .before .before .before .before .before .before .args .file .now) (c .before .before .before .before .before .before .before .before .before .before .before .before .args .d) (c .before .before .before .before .before .before .before .before .before .before .before .before .pre .0) (c .before .before .before .before .before .before .before .before .before .before .before .before .pre .1) _ _ (c .before .before .before .before .before .before .before .loop .inv .0) _ (c .before .before .before .before .before .before .before .before .before .line-widths .ensures) _ _ (c .before .before .before .before .before .before .before .before .before .before .fields-of .ensures) (c .next-spot .ensures), (search needs, refusal-next _ _ _ (c .before .before .before .before .before .before .loop-test .taken) _ _ (read-own (c .before .before .before .before .before .before .before .before .before .before .before .before .args .file .now) (c .before .before .before .before .before .before .before .before .before .before .before .before .args .d) (c .before .before .before .before .before .before .before .before .before .before .before .before .pre .0) (c .before .before .before .before .before .before .before .before .before .before .before .before .pre .1) _ _ (c .before .before .before .before .before .before .before .loop .inv .0) _ (c .before .before .before .before .before .before .before .before .before .line-widths .ensures) _ (c .before .before .before .before .read-here .ensures)) (c .before .before .before .refusal-of .ensures) (c .before .before .if1 .left) ∙ c .before .before .before .before .before .before .before .loop .inv .1 .1))
+loop-again c = (spot-next (c .before .before .before .before .before .before .before .before .before .before .before .before .args .file .now) (c .before .before .before .before .before .before .before .before .before .before .before .before .args .d) (c .before .before .before .before .before .before .before .before .before .before .before .before .pre .0) (c .before .before .before .before .before .before .before .before .before .before .before .before .pre .1) _ _ (c .before .before .before .before .before .before .before .loop .inv .0) _ (c .before .before .before .before .before .before .before .before .before .line-widths .ensures) _ _ (c .before .before .before .before .before .before .before .before .before .before .fields-of .ensures) (c .next-spot .ensures), (search needs, refusal-next _ _ _ (c .before .before .before .before .before .before .loop-test .taken) _ _ (read-own (c .before .before .before .before .before .before .before .before .before .before .before .before .args .file .now) (c .before .before .before .before .before .before .before .before .before .before .before .before .args .d) (c .before .before .before .before .before .before .before .before .before .before .before .before .pre .0) (c .before .before .before .before .before .before .before .before .before .before .before .before .pre .1) _ _ (c .before .before .before .before .before .before .before .loop .inv .0) _ (c .before .before .before .before .before .before .before .before .before .line-widths .ensures) _ (c .before .before .before .before .read-here .ensures)) (c .before .before .before .refusal-of .ensures) (c .before .before .if1 .left) ∙ c .before .before .before .before .before .before .before .loop .inv .1 .1))
 
 returns-2 : tie.Need-returns-2 Inv-loop μ-loop
 returns-2 c = refusal-none _ _ _ (c .loop-test .left) ∙ c .before .loop .inv .1 .1
