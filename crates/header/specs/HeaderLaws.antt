@@ -1,12 +1,17 @@
--- The laws that the header's loop needs.
+-- The laws that the header's judge needs: its first eleven lines, a line past them, and its end.
 use mathlib.Core.Path.{_≡_, refl, sym, ap, _∙_}
-use mathlib.Core.Bool.{true, false}
-use mathlib.Core.List.{List, [], _∷_}
+use mathlib.Core.Bool.{Bool, true, false}
+use mathlib.Core.List.{List, [], _∷_, _++_}
+use mathlib.Core.Logic.{⊎-elim}
 use Prim.Native.Nat.{ℕ, zero, suc, _+_, _-_, _≤_, _<_}
+use native.Mathlib.Nat.{le-of-suc-le-suc}
 use native.Mathlib.Omega.{arith}
-use borrow.Author.Tests.{lt-ltb, le-ltb}
-use lib.ListN.{length, take, drop}
-use Rattle.laws.specs.Cut.{lineLen, cut, over, judge, judge-at}
+use borrow.Author.Tests.{lt-ltb, le-ltb, eq-eqb, ne-eqb}
+use lib.Dec.{eqb}
+use lib.ListN.{length, take, drop, length-append, length-drop, take-append-drop}
+use lib.Seq.{take-append-add, drop-append-le, length-take-le, take-all}
+use Rattle.laws.specs.Choice.{pick, below-or-not}
+use Rattle.laws.specs.Cut.{text, onto, lineLen, cut, cut-append, cut-open, over, over-append, judge, judge-at}
 use Rattle.line.specs.Line.{columns, lineFault}
 use Rattle.line.specs.LineLaws.{columns-take}
 use Rattle.line.specs.declared.Refusal.{Refusal}
@@ -15,9 +20,11 @@ use Rattle.walk.specs.declared.State.{State}
 use Rattle.walk.specs.declared.Outcome.{Outcome}
 use Rattle.walk.specs.declared.Outcome.the-variants.{Next, Refused}
 use Rattle.judge.specs.declared.Reply.{Reply}
-use Rattle.judge.specs.Judge.{lineStep, Run, going, refused, onOutcome, reply}
-use Rattle.header.specs.declared.Header.{Header}
-use Rattle.header.specs.Header.{answer, pastNumber, headerStep, leaves, headerEnd}
+use Rattle.judge.specs.declared.Lines.{Lines}
+use Rattle.judge.specs.Judge.{lineStep, Run, going, refused, onOutcome, reply, runStep, runEnd}
+use Rattle.judge.specs.JudgeLaws as Judge
+use Rattle.judge.specs.Lines.{runOf, LinesJudged}
+use Rattle.header.specs.Header.{answer, opened, pastNumber, headerStep, leaves, headerEnd, headerOf}
 
 -- a line past the eleventh
 module _ (l : List ℕ) (n : ℕ) (e : n ≡ length (columns true l)) (f : Refusal) (q : f ≡ lineFault true (take n l)) where
@@ -67,14 +74,130 @@ module _ (s : State) (n : ℕ) (l : List ℕ) (at e : ℕ) (a : at ≤ length l)
       → answer m (n + 1) 0 0 ≡ judge headerStep headerEnd (going s n) (drop at l)
   header-past m u p = sym (turn ∙ rw (le-ltb n 11 p, ← u) (judge-refused (reply m (n + 1)) (drop (e + 1) l)))
 
-  module _ (p : n < 11) where
-    step : headerStep (going s n) (take (e - at) (drop at l)) ≡ onOutcome n (lineStep s (take (e - at) (drop at l)))
-    step = rw (lt-ltb n 11 p) refl
+-- the bytes of the first eleven lines; all of them where there are fewer
+pub record FirstEleven (b : List ℕ) (k : ℕ) : Type 0 where
+  pub within : k ≤ length b
+  pub few : length (cut (take k b) .lines) ≤ 11
+  pub full : k < length b → length (cut (take k b) .lines) ≡ 11
 
-    pub header-next : (o : Outcome) (t : State) → o ≡ lineStep s (take (e - at) (drop at l)) → o ≡ Next t
-        → judge headerStep headerEnd (going t (n + 1)) (drop (e + 1) l) ≡ judge headerStep headerEnd (going s n) (drop at l)
-    header-next o t v u = sym (turn ∙ ap (λ (x : Run). judge headerStep headerEnd x (drop (e + 1) l)) (step ∙ ap (onOutcome n) (sym v ∙ u)))
+-- the first line with its LF
+cut-first : (d : List ℕ) → lineLen d < length d → cut (take (suc (lineLen d)) d) ≡ text (take (lineLen d) d ∷ []) []
+unfolding cut lineLen
+cut-first [] h = absurd (omega arith)
+cut-first (b ∷ d) h = go (eqb b 10) refl (λ k. cut-first d k)
+  where
+    go : (t : Bool) → eqb b 10 ≡ t → (lineLen d < length d → cut (take (suc (lineLen d)) d) ≡ text (take (lineLen d) d ∷ []) [])
+        → cut (take (suc (lineLen (b ∷ d))) (b ∷ d)) ≡ text (take (lineLen (b ∷ d)) (b ∷ d) ∷ []) []
+    go true e ih = simp e
+    go false e ih = simp e (rw (ih (le-of-suc-le-suc (simp e at h))) refl)
 
-    pub header-stops : (o : Outcome) (f : Refusal) → o ≡ lineStep s (take (e - at) (drop at l)) → o ≡ Refused f
-        → answer (f .number) (n + 1) 0 0 ≡ judge headerStep headerEnd (going s n) (drop at l)
-    header-stops o f v u = sym (turn ∙ ap (λ (x : Run). judge headerStep headerEnd x (drop (e + 1) l)) (step ∙ ap (onOutcome n) (sym v ∙ u)) ∙ judge-refused _ _)
+-- one turn of the loop that looks for the eleventh LF: from the place at on, the line that ends at e
+module _ (b : List ℕ) (at e : ℕ) (a : at ≤ length b) (q : e ≡ at + lineLen (drop at b)) (whole : cut (take at b) .rest ≡ []) where
+  cut-more : (d : List ℕ) → cut (take at b ++ d) ≡ text (cut (take at b) .lines ++ cut d .lines) (cut d .rest)
+  cut-more d = cut-append (take at b) d ∙ rw whole refl
+
+  module _ (h : e < length b) where
+    cut-to : cut (take (e + 1) b) ≡ text (cut (take at b) .lines ++ (take (lineLen (drop at b)) (drop at b) ∷ [])) []
+    cut-to =
+        let n : length (take at b) ≡ at = length-take-le at b a in
+        let k : e + 1 ≡ length (take at b) + suc (lineLen (drop at b)) = omega arith in
+        let t : take (e + 1) b ≡ take at b ++ take (suc (lineLen (drop at b))) (drop at b) = rw k (ap (take (length (take at b) + suc (lineLen (drop at b)))) (sym (take-append-drop at b)) ∙ take-append-add (take at b) (drop at b) (suc (lineLen (drop at b)))) in
+        ap cut t ∙ cut-more (take (suc (lineLen (drop at b))) (drop at b)) ∙ rw (cut-first (drop at b) (simp length-drop (omega arith))) refl
+
+    pub lines-to : length (cut (take (e + 1) b) .lines) ≡ length (cut (take at b) .lines) + 1
+    lines-to = rw cut-to (simp length-append refl)
+
+    pub rest-to : cut (take (e + 1) b) .rest ≡ []
+    rest-to = rw cut-to refl
+
+  pub all-few : length b ≤ e → length (cut (take at b) .lines) ≤ 11 → FirstEleven b (length b)
+  all-few h few =
+      let o : cut (drop at b) ≡ text [] (drop at b) = cut-open (drop at b) (simp length-drop (omega arith)) in
+      let n : length (cut b .lines) ≡ length (cut (take at b) .lines) =
+      ap (λ (x : List ℕ). length (cut x .lines)) (sym (take-append-drop at b)) ∙ rw (cut-more (drop at b), o) (simp length-append (omega arith)) in
+      record { within = omega arith; few = rw (take-all (length b) b (omega arith)) (omega arith); full = λ l. absurd (omega arith) }
+
+-- eleven lines at most: the header's step of each is the judge's
+over-same : (s : State) (n : ℕ) (ls : List (List ℕ)) → n + length ls ≤ 11 → over headerStep headerEnd (going s n) ls ≡ over runStep runEnd (going s n) ls
+unfolding over
+over-same s n [] h = refl
+over-same s n (l ∷ ls) h = rw (lt-ltb n 11 (omega arith)) (go (lineStep s l) (λ t. over-same t (n + 1) ls (omega arith)))
+  where
+    go : (o : Outcome) → ((t : State) → over headerStep headerEnd (going t (n + 1)) ls ≡ over runStep runEnd (going t (n + 1)) ls)
+        → over headerStep headerEnd (onOutcome n o) ls ≡ over runStep runEnd (onOutcome n o) ls
+    go (Next t) ih = ih t
+    go (Refused f) ih = over-refused (reply (f .number) (n + 1)) ls ∙ sym (Judge.over-refused (reply (f .number) (n + 1)) ls)
+
+-- a run that goes on counts the lines
+over-count : (s : State) (n : ℕ) (ls : List (List ℕ)) (t : State) (m : ℕ) → going t m ≡ over runStep runEnd (going s n) ls → m ≡ n + length ls
+unfolding over
+over-count s n [] t m e = let z : m ≡ n = cc in omega arith
+over-count s n (l ∷ ls) t m e = go (lineStep s l) (λ t′ e′. over-count t′ (n + 1) ls t m e′) e
+  where
+    go : (o : Outcome) → ((t′ : State) → going t m ≡ over runStep runEnd (going t′ (n + 1)) ls → m ≡ n + 1 + length ls)
+        → going t m ≡ over runStep runEnd (onOutcome n o) ls → m ≡ n + suc (length ls)
+    go (Next t′) ih e′ = omega (arith, ih t′ e′)
+    go (Refused f) ih e′ =
+        let u : going t m ≡ refused (reply (f .number) (n + 1)) = e′ ∙ Judge.over-refused (reply (f .number) (n + 1)) ls in
+        let z : _≡_ {A = ℕ} 0 1 = cc in
+        absurd (omega arith)
+
+-- no LF stands in the bytes after the last one
+rest-open : (l : List ℕ) → length (cut l .rest) ≤ lineLen (cut l .rest)
+unfolding cut lineLen
+rest-open [] = omega arith
+rest-open (b ∷ l) = go (eqb b 10) refl (cut l .lines) (cut l .rest) (rest-open l)
+  where
+    go : (t : Bool) → eqb b 10 ≡ t → (ls : List (List ℕ)) (r : List ℕ) → length r ≤ lineLen r
+        → length (pick t (text ([] ∷ ls) r) (onto b ls r) .rest) ≤ lineLen (pick t (text ([] ∷ ls) r) (onto b ls r) .rest)
+    go true e ls r h = h
+    go false e [] r h = rw e (omega arith)
+    go false e (l′ ∷ ls) r h = h
+
+judge-append : (x : Run) (a d : List ℕ) → judge headerStep headerEnd x (a ++ d) ≡ judge headerStep headerEnd (over headerStep headerEnd x (cut a .lines)) (cut a .rest ++ d)
+unfolding judge
+judge-append x a d = rw (cut-append a d, over-append headerStep headerEnd x (cut a .lines) (cut (cut a .rest ++ d) .lines)) refl
+
+-- the first eleven lines judged, and what is left of the header
+module _ (b : List ℕ) (k : ℕ) (f : FirstEleven b k) (r : Lines) (j : LinesJudged opened 0 (take k b) 0 r) where
+  whole : (x : Run) → runOf (r .state) (r .lines) (r .number) ≡ x → headerOf b ≡ judge headerStep headerEnd x (cut (take k b) .rest ++ drop k b)
+  unfolding headerOf
+  whole x u =
+      ap (judge headerStep headerEnd (going opened 0)) (sym (take-append-drop k b)) ∙
+      judge-append (going opened 0) (take k b) (drop k b) ∙
+      ap (λ (y : Run). judge headerStep headerEnd y (cut (take k b) .rest ++ drop k b)) (over-same opened 0 (cut (take k b) .lines) (omega (arith, f .few)) ∙ sym (j .run) ∙ u)
+
+  pub refused-most : 0 < r .number → r .lines < length b
+  refused-most z = omega (arith, j .fewer z, length-take-le k b (f .within), f .within)
+
+  pub header-refused : 0 < r .number → answer (r .number) (r .lines + 1) 0 0 ≡ headerOf b
+  header-refused z = sym (whole (refused (reply (r .number) (r .lines + 1))) (rw (ne-eqb (r .number) 0 (λ y. omega arith)) refl) ∙ judge-refused _ _)
+
+  module _ (z : r .number ≤ 0) where
+    none : r .number ≡ 0
+    none = omega arith
+
+    count : r .lines ≡ length (cut (take k b) .lines)
+    count = omega (arith, over-count opened 0 (cut (take k b) .lines) (r .state) (r .lines) (rw (eq-eqb (r .number) 0 none) at (j .run)))
+
+    left : cut (take k b) .rest ++ drop k b ≡ drop (r .at) b
+    left = rw (← j .rest none) (sym (drop-append-le (r .at) (take k b) (drop k b) (j .within)) ∙ ap (drop (r .at)) (take-append-drop k b))
+
+    pub header-going : judge headerStep headerEnd (going (r .state) (r .lines)) (drop (r .at) b) ≡ headerOf b
+    header-going = sym (whole (going (r .state) (r .lines)) (rw (eq-eqb (r .number) 0 none) refl) ∙ ap (judge headerStep headerEnd (going (r .state) (r .lines))) left)
+
+    pub at-most : r .at ≤ length b
+    at-most = omega (arith, j .within, length-take-le k b (f .within), f .within)
+
+    pub eleven-most : r .lines ≤ 11
+    eleven-most = omega (arith, count, f .few)
+
+    pub eleven : (e : ℕ) → e ≡ r .at + lineLen (drop (r .at) b) → e < length b → 11 ≤ r .lines
+    eleven e q h = ⊎-elim (λ l. omega (arith, count, f .full l)) (λ l. absurd (still l)) (below-or-not k (length b))
+      where
+        still : length b ≤ k → ⊥
+        still l =
+            let t : take k b ≡ b = take-all k b l in
+            let u : drop (r .at) b ≡ cut b .rest = rw t at (j .rest none) in
+            let o : length (drop (r .at) b) ≤ lineLen (drop (r .at) b) = rw u (rest-open b) in
+            omega (arith, length-drop (r .at) b)

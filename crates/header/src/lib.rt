@@ -5,8 +5,8 @@ ghost use Prim.Native.Nat.{_≤_};
 ghost use Rattle.judge.specs.Judge.{going};
 ghost use Rattle.line.specs.Line.{columns, lineFault};
 ghost use Rattle.header.specs.Header.{answer, pastNumber, headerEnd, headerOf};
+ghost use Rattle.header.specs.HeaderLaws.{FirstEleven};
 use walk::Due;
-use walk::Outcome;
 use walk::Place;
 use walk::State;
 
@@ -68,11 +68,28 @@ fn finish(s: State, lines: usize, rest: &[u8]) -> Header
     }
 }
 
+// The byte past the eleventh LF; where there are fewer, the length.
+fn past_eleven(header: &[u8]) -> usize
+    ensures { λ r. ⌜ FirstEleven (now (header .entry)) r ⌝ }
+{
+    let mut lines: usize = 0;
+    let mut at = 0;
+    while lines < 11 {
+        let end = line::find_end(header, at);
+        if header.len() <= end {
+            return header.len();
+        }
+        lines += 1;
+        at = end + 1;
+    }
+    at
+}
+
 // The header judged: eleven lines, no more and no fewer.
 pub fn judge_header(header: &[u8]) -> Header
     ensures { λ r. ⌜ r ≡ headerOf (now (header .entry)) ⌝ }
 {
-    let mut s = State {
+    let opened = State {
         place: Place::Typed(Due {
             kind: 0,
             at: 0,
@@ -82,24 +99,15 @@ pub fn judge_header(header: &[u8]) -> Header
         }),
         sets: 1,
     };
-    let mut lines = 0;
-    let mut at = 0;
-    let mut end = line::find_end(header, at);
-    while end < header.len() {
-        if 11 <= lines {
-            return refuse(past_fault(&header[at..end]), lines + 1);
-        }
-        match judge::line_step(s, &header[at..end]) {
-            Outcome::Next(next) => {
-                s = next;
-            }
-            Outcome::Refused(fault) => {
-                return refuse(fault.number, lines + 1);
-            }
-        }
-        lines += 1;
-        at = end + 1;
-        end = line::find_end(header, at);
+    let past = past_eleven(header);
+    let read = judge::judge_lines(opened, 0, &header[..past], 0);
+    if 0 < read.number {
+        return refuse(read.number, read.lines + 1);
     }
-    finish(s, lines, &header[at..])
+    let at = read.at;
+    let end = line::find_end(header, at);
+    if end < header.len() {
+        return refuse(past_fault(&header[at..end]), read.lines + 1);
+    }
+    finish(read.state, read.lines, &header[at..])
 }

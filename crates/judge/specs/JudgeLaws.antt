@@ -1,5 +1,5 @@
 -- The laws that the judge's loop needs.
-use mathlib.Core.Path.{_≡_, refl, sym, _∙_, ap}
+use mathlib.Core.Path.{_≡_, refl, sym, _∙_}
 use mathlib.Core.Bool.{true, false}
 use mathlib.Core.List.{List, [], _∷_}
 use Prim.Native.Nat.{ℕ, zero, suc, _+_, _-_, _≤_, _<_}
@@ -7,19 +7,18 @@ use native.Mathlib.Omega.{arith}
 use mathlib.Core.Logic.{⊎-elim}
 use borrow.Author.Tests.{ne-eqb, lt-ltb}
 use Rattle.laws.specs.Choice.{below-or-not}
-use lib.ListN.{length, take, drop}
-use Rattle.laws.specs.Cut.{lineLen, cut, over, judge, judge-at}
+use lib.ListN.{length, take}
+use Rattle.laws.specs.Cut.{over}
 use Rattle.line.specs.Line.{columns, lineFault, filled}
 use Rattle.line.specs.LineLaws.{columns-take}
 use Rattle.line.specs.declared.Refusal.{Refusal}
 use Rattle.walk.specs.declared.Place.{Place}
 use Rattle.walk.specs.declared.Place.the-variants.{Outside}
 use Rattle.walk.specs.declared.State.{State}
-use Rattle.walk.specs.declared.Outcome.{Outcome}
-use Rattle.walk.specs.declared.Outcome.the-variants.{Next, Refused}
+use Rattle.walk.specs.declared.Outcome.the-variants.{Refused}
 use Rattle.walk.specs.Step.{stepOf}
 use Rattle.judge.specs.declared.Reply.{Reply}
-use Rattle.judge.specs.Judge.{reply, lineOutcome, lineStep, Run, going, refused, onOutcome, runStep, atEnd, runEnd, judged}
+use Rattle.judge.specs.Judge.{reply, lineOutcome, lineStep, going, refused, runStep, atEnd, runEnd, judged}
 
 own-first : (s : State) (f : Refusal) (cs : List ℕ) → 0 < f .number → lineOutcome s f cs ≡ Refused f
 own-first s f cs p = go (f .number) refl p
@@ -66,25 +65,6 @@ pub over-refused : (r : Reply) (ls : List (List ℕ)) → over runStep runEnd (r
 unfolding over
 over-refused r [] = refl
 over-refused r (l ∷ ls) = over-refused r ls
-
-judge-refused : (r : Reply) (bytes : List ℕ) → judge runStep runEnd (refused r) bytes ≡ r
-unfolding judge
-judge-refused r bytes = ap (λ (x : Run). runEnd x (cut bytes .rest)) (over-refused r (cut bytes .lines))
-
--- one turn of the loop over lines: from the place at on, the line that ends at e
-module _ (s : State) (n : ℕ) (l : List ℕ) (at e : ℕ) (a : at ≤ length l) (q : e ≡ at + lineLen (drop at l)) (h : e < length l) where
-  turn : judge runStep runEnd (going s n) (drop at l)
-      ≡ judge runStep runEnd (onOutcome n (lineStep s (take (e - at) (drop at l)))) (drop (e + 1) l)
-  turn = judge-at runStep runEnd (going s n) l at e a q h
-
-  pub judge-next : (o : Outcome) (t : State) → o ≡ lineStep s (take (e - at) (drop at l)) → o ≡ Next t
-      → judge runStep runEnd (going s n) (drop at l) ≡ judge runStep runEnd (going t (n + 1)) (drop (e + 1) l)
-  judge-next o t p u = turn ∙ ap (λ (x : Outcome). judge runStep runEnd (onOutcome n x) (drop (e + 1) l)) (sym p ∙ u)
-
-  pub judge-stops : (o : Outcome) (f : Refusal) → o ≡ lineStep s (take (e - at) (drop at l)) → o ≡ Refused f
-      → judge runStep runEnd (going s n) (drop at l) ≡ reply (f .number) (n + 1)
-  judge-stops o f p u =
-      turn ∙ ap (λ (x : Outcome). judge runStep runEnd (onOutcome n x) (drop (e + 1) l)) (sym p ∙ u) ∙ judge-refused _ _
 
 -- an accepted file is not too long
 pub judged-short : (bytes : List ℕ) → judged bytes .number ≤ 0 → length bytes ≤ 16777216

@@ -1,3 +1,5 @@
 pub mod Judge
 pub mod JudgeLaws
+pub mod Lines
+pub mod LinesLaws
 pub mod RefusalLaws

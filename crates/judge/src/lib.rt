@@ -1,7 +1,9 @@
 // The judge: a whole file, number and place.
 ghost use mathlib.Core.Path.{_≡_};
-ghost use Prim.Native.Nat.{_+_, _≤_};
+ghost use Prim.Native.Nat.{_+_, _-_, _≤_};
+ghost use lib.ListN.{length};
 ghost use Rattle.judge.specs.Judge.{judged, reply, lineStep, going, runEnd};
+ghost use Rattle.judge.specs.Lines.{LinesJudged};
 use line::Refusal;
 use walk::Outcome;
 use walk::Place;
@@ -11,6 +13,15 @@ use walk::State;
 pub struct Reply {
     pub number: u8,
     pub place: usize,
+}
+
+// How far finished lines are judged: while `number` is 0, the state after `lines` of them and the byte where the rest begins; otherwise
+// line `lines` + 1 is refused with that number.
+pub struct Lines {
+    pub state: State,
+    pub lines: usize,
+    pub number: u8,
+    pub at: usize,
 }
 
 // The step of a line that has its LF, by the bytes before it: its own refusals first, then those of its place.
@@ -26,6 +37,41 @@ pub fn line_step(s: State, line: &[u8]) -> Outcome
     let mut row = [32u8; 80];
     line::fill_line(&mut row, columns);
     walk::step(s, &row)
+}
+
+// The finished lines of the bytes from `at` on, after `lines` others.
+pub fn judge_lines(state: State, lines: usize, bytes: &[u8], at: usize) -> Lines
+    requires { ⌜ (at ≤ length (now bytes)) × (lines + (length (now bytes) - at) ≤ 18446744073709551615) ⌝ }
+    ensures { λ r. ⌜ LinesJudged state lines (now (bytes .entry)) at r ⌝ }
+{
+    let mut s = state;
+    let mut n = lines;
+    let mut from = at;
+    let mut end = line::find_end(bytes, from);
+    while end < bytes.len() {
+        match line_step(s, &bytes[from..end]) {
+            Outcome::Next(next) => {
+                s = next;
+            }
+            Outcome::Refused(fault) => {
+                return Lines {
+                    state: s,
+                    lines: n,
+                    number: fault.number,
+                    at: from,
+                };
+            }
+        }
+        n += 1;
+        from = end + 1;
+        end = line::find_end(bytes, from);
+    }
+    Lines {
+        state: s,
+        lines: n,
+        number: 0,
+        at: from,
+    }
 }
 
 // A file that ends inside a set: 7, past its lines.
@@ -81,28 +127,17 @@ pub fn judge(file: &[u8]) -> Reply
             place: 0,
         };
     }
-    let mut s = State {
+    let start = State {
         place: Place::Outside,
         sets: 0,
     };
-    let mut lines = 0;
-    let mut at = 0;
-    let mut end = line::find_end(file, at);
-    while end < file.len() {
-        match line_step(s, &file[at..end]) {
-            Outcome::Next(next) => {
-                s = next;
-            }
-            Outcome::Refused(fault) => {
-                return Reply {
-                    number: fault.number,
-                    place: lines + 1,
-                };
-            }
-        }
-        lines += 1;
-        at = end + 1;
-        end = line::find_end(file, at);
+    let read = judge_lines(start, 0, file, 0);
+    if 0 < read.number {
+        return Reply {
+            number: read.number,
+            place: read.lines + 1,
+        };
     }
-    finish(s, lines, &file[at..])
+    let at = read.at;
+    finish(read.state, read.lines, &file[at..])
 }

@@ -8,24 +8,21 @@ use native.Mathlib.Numerals.{add-one}
 use native.Mathlib.Omega.{arith}
 use borrow.Author.Tests.{ltb-false, lt-ltb, le-ltb, eq-eqb, ne-eqb, eqb-false}
 use lib.Dec.{ltb, eqb}
-use lib.ListN.{length, getD, take, drop, set, length-append, length-take, length-drop, length-set, drop-of-length-le, List·getD-eq-default}
-use lib.Seq.{drop-cons, drop-drop, take-all, take-take, take-append-add, drop-append-add, length-take-le, take-suc-set}
+use lib.ListN.{length, getD, take, drop, set, length-append, length-take, length-set, drop-of-length-le, List·getD-eq-default}
+use lib.Seq.{drop-cons, take-all, take-take, take-append-add, drop-append-add, length-take-le, take-suc, take-suc-set}
 use Rattle.laws.specs.Choice.{pick, below-or-not, false-not-true}
 use Rattle.laws.specs.Cut.{text, onto, cut, lineLen, cut-line, cut-open, over}
 use Rattle.line.specs.Line.{isAllowed}
 use Rattle.line.specs.LineLaws.{lineLen-most}
-use Rattle.line.specs.declared.Refusal.{Refusal}
 use Rattle.walk.specs.declared.State.{State}
-use Rattle.walk.specs.declared.Outcome.{Outcome}
-use Rattle.walk.specs.declared.Outcome.the-variants.{Next, Refused}
-use Rattle.walk.specs.Due.{after}
 use Rattle.walk.specs.Step.{state}
-use Rattle.judge.specs.declared.Reply.{Reply}
 use Rattle.judge.specs.Judge.{reply, lineStep, Run, going, refused, onOutcome, runStep, runEnd}
+use Rattle.judge.specs.declared.Reply.{Reply}
+use Rattle.judge.specs.declared.Lines.{Lines}
+use Rattle.judge.specs.Lines.{runOf, LinesJudged}
 use Rattle.judge.specs.JudgeLaws.{over-refused}
-use Rattle.judge.specs.RefusalLaws.{refusal-sure}
+use Rattle.judge.specs.LinesLaws.{one-run, one-more}
 use Rattle.stream.specs.declared.Stream.{Stream}
-use Rattle.stream.specs.declared.Lines.{Lines}
 use Rattle.stream.specs.Stream.{push, pushAll, squeezed, Seen, inLimit, past, kept, stepOf, isPast, openLen, openOf, seen, Stepped, closed}
 use Rattle.stream.specs.SqueezeLaws.{push-append, squeezed-again, run-squeezed}
 
@@ -51,16 +48,10 @@ pub record Running (c : Stream) (m r : ℕ) : Type 0 where
   pub beyond : 16777216 < r → (isPast c ≡ true) ⊎ (16777216 < c .total + m)
   pub stops : 16777216 < r → r ≡ 16777217
 
--- a run, from the fields of a record
-abbrev pub runOf : State → ℕ → ℕ → Run
-runOf s n k = pick (eqb k 0) (going s n) (refused (reply k (n + 1)))
-
--- the finished lines of the bytes from a place on, after n others
-pub record LinesJudged (s : State) (n : ℕ) (b : List ℕ) (at : ℕ) (r : Lines) : Type 0 where
-  pub run : runOf (r .state) (r .lines) (r .number) ≡ over runStep runEnd (going s n) (cut (drop at b) .lines)
-  pub rest : r .number ≡ 0 → drop (r .at) b ≡ cut (drop at b) .rest
-  pub within : r .at ≤ length b
-  pub few : r .lines ≤ n + (length b - at)
+-- the open line judged when its LF comes, after n others
+pub record OpenJudged (s : State) (n : ℕ) (l : List ℕ) (r : Lines) : Type 0 where
+  pub run : runOf (r .state) (r .lines) (r .number) ≡ onOutcome n (lineStep s l)
+  pub few : r .lines ≤ n + 1
 
 -- bytes with no LF among them
 abbrev pub Open : List ℕ → Type 0
@@ -155,12 +146,12 @@ module _ (s : State) (n : ℕ) (q b : List ℕ) (total : ℕ) (o : Open q) (shor
         rw (cut-first q b o h, ← squeezed-more q (take (lineLen b) b) short)
         (ap (λ (x : Run). kept (over runStep runEnd x (cut (drop (lineLen b + 1) b) .lines)) (cut (drop (lineLen b + 1) b) .rest) total) (sym (run-squeezed (going s n) (q ++ take (lineLen b) b))))
 
-    judged-next : (t : State) → lineStep s (pushAll q (take (lineLen b) b)) ≡ Next t → judgedOn s n (q ++ b) total ≡ judgedOn t (n + 1) (drop (lineLen b + 1) b) total
+    judged-next : (t : State) (m : ℕ) → going t m ≡ onOutcome n (lineStep s (pushAll q (take (lineLen b) b))) → judgedOn s n (q ++ b) total ≡ judgedOn t m (drop (lineLen b + 1) b) total
     unfolding judgedOn
-    judged-next t e = first-line ∙ rw e refl
+    judged-next t m e = first-line ∙ rw (← e) refl
 
-    judged-stops : (f : Refusal) → lineStep s (pushAll q (take (lineLen b) b)) ≡ Refused f → judgedOn s n (q ++ b) total ≡ inLimit (refused (reply (f .number) (n + 1))) [] total
-    judged-stops f e = first-line ∙ rw (e, over-refused (reply (f .number) (n + 1)) (cut (drop (lineLen b + 1) b) .lines)) refl
+    judged-stops : (r : Reply) → refused r ≡ onOutcome n (lineStep s (pushAll q (take (lineLen b) b))) → judgedOn s n (q ++ b) total ≡ inLimit (refused r) [] total
+    judged-stops r e = first-line ∙ rw (← e, over-refused r (cut (drop (lineLen b + 1) b) .lines)) refl
 
 -- the open bytes of a record
 pub clip-most : (h : ℕ) → pick (ltb 82 h) 82 h ≤ 82
@@ -243,16 +234,20 @@ module _ (c : Stream) (b : List ℕ) (total : ℕ) (few : c .lines + length b �
       made-going (c .state) (c .lines) total p h limit (omega arith) _ m pushed (rw at (pushAll-open (openOf c) (take (lineLen b) b) (open-open c) (line-open b))) ∙
       rw all (sym (judged-still (c .state) (c .lines) (openOf c) b total (open-open c) (open-short c) (rw at at l)))
 
-  pub burst-next : e < length b → (o : Outcome) (t : State) → o ≡ lineStep (c .state) (take h p) → o ≡ Next t
-      → judgedOn t (c .lines + 1) (drop (e + 1) b) total ≡ judgedOn (c .state) (c .lines) (openOf c ++ b) total
-  burst-next l o t q u =
-      rw at (sym (judged-next (c .state) (c .lines) (openOf c) b total (open-open c) (open-short c) (rw at at l) t (rw (← at, ← pushed) (sym q ∙ u))))
+  pub first-open : length (take h p) ≤ lineLen (take h p)
+  first-open = omega (arith, open-len (take h p) (rw (pushed, at) (pushAll-open (openOf c) (take (lineLen b) b) (open-open c) (line-open b))))
 
-  pub burst-stops : e < length b → (o : Outcome) (f : Refusal) (p′ : List ℕ) → o ≡ lineStep (c .state) (take h p) → o ≡ Refused f
-      → seen (made (c .state) (c .lines) (f .number) total p′ 0) ≡ judgedOn (c .state) (c .lines) (openOf c ++ b) total
-  burst-stops l o f p′ q u =
-      made-refused (c .state) (c .lines) total p′ 0 limit (omega arith) (f .number) (refusal-sure (c .state) (take h p) f (sym q ∙ u)) ∙
-      sym (judged-stops (c .state) (c .lines) (openOf c) b total (open-open c) (open-short c) (rw at at l) f (rw (← at, ← pushed) (sym q ∙ u)))
+  module _ (l : e < length b) (r : Lines) (j : OpenJudged (c .state) (c .lines) (take h p) r) where
+    pub burst-next : r .number ≤ 0 → judgedOn (r .state) (r .lines) (drop (e + 1) b) total ≡ judgedOn (c .state) (c .lines) (openOf c ++ b) total
+    burst-next z =
+        let g : going (r .state) (r .lines) ≡ onOutcome (c .lines) (lineStep (c .state) (take h p)) = rw (eq-eqb (r .number) 0 (omega arith)) at (j .run) in
+        rw at (sym (judged-next (c .state) (c .lines) (openOf c) b total (open-open c) (open-short c) (rw at at l) (r .state) (r .lines) (rw (← at, ← pushed) g)))
+
+    pub burst-stops : (p′ : List ℕ) → 0 < r .number → seen (made (r .state) (r .lines) (r .number) total p′ 0) ≡ judgedOn (c .state) (c .lines) (openOf c ++ b) total
+    burst-stops p′ z =
+        let g : refused (reply (r .number) (r .lines + 1)) ≡ onOutcome (c .lines) (lineStep (c .state) (take h p)) = rw (ne-eqb (r .number) 0 (λ y. omega arith)) at (j .run) in
+        made-refused (r .state) (r .lines) total p′ 0 limit (omega (arith, j .few)) (r .number) z ∙
+        sym (judged-stops (c .state) (c .lines) (openOf c) b total (open-open c) (open-short c) (rw at at l) (reply (r .number) (r .lines + 1)) (rw (← at, ← pushed) g))
 
 -- the lines of a burst from a place on
 module _ (s : State) (n : ℕ) (b : List ℕ) (at total : ℕ) (within : at ≤ length b) (few : n + (length b - at) ≤ total) (limit : total ≤ 16777216) (r : Lines) (j : LinesJudged s n b at r) where
@@ -303,54 +298,18 @@ pub pushAll-done : (q l : List ℕ) (i : ℕ) → length l ≤ i → pushAll q (
 unfolding pushAll
 pushAll-done q l i h = rw drop-of-length-le
 
--- a loop over the finished lines of bytes: the line from one place to an LF, and the end
-module _ (b : List ℕ) (from e : ℕ) (a : from ≤ length b) (q : e ≡ from + lineLen (drop from b)) where
-  module _ (h : e < length b) where
-    cut-next : cut (drop from b) ≡ text (take (e - from) (drop from b) ∷ cut (drop (e + 1) b) .lines) (cut (drop (e + 1) b) .rest)
-    cut-next =
-        let n : lineLen (drop from b) ≡ e - from = omega arith in
-        let k : from + (e - from + 1) ≡ e + 1 = omega arith in
-        cut-line (drop from b) (simp length-drop (omega arith)) ∙ rw (n, drop-drop, k) refl
+-- a loop that copies a line, and the LF after it
+module _ (l m : List ℕ) (n : ℕ) (room : n < length m) (same : take n m ≡ take n l) where
+  pub copied-next : n < length l → take (n + 1) (set m n (getD l n 0)) ≡ take (n + 1) l
+  copied-next h = rw (add-one, take-suc-set m n (getD l n 0) room, take-suc l n 0 h, same) refl
 
-    pub rest-next : cut (drop (e + 1) b) .rest ≡ cut (drop from b) .rest
-    rest-next = rw cut-next refl
+  copied-end : length l ≤ n → take (n + 1) (set m n 10) ≡ l ++ (10 ∷ [])
+  copied-end h = rw (add-one, take-suc-set m n 10 room, same, take-all n l h) refl
 
-    module _ (s : State) (n : ℕ) (o : Outcome) (p : o ≡ lineStep s (take (e - from) (drop from b))) where
-      turn : (x : Outcome) → o ≡ x → over runStep runEnd (going s n) (cut (drop from b) .lines) ≡ over runStep runEnd (onOutcome n x) (cut (drop (e + 1) b) .lines)
-      unfolding over
-      turn x u = rw cut-next (ap (λ (y : Outcome). over runStep runEnd (onOutcome n y) (cut (drop (e + 1) b) .lines)) (sym p ∙ u))
-
-      pub lines-next : (t : State) → o ≡ Next t → over runStep runEnd (going t (n + 1)) (cut (drop (e + 1) b) .lines) ≡ over runStep runEnd (going s n) (cut (drop from b) .lines)
-      lines-next t u = sym (turn (Next t) u)
-
-      lines-stop : (f : Refusal) → o ≡ Refused f → refused (reply (f .number) (n + 1)) ≡ over runStep runEnd (going s n) (cut (drop from b) .lines)
-      lines-stop f u = sym (turn (Refused f) u ∙ over-refused (reply (f .number) (n + 1)) (cut (drop (e + 1) b) .lines))
-
-  cut-last : length b ≤ e → cut (drop from b) ≡ text [] (drop from b)
-  cut-last h = cut-open (drop from b) (simp length-drop (omega arith))
-
-  module _ (s₀ : State) (n₀ at : ℕ) (w : at ≤ length b) (s : State) (n : ℕ) (few : n + at ≤ n₀ + from)
-      (run : over runStep runEnd (going s n) (cut (drop from b) .lines) ≡ over runStep runEnd (going s₀ n₀) (cut (drop at b) .lines)) where
-    pub judged-to-stop : e < length b → (o : Outcome) → o ≡ lineStep s (take (e - from) (drop from b)) → (f : Refusal) → o ≡ Refused f
-        → LinesJudged s₀ n₀ b at (record { state = s; lines = n; number = f .number; at = from })
-    judged-to-stop h o p f u =
-        let z : 0 < f .number = refusal-sure s (take (e - from) (drop from b)) f (sym p ∙ u) in
-        record {
-          run = rw (ne-eqb (f .number) 0 (λ y. omega arith)) (lines-stop h s n o p f u ∙ run);
-          rest = λ y. absurd (omega arith);
-          within = a;
-          few = omega arith;
-        }
-
-    pub judged-to-end : length b ≤ e → cut (drop from b) .rest ≡ cut (drop at b) .rest → LinesJudged s₀ n₀ b at (record { state = s; lines = n; number = 0; at = from })
-    unfolding over
-    judged-to-end h rest =
-        record {
-          run = sym (rw (cut-last h) refl) ∙ run;
-          rest = λ y. sym (rw (cut-last h) refl) ∙ rest;
-          within = a;
-          few = omega arith;
-        }
+  pub open-judged : (s : State) (k : ℕ) (r : Lines) → length l ≤ n → length l ≤ lineLen l → LinesJudged s k (take (n + 1) (set m n 10)) 0 r → OpenJudged s k l r
+  open-judged s k r h o j =
+      let j′ : LinesJudged s k (l ++ (10 ∷ [])) 0 r = rw (copied-end h) at j in
+      record { run = one-run s k l o r j′; few = one-more s k l o r j′ }
 
 -- the step of a record, by what it says
 module _ (c : Stream) (b : List ℕ) where

@@ -10,9 +10,9 @@ ghost use Rattle.laws.specs.Cut.{lineLen};
 ghost use Rattle.judge.specs.Judge.{going};
 ghost use Rattle.walk.specs.Step.{start};
 ghost use Rattle.stream.specs.Stream.{push, pushAll, inLimit, isPast, openLen, openOf, seen, Stepped, answerOf, endReply, closed};
-ghost use Rattle.stream.specs.StreamLaws.{LinesJudged, Running, atTotal, judgedOn};
+ghost use Rattle.stream.specs.StreamLaws.{OpenJudged, Running, atTotal, judgedOn};
+use judge::Lines;
 use judge::Reply;
-use walk::Outcome;
 use walk::Place;
 use walk::State;
 
@@ -33,15 +33,6 @@ pub struct Stream {
 pub enum Answer {
     SoFar(usize),
     Refused(u8, usize),
-}
-
-// How far finished lines are judged: while `number` is 0, the state after `lines` of them and the byte where the rest begins; otherwise
-// line `lines` + 1 is refused with that number.
-struct Lines {
-    state: State,
-    lines: usize,
-    number: u8,
-    at: usize,
 }
 
 // A record that starts a new file.
@@ -93,41 +84,6 @@ fn push_all(line: &mut [u8; 82], held: usize, bytes: &[u8]) -> usize
         i += 1;
     }
     n
-}
-
-// The finished lines of the bytes from `at` on, after `lines` others.
-fn judge_lines(state: State, lines: usize, bytes: &[u8], at: usize) -> Lines
-    requires { ⌜ (at ≤ length (now bytes)) × (lines + (length (now bytes) - at) ≤ 16777216) ⌝ }
-    ensures { λ r. ⌜ LinesJudged state lines (now (bytes .entry)) at r ⌝ }
-{
-    let mut s = state;
-    let mut n = lines;
-    let mut from = at;
-    let mut end = line::find_end(bytes, from);
-    while end < bytes.len() {
-        match judge::line_step(s, &bytes[from..end]) {
-            Outcome::Next(next) => {
-                s = next;
-            }
-            Outcome::Refused(fault) => {
-                return Lines {
-                    state: s,
-                    lines: n,
-                    number: fault.number,
-                    at: from,
-                };
-            }
-        }
-        n += 1;
-        from = end + 1;
-        end = line::find_end(bytes, from);
-    }
-    Lines {
-        state: s,
-        lines: n,
-        number: 0,
-        at: from,
-    }
 }
 
 // The number, or 82 where it is more.
@@ -200,7 +156,7 @@ fn lines_step(state: State, lines: usize, burst: &[u8], at: usize, total: usize)
     requires { ⌜ (at ≤ length (now burst)) × ((lines + (length (now burst) - at) ≤ total) × (total ≤ 16777216)) ⌝ }
     ensures { λ r. ⌜ (seen r ≡ judgedOn state lines (drop at (now (burst .entry))) total) × (r .ended ≡ false) ⌝ }
 {
-    let judged = judge_lines(state, lines, burst, at);
+    let judged = judge::judge_lines(state, lines, burst, at);
     let mut line = [0u8; 82];
     let from = judged.at;
     let last = judged.state;
@@ -227,6 +183,21 @@ fn lines_step(state: State, lines: usize, burst: &[u8], at: usize, total: usize)
     }
 }
 
+// The open line when its LF comes, after `lines` others.
+fn judge_open(state: State, lines: usize, line: &[u8]) -> Lines
+    requires { ⌜ (lines ≤ 16777216) × ((length (now line) ≤ 82) × (length (now line) ≤ lineLen (now line))) ⌝ }
+    ensures { λ r. ⌜ OpenJudged state lines (now (line .entry)) r ⌝ }
+{
+    let mut ended = [0u8; 83];
+    let mut n = 0;
+    while n < line.len() {
+        ended[n] = line[n];
+        n += 1;
+    }
+    ended[n] = 10;
+    judge::judge_lines(state, lines, &ended[..n + 1], 0)
+}
+
 // A record that is neither past the limit nor refused, a burst further.
 fn open_step(c: Stream, burst: &[u8], total: usize) -> Stream
     requires { ⌜ (c .lines + length (now burst) ≤ total) × (total ≤ 16777216) ⌝ }
@@ -247,18 +218,20 @@ fn open_step(c: Stream, burst: &[u8], total: usize) -> Stream
             ended: false,
         };
     }
-    match judge::line_step(state, &line[..held]) {
-        Outcome::Next(next) => lines_step(next, c.lines + 1, burst, end + 1, total),
-        Outcome::Refused(fault) => Stream {
-            state,
-            lines: c.lines,
-            number: fault.number,
+    let first = judge_open(state, c.lines, &line[..held]);
+    let next = first.state;
+    if 0 < first.number {
+        return Stream {
+            state: next,
+            lines: first.lines,
+            number: first.number,
             total,
             pending: line,
             held: 0,
             ended: false,
-        },
+        };
     }
+    lines_step(next, first.lines, burst, end + 1, total)
 }
 
 // A record brought up to date by a burst, by value. After the end was asked it stays as it is.

@@ -1,7 +1,6 @@
 -- `header::finish` meets its contract.
 use mathlib.Core.Path.{_∙_}
 use Rattle.header.specs.HeaderLaws.{end-rest, end-few, end-place}
-use native.Mathlib.Omega.{arith}
 use borrow.Author.Needs.{needs}
 use Rattle.header.proofs.finish.Statement.{statement}
 use Rattle.header.proofs.finish.Tie as tie

@@ -3,7 +3,6 @@ use mathlib.Core.Path.{sym}
 use lib.Seq.{length-take-le}
 use Rattle.line.specs.LineLaws.{columns-within}
 use Rattle.header.specs.HeaderLaws.{past-fault, past-eight}
-use native.Mathlib.Omega.{arith}
 use borrow.Author.Needs.{needs}
 use Rattle.header.proofs.past_fault.Statement.{statement}
 use Rattle.header.proofs.past_fault.Tie as tie

@@ -1,14 +1,14 @@
--- `stream::judge_lines` meets its contract.
+-- `judge::judge_lines` meets its contract.
 use mathlib.Core.Path.{_≡_, refl, _∙_}
 use Prim.Native.Nat.{_≤_, _+_, _-_}
 use lib.ListN.{length, drop}
 use Rattle.laws.specs.Cut.{lineLen, cut, over}
 use Rattle.line.specs.LineLaws.{lineLen-within}
 use Rattle.judge.specs.Judge.{going, runStep, runEnd}
-use Rattle.stream.specs.StreamLaws.{lines-next, rest-next, judged-to-stop, judged-to-end}
+use Rattle.judge.specs.LinesLaws.{lines-next, rest-next, judged-to-stop, judged-to-end}
 use borrow.Author.Needs.{needs}
-use Rattle.stream.proofs.judge_lines.Statement.{statement}
-use Rattle.stream.proofs.judge_lines.Tie as tie
+use Rattle.judge.proofs.judge_lines.Statement.{statement}
+use Rattle.judge.proofs.judge_lines.Tie as tie
 
 abbrev Inv-loop : tie.InvT-loop
 Inv-loop lines bytes at s₀ n₀ from₀ end₀ s n from end = (from ≤ length bytes) × ((end ≡ from + lineLen (drop from bytes)) × ((end ≤ length bytes) × ((n + at ≤ lines + from) × ((over runStep runEnd (going s n) (cut (drop from bytes) .lines) ≡ over runStep runEnd (going s₀ lines) (cut (drop at bytes) .lines)) × (cut (drop from bytes) .rest ≡ cut (drop at bytes) .rest)))))

@@ -1,0 +1,116 @@
+-- The laws that the loop over lines needs, and what its answer says of a whole file.
+use mathlib.Core.Path.{_≡_, refl, sym, ap, _∙_}
+use mathlib.Core.Bool.{Bool, true, false}
+use mathlib.Core.List.{List, [], _∷_, _++_}
+use Prim.Native.Nat.{ℕ, _+_, _-_, _≤_, _<_}
+use native.Mathlib.Nat.{not-suc-le-zero, le-of-suc-le-suc}
+use native.Mathlib.Omega.{arith}
+use borrow.Author.Tests.{eq-eqb, ne-eqb}
+use lib.Dec.{eqb}
+use lib.ListN.{length, take, drop, length-drop}
+use lib.Seq.{drop-drop}
+use Rattle.laws.specs.Choice.{pick}
+use Rattle.laws.specs.Cut.{text, cut, lineLen, cut-line, cut-open, over, judge}
+use Rattle.line.specs.declared.Refusal.{Refusal}
+use Rattle.walk.specs.declared.State.{State}
+use Rattle.walk.specs.declared.Outcome.{Outcome}
+use Rattle.walk.specs.declared.Outcome.the-variants.{Next, Refused}
+use Rattle.judge.specs.declared.Lines.{Lines}
+use Rattle.judge.specs.Judge.{reply, lineStep, Run, going, refused, onOutcome, runStep, runEnd}
+use Rattle.judge.specs.Lines.{runOf, LinesJudged}
+use Rattle.judge.specs.JudgeLaws.{over-refused}
+use Rattle.judge.specs.RefusalLaws.{refusal-sure}
+
+-- a loop over the finished lines of bytes: the line from one place to an LF, and the end
+module _ (b : List ℕ) (from e : ℕ) (a : from ≤ length b) (q : e ≡ from + lineLen (drop from b)) where
+  module _ (h : e < length b) where
+    cut-next : cut (drop from b) ≡ text (take (e - from) (drop from b) ∷ cut (drop (e + 1) b) .lines) (cut (drop (e + 1) b) .rest)
+    cut-next =
+        let n : lineLen (drop from b) ≡ e - from = omega arith in
+        let k : from + (e - from + 1) ≡ e + 1 = omega arith in
+        cut-line (drop from b) (simp length-drop (omega arith)) ∙ rw (n, drop-drop, k) refl
+
+    pub rest-next : cut (drop (e + 1) b) .rest ≡ cut (drop from b) .rest
+    rest-next = rw cut-next refl
+
+    module _ (s : State) (n : ℕ) (o : Outcome) (p : o ≡ lineStep s (take (e - from) (drop from b))) where
+      turn : (x : Outcome) → o ≡ x → over runStep runEnd (going s n) (cut (drop from b) .lines) ≡ over runStep runEnd (onOutcome n x) (cut (drop (e + 1) b) .lines)
+      unfolding over
+      turn x u = rw cut-next (ap (λ (y : Outcome). over runStep runEnd (onOutcome n y) (cut (drop (e + 1) b) .lines)) (sym p ∙ u))
+
+      pub lines-next : (t : State) → o ≡ Next t → over runStep runEnd (going t (n + 1)) (cut (drop (e + 1) b) .lines) ≡ over runStep runEnd (going s n) (cut (drop from b) .lines)
+      lines-next t u = sym (turn (Next t) u)
+
+      lines-stop : (f : Refusal) → o ≡ Refused f → refused (reply (f .number) (n + 1)) ≡ over runStep runEnd (going s n) (cut (drop from b) .lines)
+      lines-stop f u = sym (turn (Refused f) u ∙ over-refused (reply (f .number) (n + 1)) (cut (drop (e + 1) b) .lines))
+
+  cut-last : length b ≤ e → cut (drop from b) ≡ text [] (drop from b)
+  cut-last h = cut-open (drop from b) (simp length-drop (omega arith))
+
+  module _ (s₀ : State) (n₀ at : ℕ) (w : at ≤ length b) (s : State) (n : ℕ) (few : n + at ≤ n₀ + from)
+      (run : over runStep runEnd (going s n) (cut (drop from b) .lines) ≡ over runStep runEnd (going s₀ n₀) (cut (drop at b) .lines)) where
+    pub judged-to-stop : e < length b → (o : Outcome) → o ≡ lineStep s (take (e - from) (drop from b)) → (f : Refusal) → o ≡ Refused f
+        → LinesJudged s₀ n₀ b at (record { state = s; lines = n; number = f .number; at = from })
+    judged-to-stop h o p f u =
+        let z : 0 < f .number = refusal-sure s (take (e - from) (drop from b)) f (sym p ∙ u) in
+        record {
+          run = rw (ne-eqb (f .number) 0 (λ y. omega arith)) (lines-stop h s n o p f u ∙ run);
+          rest = λ y. absurd (omega arith);
+          within = a;
+          few = omega arith;
+          fewer = λ y. omega arith;
+        }
+
+    pub judged-to-end : length b ≤ e → cut (drop from b) .rest ≡ cut (drop at b) .rest → LinesJudged s₀ n₀ b at (record { state = s; lines = n; number = 0; at = from })
+    unfolding over
+    judged-to-end h rest =
+        record {
+          run = sym (rw (cut-last h) refl) ∙ run;
+          rest = λ y. sym (rw (cut-last h) refl) ∙ rest;
+          within = a;
+          few = omega arith;
+          fewer = λ y. absurd (omega arith);
+        }
+
+-- the whole of the bytes, from their finished lines judged
+module _ (s : State) (n : ℕ) (b : List ℕ) (r : Lines) (j : LinesJudged s n b 0 r) where
+  pub whole-refused : 0 < r .number → reply (r .number) (r .lines + 1) ≡ judge runStep runEnd (going s n) b
+  unfolding judge
+  whole-refused z =
+      let e : refused (reply (r .number) (r .lines + 1)) ≡ over runStep runEnd (going s n) (cut b .lines) = rw (ne-eqb (r .number) 0 (λ y. omega arith)) at (j .run) in
+      ap (λ (x : Run). runEnd x (cut b .rest)) e
+
+  pub whole-going : r .number ≤ 0 → runEnd (going (r .state) (r .lines)) (drop (r .at) b) ≡ judge runStep runEnd (going s n) b
+  unfolding judge
+  whole-going z =
+      let z′ : r .number ≡ 0 = omega arith in
+      let e : going (r .state) (r .lines) ≡ over runStep runEnd (going s n) (cut b .lines) = rw (eq-eqb (r .number) 0 z′) at (j .run) in
+      rw (j .rest z′) (ap (λ (x : Run). runEnd x (cut b .rest)) e)
+
+-- bytes with no LF among them, and an LF: one line
+line-ended : (l : List ℕ) → length l ≤ lineLen l → cut (l ++ (10 ∷ [])) ≡ text (l ∷ []) []
+unfolding cut lineLen
+line-ended [] h = refl
+line-ended (b ∷ l) h = go (eqb b 10) refl (λ k. line-ended l k)
+  where
+    go : (t : Bool) → eqb b 10 ≡ t → (length l ≤ lineLen l → cut (l ++ (10 ∷ [])) ≡ text (l ∷ []) []) → cut (b ∷ (l ++ (10 ∷ []))) ≡ text ((b ∷ l) ∷ []) []
+    go true e ih = absurd (not-suc-le-zero (simp e at h))
+    go false e ih = simp e (rw (ih (le-of-suc-le-suc (simp e at h))) refl)
+
+abbrev linesOf : Run → ℕ
+linesOf (going s n) = n
+linesOf (refused r) = r .place
+
+module _ (s : State) (n : ℕ) (l : List ℕ) (q : length l ≤ lineLen l) (r : Lines) (j : LinesJudged s n (l ++ (10 ∷ [])) 0 r) where
+  pub one-run : runOf (r .state) (r .lines) (r .number) ≡ onOutcome n (lineStep s l)
+  unfolding over
+  one-run = j .run ∙ rw (line-ended l q) refl
+
+  pub one-more : r .lines ≤ n + 1
+  one-more = go (eqb (r .number) 0) (lineStep s l) one-run
+    where
+      go : (t : Bool) (o : Outcome) → pick t (going (r .state) (r .lines)) (refused (reply (r .number) (r .lines + 1))) ≡ onOutcome n o → r .lines ≤ n + 1
+      go true (Next t) e = omega (arith, ap linesOf e)
+      go true (Refused f) e = omega (arith, ap linesOf e)
+      go false (Next t) e = omega (arith, ap linesOf e)
+      go false (Refused f) e = omega (arith, ap linesOf e)
