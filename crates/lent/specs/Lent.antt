@@ -4,17 +4,17 @@ use mathlib.Core.Bool.{Bool, true, false, not, _||_}
 use mathlib.Core.List.{List, [], _∷_, _++_}
 use Prim.Native.Nat.{ℕ, _%_, _<_}
 use lib.Dec.{ltb, eqb}
-use lib.ListN.{length, getD, take, drop, set, replicate}
+use lib.ListN.{length, getD, take, drop, set}
 use Rattle.laws.specs.Choice.{pick}
 use Rattle.walk.specs.declared.Due.{Due}
 use Rattle.walk.specs.declared.Place.{Place}
 use Rattle.walk.specs.declared.Place.the-variants.{Outside, Number, Plain, Typed}
 use Rattle.walk.specs.declared.State.{State}
-use Rattle.walk.specs.Step.{state, start}
+use Rattle.walk.specs.Step.{state}
 use Rattle.judge.specs.declared.Reply.{Reply}
 use Rattle.judge.specs.Judge.{reply}
 use Rattle.stream.specs.declared.Stream.{Stream}
-use Rattle.stream.specs.Stream.{seen, Stepped, answerOf, paper, endReply}
+use Rattle.stream.specs.Stream.{seen, Stepped, answerOf, paper, endReply, freshRecord}
 
 -- the room is too short: fewer than 12 numbers or 82 bytes
 abbrev pub isShort : List ℕ → List ℕ → Bool
@@ -67,17 +67,14 @@ abbrev pub lineAfter : Stream → List ℕ → List ℕ
 lineAfter c bs = c .pending ++ drop 82 bs
 
 -- the start: a fresh record is laid out
-unfoldable pub blank : Stream
-blank = record { state = start; lines = 0; number = 0; total = 0; pending = replicate 82 0; held = 0; ended = false }
-
 unfoldable pub startReply : List ℕ → List ℕ → Reply
 startReply ns bs = pick (isShort ns bs) (reply 20 0) (reply 0 0)
 
 unfoldable pub startNumbers : List ℕ → List ℕ → List ℕ
-startNumbers ns bs = pick (isShort ns bs) ns (numbersAfter blank ns)
+startNumbers ns bs = pick (isShort ns bs) ns (numbersAfter freshRecord ns)
 
 unfoldable pub startLine : List ℕ → List ℕ → List ℕ
-startLine ns bs = pick (isShort ns bs) bs (lineAfter blank bs)
+startLine ns bs = pick (isShort ns bs) bs (lineAfter freshRecord bs)
 
 -- the end: the whole file's reply, and the record says that it was asked
 unfoldable pub endOf : List ℕ → List ℕ → Reply

@@ -11,15 +11,14 @@ use borrow.Rule.Slice.PartMut.{putMid, midOf}
 use lib.ListN.{length, getD, take, drop, set, replicate, length-drop}
 use lib.Seq.{take-suc, drop-cons, append-snoc, set-at, take-at, drop-at, take-all, take-length, drop-length, drop-drop, length-take-le, getD-set-same, getD-set-other}
 use Rattle.laws.specs.Choice.{pick, false-not-true}
-use Rattle.laws.specs.Cut.{lineLen}
 use Rattle.walk.specs.declared.Place.{Place}
 use Rattle.walk.specs.declared.Place.the-variants.{Outside, Number, Plain, Typed}
-use Rattle.walk.specs.Step.{state, start}
+use Rattle.walk.specs.Step.{state}
 use Rattle.judge.specs.declared.Reply.{Reply}
-use Rattle.judge.specs.Judge.{going, reply}
+use Rattle.judge.specs.Judge.{reply}
 use Rattle.stream.specs.declared.Stream.{Stream}
-use Rattle.stream.specs.Stream.{Seen, inLimit, isPast, openLen, openOf, seen, closed, Stepped, answerOf, paper, endReply}
-use Rattle.lent.specs.Lent.{placeOf, streamOf, placeNumbers, numbersOf, Fits, numbersAfter, lineAfter, blank, isShort, startReply, startNumbers, startLine, endOf, endNumbers, Burst, same}
+use Rattle.stream.specs.Stream.{seen, closed, Stepped, answerOf, paper, endReply, freshRecord}
+use Rattle.lent.specs.Lent.{placeOf, streamOf, placeNumbers, numbersOf, Fits, numbersAfter, lineAfter, isShort, startReply, startNumbers, startLine, endOf, endNumbers, Burst, same}
 
 -- six numbers laid one after the other
 pub six-laid : (l : List ℕ) (a b c d e f : ℕ) → 6 ≤ length l → set (set (set (set (set (set l 0 a) 1 b) 2 c) 3 d) 4 e) 5 f ≡ a ∷ b ∷ c ∷ d ∷ e ∷ f ∷ drop 6 l
@@ -105,14 +104,10 @@ module _ (sets lines number total held : ℕ) (pending x y : List ℕ) (s : sets
 pub read-again : (c : Stream) (x y : List ℕ) → Fits c → streamOf (numbersOf c ++ x) (c .pending ++ y) ≡ c
 read-again c x y f = parts-again (c .state .sets) (c .lines) (c .number) (c .total) (c .held) (c .pending) x y (f .sets) (f .number) (f .pending) (c .state .place) (c .ended)
 
--- the start lays out a fresh record
-pub blank-fresh : (seen blank ≡ inLimit (going start 0) [] 0) × (blank .ended ≡ false)
-unfolding blank seen isPast openOf openLen lineLen
-blank-fresh = (refl, refl)
-
-pub blank-fits : Fits blank
-unfolding blank
-blank-fits = record { sets = omega arith; number = omega arith; pending = refl }
+-- a fresh record fits
+pub fresh-fits : Fits freshRecord
+unfolding freshRecord
+fresh-fits = record { sets = omega arith; number = omega arith; pending = refl }
 
 -- the end closes the record
 pub end-closes : (ns bs : List ℕ) → 12 ≤ length ns → streamOf (set ns 11 1) bs ≡ closed (streamOf ns bs)
@@ -143,7 +138,7 @@ module _ (ns bs : List ℕ) where
   unfolding startReply startNumbers startLine
   start-short s = (rw s refl, rw s refl, rw s refl)
 
-  pub start-lays : isShort ns bs ≡ false → (c : Stream) → c ≡ blank → (ns′ bs′ : List ℕ) → ns′ ≡ numbersAfter c ns → bs′ ≡ lineAfter c bs → Started ns′ bs′ (reply 0 0)
+  pub start-lays : isShort ns bs ≡ false → (c : Stream) → c ≡ freshRecord → (ns′ bs′ : List ℕ) → ns′ ≡ numbersAfter c ns → bs′ ≡ lineAfter c bs → Started ns′ bs′ (reply 0 0)
   unfolding startReply startNumbers startLine
   start-lays s c e ns′ bs′ p q = (rw s refl, rw (s, ← e) p, rw (s, ← e) q)
 

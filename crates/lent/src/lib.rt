@@ -9,7 +9,7 @@ ghost use Prim.Native.Nat.{_≤_};
 ghost use lib.Dec.{ltb};
 ghost use lib.ListN.{length, take, drop};
 ghost use Rattle.laws.specs.Choice.{pick};
-ghost use Rattle.lent.specs.Lent.{isShort, dueOf, placeOf, streamOf, placeNumbers, Fits, blank, numbersAfter, lineAfter, startReply, startNumbers, startLine, endOf, endNumbers, same, Burst};
+ghost use Rattle.lent.specs.Lent.{isShort, dueOf, placeOf, streamOf, placeNumbers, Fits, numbersAfter, lineAfter, startReply, startNumbers, startLine, endOf, endNumbers, same, Burst};
 ghost use Rattle.stream.specs.Stream.{paper};
 use judge::Reply;
 use stream::Answer;
@@ -161,24 +161,6 @@ fn is_short(numbers: usize, line: usize) -> bool
     (numbers < 12) | (line < 82)
 }
 
-// A record that starts a new file, all its numbers and bytes 0.
-fn new_record() -> Stream
-    ensures { λ r. ⌜ r ≡ blank ⌝ }
-{
-    Stream {
-        state: State {
-            place: Place::Outside,
-            sets: 0,
-        },
-        lines: 0,
-        number: 0,
-        total: 0,
-        pending: [0u8; 82],
-        held: 0,
-        ended: false,
-    }
-}
-
 // The number and the place of an answer; "so far" is 127.
 fn reply_of(a: Answer) -> Reply
     ensures { λ r. ⌜ r ≡ paper a ⌝ }
@@ -202,7 +184,7 @@ pub fn start(numbers: &mut [u64], line: &mut [u8]) -> Reply
             place: 0,
         };
     }
-    put_record(numbers, line, new_record());
+    put_record(numbers, line, stream::fresh());
     Reply {
         number: 0,
         place: 0,

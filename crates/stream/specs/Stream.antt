@@ -5,10 +5,11 @@ use mathlib.Core.Bool.{Bool, true, false, _||_}
 use mathlib.Core.List.{List, [], _∷_, _++_}
 use Prim.Native.Nat.{ℕ, _+_}
 use lib.Dec.{ltb, eqb}
-use lib.ListN.{length, getD, take, set}
+use lib.ListN.{length, getD, take, set, replicate}
 use Rattle.laws.specs.Choice.{pick}
 use Rattle.laws.specs.Cut.{cut, lineLen, over}
 use Rattle.line.specs.Line.{isAllowed}
+use Rattle.walk.specs.Step.{start}
 use Rattle.judge.specs.declared.Reply.{Reply}
 use Rattle.judge.specs.Judge.{Run, going, refused, reply, runStep, runEnd}
 use Rattle.stream.specs.declared.Stream.{Stream}
@@ -103,3 +104,7 @@ endReply (inLimit r q n) = runEnd r q
 -- the record after the end was asked
 unfoldable pub closed : Stream → Stream
 closed c = record { state = c .state; lines = c .lines; number = c .number; total = c .total; pending = c .pending; held = c .held; ended = true }
+
+-- "A fresh record starts a new file": all its numbers and bytes are 0
+unfoldable pub freshRecord : Stream
+freshRecord = record { state = start; lines = 0; number = 0; total = 0; pending = replicate 82 0; held = 0; ended = false }

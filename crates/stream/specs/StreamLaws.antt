@@ -15,7 +15,7 @@ use Rattle.laws.specs.Cut.{text, onto, cut, lineLen, cut-line, cut-open, over}
 use Rattle.line.specs.Line.{isAllowed}
 use Rattle.line.specs.LineLaws.{lineLen-most}
 use Rattle.walk.specs.declared.State.{State}
-use Rattle.walk.specs.Step.{state}
+use Rattle.walk.specs.Step.{state, start}
 use Rattle.judge.specs.Judge.{reply, lineStep, Run, going, refused, onOutcome, runStep, runEnd}
 use Rattle.judge.specs.declared.Reply.{Reply}
 use Rattle.judge.specs.declared.Lines.{Lines}
@@ -23,7 +23,7 @@ use Rattle.judge.specs.Lines.{runOf, LinesJudged}
 use Rattle.judge.specs.JudgeLaws.{over-refused}
 use Rattle.judge.specs.LinesLaws.{one-run, one-more}
 use Rattle.stream.specs.declared.Stream.{Stream}
-use Rattle.stream.specs.Stream.{push, pushAll, squeezed, Seen, inLimit, past, kept, stepOf, isPast, openLen, openOf, seen, Stepped, closed}
+use Rattle.stream.specs.Stream.{push, pushAll, squeezed, Seen, inLimit, past, kept, stepOf, isPast, openLen, openOf, seen, Stepped, closed, freshRecord}
 use Rattle.stream.specs.SqueezeLaws.{push-append, squeezed-again, run-squeezed}
 
 -- what is seen after bytes whose lines come after n others
@@ -375,3 +375,8 @@ module _ (c : Stream) (b : List ℕ) where
       pub stepped-going : (r : Stream) → c .number ≤ 0 → seen r ≡ judgedOn (c .state) (c .lines) (openOf c ++ b) total → r .ended ≡ false → Stepped c b r
       unfolding judgedOn
       stepped-going r z q k = stepped r (q ∙ rw (t .within l .1) (sym (step-going c b stays (rw (t .within l .1) at l) (omega arith)))) (λ p. kept-within (over runStep runEnd (going (c .state) (c .lines)) (cut (openOf c ++ b) .lines)) (cut (openOf c ++ b) .rest) total (sym q ∙ p)) (k ∙ sym e)
+
+-- what a fresh record says
+pub fresh-says : (seen freshRecord ≡ inLimit (going start 0) [] 0) × (freshRecord .ended ≡ false)
+unfolding freshRecord seen isPast openOf openLen lineLen
+fresh-says = (refl, refl)

@@ -1,15 +1,13 @@
 // A file judged while it arrives: one standing record, brought up to date by each burst.
 ghost use mathlib.Core.Path.{_≡_};
 ghost use mathlib.Core.Bool.{false};
-ghost use mathlib.Core.List.{[], _++_};
+ghost use mathlib.Core.List.{_++_};
 ghost use Prim.Native.Nat.{_+_, _-_, _≤_};
 ghost use lib.ListN.{length, take, drop};
 ghost use lib.Dec.{ltb};
 ghost use Rattle.laws.specs.Choice.{pick};
 ghost use Rattle.laws.specs.Cut.{lineLen};
-ghost use Rattle.judge.specs.Judge.{going};
-ghost use Rattle.walk.specs.Step.{start};
-ghost use Rattle.stream.specs.Stream.{push, pushAll, inLimit, isPast, openLen, openOf, seen, Stepped, answerOf, endReply, closed};
+ghost use Rattle.stream.specs.Stream.{push, pushAll, isPast, openLen, openOf, seen, Stepped, answerOf, endReply, closed, freshRecord};
 ghost use Rattle.stream.specs.StreamLaws.{OpenJudged, Running, atTotal, judgedOn};
 use judge::Lines;
 use judge::Reply;
@@ -35,9 +33,9 @@ pub enum Answer {
     Refused(u8, usize),
 }
 
-// A record that starts a new file.
+// A record that starts a new file, all its numbers and bytes 0.
 pub fn fresh() -> Stream
-    ensures { λ r. ⌜ (seen r ≡ inLimit (going start 0) [] 0) × (r .ended ≡ false) ⌝ }
+    ensures { λ r. ⌜ r ≡ freshRecord ⌝ }
 {
     Stream {
         state: State {

@@ -11,9 +11,10 @@ use Rattle.judge.specs.declared.Reply.{Reply}
 use Rattle.judge.specs.Judge.{reply, judged}
 use Rattle.stream.specs.declared.Stream.{Stream}
 use Rattle.stream.specs.declared.Answer.{Answer}
-use Rattle.stream.specs.Stream.{seen, Stepped, answerOf, paper, closed}
-use Rattle.lent.specs.Lent.{isShort, streamOf, numbersOf, blank, startNumbers, startLine, endOf, endNumbers, Untouched, Brought, Burst}
-use Rattle.lent.specs.LentLaws.{room, read-again, blank-fresh, blank-fits, end-closes}
+use Rattle.stream.specs.Stream.{seen, Stepped, answerOf, paper, closed, freshRecord}
+use Rattle.stream.specs.StreamLaws.{fresh-says}
+use Rattle.lent.specs.Lent.{isShort, streamOf, numbersOf, startNumbers, startLine, endOf, endNumbers, Untouched, Brought, Burst}
+use Rattle.lent.specs.LentLaws.{room, read-again, fresh-fits, end-closes}
 use Rattle.streaming.specs.Streaming.{burstAnswer, joined, Bursts}
 use Rattle.streaming.specs.Streaming as S
 use Rattle.streaming.specs.StreamingLaws.{bursts-end, any-cut, any-cut-again, any-cut-answer}
@@ -51,12 +52,12 @@ calls-kept s e (more {ns = ns} {bs = bs} {ns₁ = ns₁} {bs₁ = bs₁} w p q k
 
 -- the start lays out a fresh record, in room of the same length
 module _ (ns bs : List ℕ) (s : isShort ns bs ≡ false) where
-  start-blank : streamOf (startNumbers ns bs) (startLine ns bs) ≡ blank
+  start-fresh : streamOf (startNumbers ns bs) (startLine ns bs) ≡ freshRecord
   unfolding startNumbers startLine
-  start-blank = rw s (read-again blank (drop 12 ns) (drop 82 bs) blank-fits)
+  start-fresh = rw s (read-again freshRecord (drop 12 ns) (drop 82 bs) fresh-fits)
 
   start-long : isShort (startNumbers ns bs) (startLine ns bs) ≡ false
-  unfolding startNumbers startLine numbersOf blank
+  unfolding startNumbers startLine numbersOf freshRecord
   start-long =
       let w = room (length ns) (length bs) s in
       let a : length (startNumbers ns bs) ≡ length ns = rw s (simp (length-append, length-drop) (omega arith)) in
@@ -67,15 +68,15 @@ module _ (ns bs : List ℕ) (s : isShort ns bs ≡ false) where
 module _ {A : Type 0} {form : Reply → A} (ns bs : List ℕ) (s : isShort ns bs ≡ false) {ns′ bs′ : List ℕ} {bursts : List (List ℕ)}
     (k : Calls form (startNumbers ns bs) (startLine ns bs) bursts ns′ bs′) where
   kept-on : Kept (startNumbers ns bs) (startLine ns bs) bursts ns′ bs′
-  kept-on = calls-kept (start-long ns bs s) (ap (λ (c : Stream). c .ended) (start-blank ns bs s) ∙ blank-fresh .1) k
+  kept-on = calls-kept (start-long ns bs s) (ap (λ (c : Stream). c .ended) (start-fresh ns bs s) ∙ fresh-says .1) k
 
-  from-blank : Bursts blank bursts (streamOf ns′ bs′)
-  from-blank = subst (λ (c : Stream). Bursts c bursts (streamOf ns′ bs′)) (start-blank ns bs s) (kept-on .bursts-on)
+  from-fresh : Bursts freshRecord bursts (streamOf ns′ bs′)
+  from-fresh = subst (λ (c : Stream). Bursts c bursts (streamOf ns′ bs′)) (start-fresh ns bs s) (kept-on .bursts-on)
 
   -- the end's reply is the judge's
   pub calls-end : endOf ns′ bs′ ≡ judged (joined bursts)
   unfolding endOf
-  calls-end = rw (kept-on .long) (any-cut (blank-fresh .1) (blank-fresh .0) from-blank)
+  calls-end = rw (kept-on .long) (any-cut (fresh-says .1) (fresh-says .0) from-fresh)
 
   -- the end only marks the record
   end-marks : endNumbers ns′ bs′ ≡ set ns′ 11 1
@@ -91,7 +92,7 @@ module _ {A : Type 0} {form : Reply → A} (ns bs : List ℕ) (s : isShort ns bs
   -- asked again it is the same
   pub calls-again : endOf (endNumbers ns′ bs′) bs′ ≡ judged (joined bursts)
   unfolding endOf
-  calls-again = rw (end-long, end-closed) (any-cut-again (blank-fresh .1) (blank-fresh .0) from-blank)
+  calls-again = rw (end-long, end-closed) (any-cut-again (fresh-says .1) (fresh-says .0) from-fresh)
 
   -- a burst more is answered by the bytes so far with it
   pub calls-answer : {b ns″ bs″ : List ℕ} {r : A} → Burst form ns′ bs′ b ns″ bs″ r → r ≡ form (paper (burstAnswer (joined (bursts ++ (b ∷ [])))))
@@ -99,7 +100,7 @@ module _ {A : Type 0} {form : Reply → A} (ns bs : List ℕ) (s : isShort ns bs
       let u = w .further (kept-on .long) (kept-on .open-still) in
       let f = further (kept-on .open-still) u in
       u .said ∙ ap (λ (c : Stream). form (paper (answerOf (c .ended) (seen c)))) (sym (u .again))
-      ∙ ap (λ (a : Answer). form (paper a)) (any-cut-answer (blank-fresh .1) (blank-fresh .0) (bursts-end from-blank (f .stepped)))
+      ∙ ap (λ (a : Answer). form (paper a)) (any-cut-answer (fresh-says .1) (fresh-says .0) (bursts-end from-fresh (f .stepped)))
 
   -- after the end it is 23, and nothing is touched
   pub calls-late : {b ns″ bs″ : List ℕ} {r : A} → Burst form (endNumbers ns′ bs′) bs′ b ns″ bs″ r → Untouched (endNumbers ns′ bs′) bs′ ns″ bs″ × (r ≡ form (reply 23 0))

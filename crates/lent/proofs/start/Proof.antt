@@ -11,8 +11,8 @@ is-short-requires c κs = search needs
 returns : tie.Need-returns
 returns c = start-short _ _ (sym (c .before .is-short .ensures) ∙ c .if1 .taken)
 
-new-record-requires : tie.Need-new-record-requires
-new-record-requires c κs = search needs
+fresh-requires : tie.Need-fresh-requires
+fresh-requires c κs = search needs
 
 put-record-requires : tie.Need-put-record-requires
 put-record-requires c κs = room _ _ (sym (c .before .before .before .before .is-short .ensures) ∙ c .before .before .before .if1 .left)
@@ -24,7 +24,7 @@ same-length-2 : tie.Need-same-length-2
 same-length-2 c = search needs
 
 returns-2 : tie.Need-returns-2
-returns-2 c = start-lays _ _ (sym (c .before .before .before .before .before .before .before .before .before .is-short .ensures) ∙ c .before .before .before .before .before .before .before .before .if1 .left) _ (c .before .before .before .before .before .new-record .ensures) _ _ (c .before .before .before .before .put-record .ensures .0) (c .before .before .before .before .put-record .ensures .1)
+returns-2 c = start-lays _ _ (sym (c .before .before .before .before .before .before .before .before .before .is-short .ensures) ∙ c .before .before .before .before .before .before .before .before .if1 .left) _ (c .before .before .before .before .before .fresh .ensures) _ _ (c .before .before .before .before .put-record .ensures .0) (c .before .before .before .before .put-record .ensures .1)
 
 pub start-spec : {M : Type 1} → statement M
 start-spec =
@@ -32,7 +32,7 @@ start-spec =
     (tie.spec
     is-short-requires
     returns
-    new-record-requires
+    fresh-requires
     put-record-requires
     same-length
     same-length-2
