@@ -7,6 +7,7 @@ use Prim.Native.Nat.{ℕ, _≤_}
 use native.Mathlib.Omega.{arith}
 use lib.Dec.{ltb}
 use lib.ListN.{length, drop, set, length-append, length-drop, length-set, length-replicate}
+use lib.Seq.{set-set}
 use Rattle.judge.specs.declared.Reply.{Reply}
 use Rattle.judge.specs.Judge.{reply, judged}
 use Rattle.stream.specs.declared.Stream.{Stream}
@@ -64,6 +65,11 @@ module _ (ns bs : List ℕ) (s : isShort ns bs ≡ false) where
       let b : length (startLine ns bs) ≡ length bs = rw s (simp (length-append, length-replicate, length-drop) (omega arith)) in
       short-same ns bs (startNumbers ns bs) (startLine ns bs) a b s
 
+-- the end marks it
+marked : (ns bs : List ℕ) → isShort ns bs ≡ false → endNumbers ns bs ≡ set ns 11 1
+unfolding endNumbers
+marked ns bs s = rw s refl
+
 -- what is said of a record that was started and then brought up to date by bursts
 module _ {A : Type 0} {form : Reply → A} (ns bs : List ℕ) (s : isShort ns bs ≡ false) {ns′ bs′ : List ℕ} {bursts : List (List ℕ)}
     (k : Calls form (startNumbers ns bs) (startLine ns bs) bursts ns′ bs′) where
@@ -80,8 +86,7 @@ module _ {A : Type 0} {form : Reply → A} (ns bs : List ℕ) (s : isShort ns bs
 
   -- the end only marks the record
   end-marks : endNumbers ns′ bs′ ≡ set ns′ 11 1
-  unfolding endNumbers
-  end-marks = rw (kept-on .long) refl
+  end-marks = marked ns′ bs′ (kept-on .long)
 
   end-long : isShort (endNumbers ns′ bs′) bs′ ≡ false
   end-long = rw end-marks (short-same ns′ bs′ (set ns′ 11 1) bs′ (length-set ns′ 11 1) refl (kept-on .long))
@@ -93,6 +98,10 @@ module _ {A : Type 0} {form : Reply → A} (ns bs : List ℕ) (s : isShort ns bs
   pub calls-again : endOf (endNumbers ns′ bs′) bs′ ≡ judged (joined bursts)
   unfolding endOf
   calls-again = rw (end-long, end-closed) (any-cut-again (fresh-says .1) (fresh-says .0) from-fresh)
+
+  -- the end marks the record once and for all, so this and the next hold however often it is asked
+  pub calls-marked : endNumbers (endNumbers ns′ bs′) bs′ ≡ endNumbers ns′ bs′
+  calls-marked = marked (endNumbers ns′ bs′) bs′ end-long ∙ rw end-marks (set-set ns′ 11 1 1)
 
   -- a burst more is answered by the bytes so far with it
   pub calls-answer : {b ns″ bs″ : List ℕ} {r : A} → Burst form ns′ bs′ b ns″ bs″ r → r ≡ form (paper (burstAnswer (joined (bursts ++ (b ∷ [])))))

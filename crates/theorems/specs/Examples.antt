@@ -80,6 +80,20 @@ pub example-values : (allReply example 2 8 ≡ reply 0 7)
 unfolding judged judge over cut run allBlank trimmed isDigit I.push stepInteger endInteger integerOf R.push R.next R.onCoefficient R.onExponent R.onDigit R.onSign R.onPoint R.onLetter R.onBlank R.isLetter R.scanStep R.realEnd R.realOf isAllowed withoutReturn columns firstBad lineFault filled thenBlank isDelimiter datasetNumber keeps fieldStart layouts layoutOf caseOf numbersOf mayBlank fieldNumber firstNotAbove breach records recordOf dataRow kindOf isTyped sequences sequence fieldsFault firstByte stray itemsOf conditionFault fieldsRefusal rowRefusal recordDue listRow rowDue isClosed settled numberIn caseIn afterRecord afterList after opened outsideStep numberStep plainStep typedStep stepOf lineStep P.closes P.bytesIn P.partsFrom P.partsOf P.numberOf P.lineStart P.lineOf F.caseOf F.countOf F.storedOf F.dataLine F.firstByte F.pastByte fieldsOf C.lineOf C.fieldOf C.fieldPast F.dataStart P.pastOf P.throughOf entry rowsOf listReply listRows W.digitOrBlank W.plainIn W.plainNumber W.keptOf W.linesText W.headText W.setText W.rewrittenSet W.rewritten Reader.setsFrom Reader.readIn Reader.readOf Reader.reads Reader.whole Reader.valuesIn exactOf magnitudeOf tenOf bitsOf allValues allReply allPlaces ieee.span ieee.climb ieee.size ieee.odd ieee.units ieee.round ieee.neg ieee.div ieee.mul ieee.ofInt ieee.isNan ieee.toBits
 example-values = (refl, (refl, (refl, (refl, (refl, refl)))))
 
+-- a 58 whose second value is outside the exact path: 21, with room and without, before 20
+abbrev outside-exact : List ℕ
+outside-exact =
+    "    -1" ⊕ "    58" ⊕ "NONE" ⊕ "NONE" ⊕ "NONE" ⊕ "NONE" ⊕ "NONE"
+    ⊕ "    1         1    0         0 NONE               7   3 NONE               0   0" ⊕ "         2         2         1  0.00000E+00  1.00000E-03  0.00000E+00"
+    ⊕ "        17    0    0    0 Time                 s" ⊕ "        12    0    0    0 Acceleration         m/s2" ⊕ "         0    0    0    0 NONE                 NONE"
+    ⊕ "         0    0    0    0 NONE                 NONE" ⊕ "  1.00000E-01  1.00000E+28" ⊕ "    -1" ⊕ none
+
+pub outside-refused : (allReply outside-exact 1 2 ≡ reply 21 0)
+    × ((allReply outside-exact 1 0 ≡ reply 21 0)
+    × (allPlaces outside-exact 1 (8 ◂ 9 ◂ L.[]) ≡ 8 ◂ 9 ◂ L.[]))
+unfolding judged judge over cut run allBlank trimmed isDigit I.push stepInteger endInteger integerOf R.push R.next R.onCoefficient R.onExponent R.onDigit R.onSign R.onPoint R.onLetter R.onBlank R.isLetter R.scanStep R.realEnd R.realOf isAllowed withoutReturn columns firstBad lineFault filled thenBlank isDelimiter datasetNumber keeps fieldStart layouts layoutOf caseOf numbersOf mayBlank fieldNumber firstNotAbove breach records recordOf dataRow kindOf isTyped sequences sequence fieldsFault firstByte stray itemsOf conditionFault fieldsRefusal rowRefusal recordDue listRow rowDue isClosed settled numberIn caseIn afterRecord afterList after opened outsideStep numberStep plainStep typedStep stepOf lineStep P.closes P.bytesIn P.partsFrom P.partsOf P.numberOf P.lineStart P.lineOf F.caseOf F.countOf F.storedOf F.dataLine F.firstByte F.pastByte fieldsOf C.lineOf C.fieldOf C.fieldPast F.dataStart P.pastOf P.throughOf entry rowsOf listReply listRows W.digitOrBlank W.plainIn W.plainNumber W.keptOf W.linesText W.headText W.setText W.rewrittenSet W.rewritten Reader.setsFrom Reader.readIn Reader.readOf Reader.reads Reader.whole Reader.valuesIn exactOf magnitudeOf tenOf bitsOf allValues allReply allPlaces ieee.span ieee.climb ieee.size ieee.odd ieee.units ieee.round ieee.neg ieee.div ieee.mul ieee.ofInt ieee.isNan ieee.toBits
+outside-refused = (refl, (refl, refl))
+
 -- lines outside sets, blanks at line ends, a number with a sign, a blank line inside a plain set
 pub untidy-rewritten : W.rewrittenFile ("" ⊕ "    -1   " ⊕ " +2420" ⊕ "any  thing  " ⊕ "  " ⊕ "    -1" ⊕ "   " ⊕ "    -1" ⊕ "000001" ⊕ "    -1  " ⊕ none)
     ≡ "    -1" ⊕ "  2420" ⊕ "any  thing" ⊕ "" ⊕ "    -1" ⊕ "    -1" ⊕ "     1" ⊕ "    -1" ⊕ none

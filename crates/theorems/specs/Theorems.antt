@@ -5,7 +5,7 @@ use mathlib.Core.Bool.{true}
 use mathlib.Core.List.{List, [], _∷_, _++_, map}
 use Prim.Native.Nat.{ℕ, suc, _+_, _*_, _-_, _<_, _≤_}
 use native.Mathlib.Omega.{arith}
-use borrow.Author.Tests.{le-ltb}
+use borrow.Author.Tests.{le-ltb, ne-eqb}
 use lib.Ieee.{Float}
 use lib.IntN.{ℤ, pos}
 use lib.ListN.{length, getD, take, drop, drop-of-length-le}
@@ -284,6 +284,11 @@ pub all-answers : (bytes : List ℕ) (k n : ℕ) (xs : List Float) (out : List �
     → (allReply bytes k (length out) ≡ reply 0 n) × (allPlaces bytes k out ≡ map bitsOf xs ++ drop n out)
 unfolding allReply allPlaces
 all-answers bytes k n xs out e l h = (rw (e, l, le-ltb (length out) n h) refl, rw (e, l, le-ltb (length out) n h) refl)
+
+-- Any refusal of the call leaves every place lent.
+pub all-kept : (bytes : List ℕ) (k : ℕ) (out : List ℕ) → 0 < allReply bytes k (length out) .number → allPlaces bytes k out ≡ out
+unfolding allReply allPlaces
+all-kept bytes k out h = rw (ne-eqb (allReply bytes k (length out) .number) 0 (λ z. omega arith)) refl
 
 -- a value by the bytes of its own columns
 value-by-bytes : {sets : List Set} {bytes : List ℕ} → Proper sets bytes → (k : ℕ) (s : Set) (rest : List Set) → drop k sets ≡ s ∷ rest → s .number ≡ 58
