@@ -19,8 +19,3 @@ pub mod LaidOut
 pub mod LaidOutLaws
 pub mod Theorems
 pub mod Bounds
-pub mod Text
-pub mod Named
-pub mod Wrong
-pub mod Examples
-pub mod Witness

@@ -1,0 +1,89 @@
+-- Document 01's cases marked P ("At the edges"), each a whole input to a call and its whole reply, by one computed statement.
+use mathlib.Core.Path.{_≡_, refl}
+use mathlib.Core.Bool.{Bool, true, false}
+use mathlib.Core.List as L
+use mathlib.Core.List.{List}
+use Prim.Native.Nat.{ℕ}
+use lib.IntN.{ℤ, pos, negsuc, natAbs}
+use Rattle.real.specs.Real.{belowZero}
+use Rattle.judge.specs.Judge.{judged}
+use Rattle.reader.specs.Reader.{Said, said, Shown, shown, numberOf}
+use Rattle.cases.specs.Files.{none, _⊕_, closing, plain, function, measured}
+use Rattle.cases.specs.Computed.{computed-number}
+
+-- a question to the judge, or for a stored number by set and index
+pub data Question : Type 0 where
+  judges : List ℕ → Question
+  asks : List ℕ → ℕ → ℕ → Question
+
+abbrev pub reply : Question → Said Shown
+reply (judges f) = said (judged f .number) (judged f .place) L.[]
+reply (asks f s j) = numberOf f s j
+
+pub record Case : Type 0 where
+  pub question : Question
+  pub answer : Said Shown
+
+abbrev case : Question → Said Shown → Case
+case q a = record { question = q; answer = a }
+
+abbrev accepted : ℕ → Said Shown
+accepted n = said 0 n L.[]
+
+abbrev refused : ℕ → ℕ → Said Shown
+refused n p = said n p L.[]
+
+-- first and past byte, sign, coefficient, scale
+abbrev shows : ℕ → ℕ → Bool → ℕ → ℤ → Said Shown
+shows a e n c s = said 0 0 (L._∷_ (shown a e n c (belowZero s) (natAbs s)) L.[])
+
+infixr 4 _⊞_
+abbrev _⊞_ : Case → List Case → List Case
+c ⊞ cs = L._∷_ c cs
+
+pub cases : List Case
+cases =
+    -- "80 columns pass"
+    (case (judges (plain "xxxxxxxxxxxxxxxxxxxxxxxxxxxxxxxxxxxxxxxxxxxxxxxxxxxxxxxxxxxxxxxxxxxxxxxxxxxxxxxx")) (accepted 4)) ⊞
+    -- "81 give 3"
+    (case (judges (plain "xxxxxxxxxxxxxxxxxxxxxxxxxxxxxxxxxxxxxxxxxxxxxxxxxxxxxxxxxxxxxxxxxxxxxxxxxxxxxxxxx")) (refused 3 3)) ⊞
+    -- "Empty file 16"
+    (case (judges none) (refused 16 0)) ⊞
+    -- "Function type 28 passes"
+    (case (judges (function "   28         1    0         0 NONE               7   3 NONE               0   0" "         2         1         1  0.00000E+00  1.00000E-03  0.00000E+00" ("  1.00000E-01" ⊕ closing))) (accepted 15)) ⊞
+    -- "29 is 11"
+    (case (judges (function "   29         1    0         0 NONE               7   3 NONE               0   0" "         2         1         1  0.00000E+00  1.00000E-03  0.00000E+00" ("  1.00000E-01" ⊕ closing))) (refused 11 8)) ⊞
+    -- "Direction -6 passes"
+    (case (judges (function "    1         1    0         0 NONE               7  -6 NONE               0   0" "         2         1         1  0.00000E+00  1.00000E-03  0.00000E+00" ("  1.00000E-01" ⊕ closing))) (accepted 15)) ⊞
+    -- "-7 is 11"
+    (case (judges (function "    1         1    0         0 NONE               7  -7 NONE               0   0" "         2         1         1  0.00000E+00  1.00000E-03  0.00000E+00" ("  1.00000E-01" ⊕ closing))) (refused 11 8)) ⊞
+    -- "`2147483647` passes in I10"
+    (case (judges (function "    12147483647    0         0 NONE               7   3 NONE               0   0" "         2         1         1  0.00000E+00  1.00000E-03  0.00000E+00" ("  1.00000E-01" ⊕ closing))) (accepted 15)) ⊞
+    -- "`2147483648` is 11"
+    (case (judges (function "    12147483648    0         0 NONE               7   3 NONE               0   0" "         2         1         1  0.00000E+00  1.00000E-03  0.00000E+00" ("  1.00000E-01" ⊕ closing))) (refused 11 8)) ⊞
+    -- "Thirteen blanks in a due real field are 12"
+    (case (judges (measured "         2         1         1  0.00000E+00  1.00000E-03  0.00000E+00" ("             " ⊕ closing))) (refused 12 14)) ⊞
+    -- "`1.00000E-01` is 100000 × 10^-6"
+    (case (asks (measured "         2         1         1  0.00000E+00  1.00000E-03  0.00000E+00" ("  1.00000E-01" ⊕ closing)) 1 0) (shows 408 421 false 100000 (negsuc 5))) ⊞
+    -- "`-.5E+00` is -5 × 10^-1"
+    (case (asks (measured "         2         1         1  0.00000E+00  1.00000E-03  0.00000E+00" ("      -.5E+00" ⊕ closing)) 1 0) (shows 408 421 true 5 (negsuc 0))) ⊞
+    -- "`1.E+00` is 1 × 10^0"
+    (case (asks (measured "         2         1         1  0.00000E+00  1.00000E-03  0.00000E+00" ("       1.E+00" ⊕ closing)) 1 0) (shows 408 421 false 1 (pos 0))) ⊞
+    -- "A count of 7 in case 1 takes two lines"
+    (case (judges (measured "         2         7         1  0.00000E+00  1.00000E-03  0.00000E+00" ("  1.00000E-01  1.00000E-01  1.00000E-01  1.00000E-01  1.00000E-01  1.00000E-01" ⊕ "  1.00000E-01" ⊕ closing))) (accepted 16)) ⊞
+    -- one line is not enough
+    (case (judges (measured "         2         7         1  0.00000E+00  1.00000E-03  0.00000E+00" ("  1.00000E-01  1.00000E-01  1.00000E-01  1.00000E-01  1.00000E-01  1.00000E-01" ⊕ closing))) (refused 7 15)) ⊞
+    -- three are too many
+    (case (judges (measured "         2         7         1  0.00000E+00  1.00000E-03  0.00000E+00" ("  1.00000E-01  1.00000E-01  1.00000E-01  1.00000E-01  1.00000E-01  1.00000E-01" ⊕ "  1.00000E-01" ⊕ "  1.00000E-01" ⊕ closing))) (refused 8 16)) ⊞
+    -- "in case 8 seven"
+    (case (judges (measured "         6         7         0  0.00000E+00  0.00000E+00  0.00000E+00" ("  0.00000E+00  1.000000000000E+00  2.000000000000E+00" ⊕ "  0.00000E+00  1.000000000000E+00  2.000000000000E+00" ⊕ "  0.00000E+00  1.000000000000E+00  2.000000000000E+00" ⊕ "  0.00000E+00  1.000000000000E+00  2.000000000000E+00" ⊕ "  0.00000E+00  1.000000000000E+00  2.000000000000E+00" ⊕ "  0.00000E+00  1.000000000000E+00  2.000000000000E+00" ⊕ "  0.00000E+00  1.000000000000E+00  2.000000000000E+00" ⊕ closing))) (accepted 21)) ⊞
+    -- six lines are not enough
+    (case (judges (measured "         6         7         0  0.00000E+00  0.00000E+00  0.00000E+00" ("  0.00000E+00  1.000000000000E+00  2.000000000000E+00" ⊕ "  0.00000E+00  1.000000000000E+00  2.000000000000E+00" ⊕ "  0.00000E+00  1.000000000000E+00  2.000000000000E+00" ⊕ "  0.00000E+00  1.000000000000E+00  2.000000000000E+00" ⊕ "  0.00000E+00  1.000000000000E+00  2.000000000000E+00" ⊕ "  0.00000E+00  1.000000000000E+00  2.000000000000E+00" ⊕ closing))) (refused 7 20)) ⊞
+    -- eight are too many
+    (case (judges (measured "         6         7         0  0.00000E+00  0.00000E+00  0.00000E+00" ("  0.00000E+00  1.000000000000E+00  2.000000000000E+00" ⊕ "  0.00000E+00  1.000000000000E+00  2.000000000000E+00" ⊕ "  0.00000E+00  1.000000000000E+00  2.000000000000E+00" ⊕ "  0.00000E+00  1.000000000000E+00  2.000000000000E+00" ⊕ "  0.00000E+00  1.000000000000E+00  2.000000000000E+00" ⊕ "  0.00000E+00  1.000000000000E+00  2.000000000000E+00" ⊕ "  0.00000E+00  1.000000000000E+00  2.000000000000E+00" ⊕ "  0.00000E+00  1.000000000000E+00  2.000000000000E+00" ⊕ closing))) (refused 8 21)) ⊞
+    L.[]
+
+-- the reply to each question is the one that document 01 names
+pub named-replies : L.map (λ (c : Case). reply (c .question)) cases ≡ L.map (λ (c : Case). c .answer) cases
+unfolding cases computed-number
+named-replies = refl
