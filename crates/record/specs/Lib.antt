@@ -2,3 +2,4 @@ pub mod Check
 pub mod CheckLaws
 pub mod ConditionLaws
 pub mod Written
+pub mod WrittenLaws
