@@ -168,6 +168,35 @@ impl Run {
         self.hold(name, file, at, "end after 23", answer, whole);
     }
 
+    /// One file in two bursts, the first of so many bytes.
+    fn take_two(&mut self, name: &str, file: &[u8], first: usize) {
+        self.cuts += 1;
+        self.bursts += 2;
+        let mut record = Record::new();
+        let answer = record.burst(&file[..first]);
+        self.hold(name, file, first, "burst", answer, so_far(&file[..first]));
+        let answer = record.burst(&file[first..]);
+        self.hold(name, file, file.len(), "burst", answer, so_far(file));
+        let answer = record.end();
+        self.hold(name, file, file.len(), "end", answer, judge::judge(file));
+    }
+
+    /// Lines about as long as a record keeps, with one byte that is not allowed in each column in turn, cut at each byte.
+    fn take_long_lines(&mut self) {
+        for length in 79..=88 {
+            for column in 0..length {
+                for (bad, end) in [(b'\t', "\n"), (b'\r', "\r\n"), (0x80, "")] {
+                    let mut file = vec![b'x'; length];
+                    file[column] = bad;
+                    file.extend_from_slice(end.as_bytes());
+                    for first in 0..=file.len() {
+                        self.take_two("a long line", &file, first);
+                    }
+                }
+            }
+        }
+    }
+
     fn hold(&self, name: &str, file: &[u8], at: usize, call: &str, proved: Reply, plain: Reply) {
         if proved != plain {
             let what = format!(
@@ -188,7 +217,7 @@ impl Run {
     }
 }
 
-/// Records that no bursts grew: every call ends, and touches nothing but the record.
+/// Records that no bursts grew: every call ends, and touches nothing but the record; marked as asked for the end, not that either.
 fn made_up(random: &mut Random, count: usize) {
     for _ in 0..count {
         let mut record = Record::new();
@@ -200,13 +229,17 @@ fn made_up(random: &mut Random, count: usize) {
                 _ => 16_777_214 + random.below(6) as u64,
             };
         }
-        record.numbers[MARGIN + NUMBERS - 1] &= u64::from(random.one_in(8));
+        let mark = if random.one_in(8) { 1 + random.below(3) as u64 } else { 0 };
+        record.numbers[MARGIN + NUMBERS - 1] = mark;
         for byte in &mut record.line[MARGIN..MARGIN + LINE] {
             *byte = random.next() as u8;
         }
         for _ in 0..random.below(5) {
             let bytes: Vec<u8> = (0..random.below(300)).map(|_| if random.one_in(9) { 10 } else { random.next() as u8 }).collect();
-            record.burst(&bytes);
+            let before = record.clone();
+            let answer = record.burst(&bytes);
+            let late = answer == Reply { number: 23, place: 0 } && record == before;
+            assert_eq!(late, mark > 0, "a made-up record: 23 is for the end asked before, and touches nothing");
         }
         record.end();
         assert!(record.margins(), "a made-up record: a margin was touched");
@@ -261,6 +294,7 @@ fn main() {
             run.take("arbitrary bytes", &bytes);
         }
     }
+    run.take_long_lines();
     too_short();
     made_up(&mut random, 20_000);
     for (number, came) in run.ends.iter().enumerate() {
