@@ -11,11 +11,15 @@ VERSION = $(shell sed -n 's/^.define UFF_VERSION "\(.*\)"/\1/p' include/uff.h)
 VALGRIND = $(shell command -v valgrind)
 FOUND_CXX = $(shell command -v $(CXX))
 
+# What is missing on this machine is only named.
+MISSING := $(shell bash .ci/missing build)
+$(if $(MISSING),$(error missing on this machine: $(MISSING) (.ci/packages has the list)))
+
 all: target/uff
 
 # Proves the calls; `rt` proves again only the crates that have changed.
 $(ARCHIVE): crates.txt $(wildcard crates/*/src/*.rt crates/*/specs/*.antt crates/*/proofs/*/Proof.antt)
-	rt staticlib host
+	bash tools/archive
 
 target/uff: cmd/uff.c include/uff.h $(ARCHIVE)
 	$(CC) $(WARN) $(CFLAGS) $(CPPFLAGS) -Iinclude -o $@ cmd/uff.c $(ARCHIVE) $(LDFLAGS)
@@ -39,21 +43,30 @@ install: target/uff
 	chmod 644 '$(DESTDIR)$(PREFIX)/lib/pkgconfig/uff.pc'
 	install -m 644 cmd/uff.1 '$(DESTDIR)$(PREFIX)/share/man/man1/uff.1'
 
-# The speeds of the calls beside plain Rust, C's strtod and, where there is gfortran, its formatted READ.
+# The speeds of the calls beside plain Rust, C's strtod and, where there is gfortran, its formatted READ; with BEFORE=ARCHIVE also beside
+# the calls of that archive, in each round.
 GFORTRAN = $(shell command -v gfortran)
 BENCH = $(wildcard bench/*) tests/judge/files.rs tests/judge/judge.rs tests/reader/reader.rs
+TIMED = target/bench$(if $(BEFORE),-before)
 
-target/bench: $(BENCH) $(ARCHIVE)
+# The other archive's calls, by names that begin with before_.
+target/libbefore.a: $(BEFORE) FORCE
+	objcopy $$(nm -g --defined-only $(BEFORE) | sed -n 's/.* T \(uff_[a-z_]*\)$$/--redefine-sym \1=before_\1/p') $(BEFORE) $@
+
+$(TIMED): $(BENCH) $(ARCHIVE) $(if $(BEFORE),target/libbefore.a)
 	$(CC) $(WARN) -O2 -c -o target/strtod.o bench/strtod.c
 	$(if $(GFORTRAN),$(GFORTRAN) -std=f2018 -Wall -Wextra -Werror -O2 -c -o target/read.o bench/read.f90)
 	rustc --edition 2021 -O -D warnings -L target/staticlib -l static=host -C link-arg=target/strtod.o \
+		$(if $(BEFORE),--cfg before -L target -l static=before) \
 		$(if $(GFORTRAN),--cfg fortran -C link-arg=target/read.o -C link-arg=$(shell $(GFORTRAN) -print-file-name=libgfortran.so)) -o $@ bench/bench.rs
 
-bench: target/bench
-	target/bench
+bench: $(TIMED)
+	$(TIMED)
 
 # The archive stays: its proofs take long, and `rt` made it.
 clean:
-	rm -f target/uff target/canaries target/bench target/strtod.o target/read.o
+	rm -f target/uff target/canaries target/bench target/bench-before target/libbefore.a target/strtod.o target/read.o
 
-.PHONY: all check install bench clean
+FORCE:
+
+.PHONY: all check install bench clean FORCE
