@@ -1,5 +1,6 @@
 //! Times the proved calls beside plain Rust that does the same, and the reading of all values also
-//! beside C's strtod on fixed columns and gfortran's formatted READ, which judge nothing.
+//! beside C's strtod on fixed columns and gfortran's formatted READ, which judge nothing. Built with the calls of
+//! an earlier archive (`make bench BEFORE=ARCHIVE`), those are timed beside the present ones in each round.
 //!
 //! Each file is built once, and each lent buffer is laid out and touched once, before the clock
 //! starts. In every round each side does the whole work, one side after the other; the best round
@@ -17,15 +18,19 @@ mod judge;
 mod reader;
 mod sets;
 
+use calls::ARCHIVES;
 use sets::LONGEST;
 use std::hint::black_box;
 use std::time::Instant;
 
 const ROUNDS: usize = 9;
 
+/// A side of a comparison: what is timed.
+type Side<'a> = Box<dyn FnMut() + 'a>;
+
 /// Million bytes a second of the best round of each side, each of which goes through the file once.
 /// Small files are taken several times a round, so that the clock's step does not matter.
-fn best(file: &[u8], sides: &mut [&mut dyn FnMut()]) -> Vec<f64> {
+fn best(file: &[u8], mut sides: Vec<Side>) -> Vec<f64> {
     let times = (LONGEST / 4 / file.len()).max(1);
     let mut best = vec![f64::INFINITY; sides.len()];
     for _ in 0..ROUNDS {
@@ -48,12 +53,16 @@ fn check(name: &str, same: bool) {
     }
 }
 
-/// Prints a table's heading: its first column, bytes, then columns of speeds and ratios.
-fn heading(title: &str, first: &str, columns: &[&str]) {
+/// Prints a table's heading: its first column, bytes, the speed of each side, and the ratio of the first to each other.
+fn heading(title: &str, first: &str, others: &[&str]) {
+    let sides: Vec<&str> = ARCHIVES.iter().map(|a| a.name).chain(others.iter().copied()).collect();
     println!("\n{title}");
     print!("{first:<38} {:>10}", "bytes");
-    for column in columns {
-        print!(" {column:>17}");
+    for side in &sides {
+        print!(" {:>17}", format!("{side} MB/s"));
+    }
+    for other in &sides[1..] {
+        print!(" {:>17}", format!("{}/{other}", sides[0]));
     }
     println!();
 }
@@ -73,18 +82,20 @@ fn row(name: &str, bytes: usize, speeds: &[f64]) {
 // Judging --------------------------------------------------------------------------------------
 
 fn judge_row(name: &str, file: &[u8]) {
-    let mut word = 0;
+    let mut words = [0; ARCHIVES.len()];
     let mut plain = judge::judge(b"");
-    let speeds = best(file, &mut [
-        &mut || word = black_box(calls::judge(black_box(file))),
-        &mut || plain = black_box(judge::judge(black_box(file))),
-    ]);
-    check(name, plain.number == 0 && word == u64::from(plain.place));
+    let mut sides: Vec<Side> = Vec::new();
+    for (archive, word) in ARCHIVES.iter().zip(&mut words) {
+        sides.push(Box::new(|| *word = black_box((archive.judge)(black_box(file)))));
+    }
+    sides.push(Box::new(|| plain = black_box(judge::judge(black_box(file)))));
+    let speeds = best(file, sides);
+    check(name, plain.number == 0 && words == [u64::from(plain.place); ARCHIVES.len()]);
     row(name, file.len(), &speeds);
 }
 
 fn judge_table() {
-    heading("the judge", "file", &["proved MB/s", "Rust MB/s", "proved/Rust"]);
+    heading("the judge", "file", &["Rust"]);
     judge_row("case 1, 16 MB", &sets::many(1, LONGEST));
     judge_row("case 5, 16 MB", &sets::many(5, LONGEST));
     judge_row("case 1, one set of 65,536 values", &sets::set(1, 65_536));
@@ -103,55 +114,68 @@ fn same_bits(a: &[f64], b: &[f64]) -> bool {
     a.len() == b.len() && a.iter().zip(b).all(|(x, y)| x.to_bits() == y.to_bits())
 }
 
-/// The file judged and all values of its last set read: proved and plain Rust.
+/// The file judged and all values of one of its sets read: what each side answered.
+struct Read {
+    words: [u64; ARCHIVES.len()],
+    proved: [Vec<f64>; ARCHIVES.len()],
+    plain: Vec<f64>,
+}
+
+impl Read {
+    fn new(count: usize) -> Read {
+        Read { words: [0; ARCHIVES.len()], proved: [(); ARCHIVES.len()].map(|()| vec![1.0; count]), plain: Vec::new() }
+    }
+
+    /// The archives and the plain Rust.
+    fn sides<'a>(&'a mut self, file: &'a [u8], set: u32) -> Vec<Side<'a>> {
+        let mut sides: Vec<Side> = Vec::new();
+        for ((archive, word), out) in ARCHIVES.iter().zip(&mut self.words).zip(&mut self.proved) {
+            sides.push(Box::new(move || *word = black_box((archive.values)(black_box(file), set, out))));
+        }
+        let plain = &mut self.plain;
+        sides.push(Box::new(move || *plain = black_box(reader::values(black_box(file), set).unwrap_or_default())));
+        sides
+    }
+
+    fn is(&self, due: &[f64]) -> bool {
+        self.words == [due.len() as u64; ARCHIVES.len()]
+            && self.proved.iter().all(|proved| same_bits(proved, due))
+            && same_bits(&self.plain, due)
+    }
+}
+
+/// All values of a file's last set: proved and plain Rust.
 fn values_row(name: &str, file: &[u8]) {
-    let set = calls::list(file).len() as u32;
+    let set = calls::now::list(file).len() as u32;
     let due = reader::values(file, set).unwrap_or_default();
     let name = &format!("{name}, set {set}, {} values", due.len());
-    let mut word = 0;
-    let mut proved = vec![1.0; due.len()];
-    let mut plain = Vec::new();
-    let speeds = best(file, &mut [
-        &mut || word = black_box(calls::values(black_box(file), set, &mut proved)),
-        &mut || plain = black_box(reader::values(black_box(file), set).unwrap_or_default()),
-    ]);
-    check(name, word == due.len() as u64 && same_bits(&proved, &due) && same_bits(&plain, &due));
+    let mut read = Read::new(due.len());
+    let speeds = best(file, read.sides(file, set));
+    check(name, read.is(&due));
     row(name, file.len(), &speeds);
 }
 
 /// The same for a file of one set, and its values read without a judge by strtod and gfortran's READ.
 fn columns_row(name: &str, case: usize, file: &[u8]) {
-    let data = calls::Data::new(file, calls::list(file)[0], case);
+    let data = calls::Data::new(file, calls::now::list(file)[0], case);
     let due = reader::values(file, 1).unwrap_or_default();
-    let mut word = 0;
-    let mut plain = Vec::new();
-    let [mut proved, mut strtod, mut fortran] = [(); 3].map(|()| vec![1.0; due.len()]);
-    let mut by_proved = || word = black_box(calls::values(black_box(file), 1, &mut proved));
-    let mut by_plain = || plain = black_box(reader::values(black_box(file), 1).unwrap_or_default());
-    let mut by_strtod = || black_box(&data).strtod(black_box(&mut strtod));
-    let mut by_fortran = || black_box(&data).fortran(black_box(&mut fortran));
-    let sides: &mut [&mut dyn FnMut()] =
-        &mut [&mut by_proved, &mut by_plain, &mut by_strtod, &mut by_fortran];
-    let built = if calls::FORTRAN { 4 } else { 3 };
-    let speeds = best(file, &mut sides[..built]);
-    check(name, word == due.len() as u64 && same_bits(&proved, &due) && same_bits(&plain, &due));
+    let mut read = Read::new(due.len());
+    let [mut strtod, mut fortran] = [(); 2].map(|()| vec![1.0; due.len()]);
+    let mut sides = read.sides(file, 1);
+    sides.push(Box::new(|| black_box(&data).strtod(black_box(&mut strtod))));
+    if calls::FORTRAN {
+        sides.push(Box::new(|| black_box(&data).fortran(black_box(&mut fortran))));
+    }
+    let speeds = best(file, sides);
+    check(name, read.is(&due));
     check(name, same_bits(&strtod, &due) && (!calls::FORTRAN || same_bits(&fortran, &due)));
     row(name, file.len(), &speeds);
 }
 
 fn values_tables() {
-    let columns = [
-        "proved MB/s",
-        "Rust MB/s",
-        "strtod MB/s",
-        "gfortran MB/s",
-        "proved/Rust",
-        "proved/strtod",
-        "proved/gfortran",
-    ];
-    let without = [0, 1, 2, 4, 5].map(|n| columns[n]);
+    let others = ["Rust", "strtod", "gfortran"];
     let title = "the judge and all values of a file's one set; strtod and gfortran judge nothing";
-    heading(title, "file", if calls::FORTRAN { &columns } else { &without });
+    heading(title, "file", &others[..if calls::FORTRAN { 3 } else { 2 }]);
     columns_row("case 1, 65,536 values", 1, &sets::set(1, 65_536));
     columns_row("the same, signs and exponents vary", 1, &sets::signed(1, 65_536));
     columns_row("case 2, 65,536 values", 2, &sets::set(2, 65_536));
@@ -159,8 +183,7 @@ fn values_tables() {
     columns_row("the same, signs and exponents vary", 5, &sets::signed(5, 65_536));
     columns_row("case 8, 65,536 values", 8, &sets::set(8, 65_536));
 
-    let title = "the judge and all values of the last of many sets";
-    heading(title, "file", &["proved MB/s", "Rust MB/s", "proved/Rust"]);
+    heading("the judge and all values of the last of many sets", "file", &["Rust"]);
     values_row("case 1, 16 MB", &sets::many(1, LONGEST));
     values_row("case 5, 16 MB", &sets::many(5, LONGEST));
 }
@@ -168,19 +191,22 @@ fn values_tables() {
 // Rewriting ------------------------------------------------------------------------------------
 
 fn rewrite_row(name: &str, file: &[u8]) {
-    let mut word = 0;
-    let mut proved = vec![b'x'; file.len()];
+    let mut words = [0; ARCHIVES.len()];
+    let mut proved = [(); ARCHIVES.len()].map(|()| vec![b'x'; file.len()]);
     let mut plain = Vec::new();
-    let speeds = best(file, &mut [
-        &mut || word = black_box(calls::rewrite(black_box(file), &mut proved)),
-        &mut || plain = black_box(reader::rewrite(black_box(file)).unwrap_or_default()),
-    ]);
-    check(name, word == plain.len() as u64 && word > 0 && proved[..plain.len()] == plain);
+    let mut sides: Vec<Side> = Vec::new();
+    for ((archive, word), out) in ARCHIVES.iter().zip(&mut words).zip(&mut proved) {
+        sides.push(Box::new(move || *word = black_box((archive.rewrite)(black_box(file), out))));
+    }
+    sides.push(Box::new(|| plain = black_box(reader::rewrite(black_box(file)).unwrap_or_default())));
+    let speeds = best(file, sides);
+    check(name, !plain.is_empty() && words == [plain.len() as u64; ARCHIVES.len()]);
+    check(name, proved.iter().all(|out| out[..plain.len()] == plain));
     row(name, file.len(), &speeds);
 }
 
 fn rewrite_table() {
-    heading("the rewriter", "file", &["proved MB/s", "Rust MB/s", "proved/Rust"]);
+    heading("the rewriter", "file", &["Rust"]);
     rewrite_row("case 1, 16 MB", &sets::many(1, LONGEST));
     rewrite_row("case 5, 16 MB", &sets::many(5, LONGEST));
     rewrite_row("case 1, one set of 65,536 values", &sets::set(1, 65_536));
@@ -193,21 +219,23 @@ fn rewrite_table() {
 
 fn bursts_row(name: &str, file: &[u8], length: usize) {
     let name = format!("{length}, {name}");
-    let (mut ended, mut whole) = (0, 0);
+    let mut ended = [0; ARCHIVES.len()];
+    let mut whole = 0;
     let mut plain = judge::judge(b"");
-    let speeds = best(file, &mut [
-        &mut || ended = black_box(calls::in_bursts(black_box(file), length)),
-        &mut || whole = black_box(calls::judge(black_box(file))),
-        &mut || plain = black_box(judge::judge(black_box(file))),
-    ]);
-    check(&name, ended == whole && plain.number == 0 && whole == u64::from(plain.place));
+    let mut sides: Vec<Side> = Vec::new();
+    for (archive, word) in ARCHIVES.iter().zip(&mut ended) {
+        sides.push(Box::new(move || *word = black_box((archive.in_bursts)(black_box(file), length))));
+    }
+    sides.push(Box::new(|| whole = black_box(calls::now::judge(black_box(file)))));
+    sides.push(Box::new(|| plain = black_box(judge::judge(black_box(file)))));
+    let speeds = best(file, sides);
+    check(&name, plain.number == 0 && whole == u64::from(plain.place) && ended == [whole; ARCHIVES.len()]);
     row(&name, file.len(), &speeds);
 }
 
 fn bursts_table() {
     let title = "a file in bursts beside the two judges of the whole file, proved and Rust";
-    let columns = ["bursts MB/s", "whole MB/s", "Rust MB/s", "bursts/whole", "bursts/Rust"];
-    heading(title, "bursts of", &columns);
+    heading(title, "bursts of", &["whole", "Rust"]);
     for (name, file) in [("case 1", sets::many(1, LONGEST / 4)), ("case 5", sets::many(5, LONGEST / 4))] {
         for length in [1, 64, 512, 4_096] {
             bursts_row(name, &file, length);
