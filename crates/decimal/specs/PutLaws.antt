@@ -69,8 +69,8 @@ four (e ∷ f ∷ g ∷ []) a b c d h = absurd (omega arith)
 four (e ∷ f ∷ g ∷ i ∷ []) a b c d h = refl
 four (e ∷ f ∷ g ∷ i ∷ j ∷ l) a b c d h = absurd (omega arith)
 
+-- the exponent's last two digits, and before them the letter and the sign, or the sign and one digit more
 module _ (l : List ℕ) (x : ℤ) (a n : ℕ) (room : length l ≡ 4) (p : a ≡ signByte (belowZero x)) (q : n ≡ natAbs x) where
-  -- the last two digits, before them the letter and the sign or the sign and one digit more
   pub letter-laid : n ≤ 99 → set (set (set (set l 2 (48 + n / 10 % 10)) 3 (48 + n % 10)) 0 69) 1 a ≡ exponentText x
   unfolding exponentText digitsOf
   letter-laid h = four l _ _ _ _ room ∙ rw (le-leb (natAbs x) 99 (omega arith), p, q, div-one) refl

@@ -121,7 +121,7 @@ module _ (n : Bool) (c k d : ℕ) (room : c < 10 ^ k) (few : k < 18) where
   unfolding onDigit next
   part-digit f h = rw (lt-ltb f 18 (omega arith)) (coefficient-digit 3 f 3 (f + 1))
 
--- what follows the coefficient, of at least one digit
+-- the letter or the exponent's sign right after a coefficient of at least one digit
 pub coefficient-ended : (n m : Bool) (c k f p : ℕ) → 1 ≤ k → afterCoefficient (at 3 n c k f false 0) m p ≡ at p n c k f m 0
 coefficient-ended n m c k f p some = rw (le-leb 1 k some) refl
 

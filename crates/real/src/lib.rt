@@ -123,7 +123,7 @@ fn exponent_digit(s: Scan, d: u8, phase: u8) -> Scan
     }
 }
 
-// A digit of the exponent, which stands after the exponent's sign; the fourth is malformed. Without a letter the third is due.
+// A digit of the exponent, which stands after the exponent's sign; the fourth is malformed. Without a letter all three are due.
 fn on_exponent(s: Scan, d: u8) -> Scan
     ensures { λ r. ⌜ r ≡ onExponent s d ⌝ }
 {
@@ -155,7 +155,7 @@ fn on_digit(s: Scan, d: u8) -> Scan
     on_exponent(s, d)
 }
 
-// What follows the coefficient, of at least one digit: the letter, or the exponent's sign, which leads to this phase.
+// The letter or the exponent's sign right after the coefficient, which leads to this phase; malformed where no digit stands.
 fn after_coefficient(s: Scan, down: bool, phase: u8) -> Scan
     ensures { λ r. ⌜ r ≡ afterCoefficient s down phase ⌝ }
 {
@@ -173,7 +173,7 @@ fn after_coefficient(s: Scan, down: bool, phase: u8) -> Scan
     malformed()
 }
 
-// A sign: after blanks, after the point and digits where no letter stands, or after the letter.
+// A sign: after blanks, right after the coefficient where there is no letter, or after the letter.
 fn on_sign(s: Scan, minus: bool) -> Scan
     ensures { λ r. ⌜ r ≡ onSign s minus ⌝ }
 {
@@ -223,7 +223,7 @@ fn on_point(s: Scan) -> Scan
     malformed()
 }
 
-// The letter: after the point and digits.
+// The letter: right after the coefficient.
 fn on_letter(s: Scan) -> Scan
     ensures { λ r. ⌜ r ≡ onLetter s ⌝ }
 {
