@@ -91,11 +91,11 @@ module _ (d n m : ℕ) (s x : ℤ) (small : n < 10 ^ 20) (low : 10 ^ d ≤ m) (h
       let e : y -ℤ pos d +ℤ pos (z .a) ≡ x -ℤ pos d +ℤ pos (z .a) = sym (move s (count n - 1) (z .a) (z .b) d as-many) ∙ z .scale in
       rw (ne-eqb n 0 (λ q. omega (arith, above))) (cancel y x (negℤ (pos d)) (cancel (y -ℤ pos d) (x -ℤ pos d) (pos (z .a)) e))
 
--- a number that d + 1 digits, the first of them not 0, and an exponent of at most 99 show, fits: 19 is never given for it
-pub fits-complete : (d : ℕ) (c s : ℤ) (m : ℕ) (x : ℤ) → natAbs c < 10 ^ 20 → SameNumber (natAbs c) s m (x -ℤ pos d) → 10 ^ d ≤ m → m < 10 ^ suc d → natAbs x ≤ 99
+-- a number that d + 1 digits, the first of them not 0, and an exponent of at most 999 in size show, fits: 19 is never given for it
+pub fits-complete : (d : ℕ) (c s : ℤ) (m : ℕ) (x : ℤ) → natAbs c < 10 ^ 20 → SameNumber (natAbs c) s m (x -ℤ pos d) → 10 ^ d ≤ m → m < 10 ^ suc d → natAbs x ≤ 999
     → fits d c s ≡ true
 unfolding fits
 fits-complete d c s m x small same low high h =
     let k : count (short (natAbs c)) ≤ d + 1 = same-digits d (natAbs c) m s x small low high same in
     let e : exponentOf (natAbs c) s ≡ x = same-exponent d (natAbs c) m s x small low high same in
-    rw (le-leb (count (short (natAbs c))) (d + 1) k, e) (le-leb (natAbs x) 99 h)
+    rw (le-leb (count (short (natAbs c))) (d + 1) k, e) (le-leb (natAbs x) 999 h)

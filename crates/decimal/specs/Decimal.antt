@@ -1,6 +1,7 @@
 -- A number in its field (01, "Writer": "A field of d decimals shows, right-aligned, a minus if negative, one digit (0 only for zero), the
--- point, d digits, E, sign, two exponent digits, with zero as exponent +00 and no minus sign"). A number is given by its coefficient and
--- its scale: coefficient × 10^scale.
+-- point, d digits, E, sign, two exponent digits, with zero as exponent +00 and no minus sign"; 02, C-12, of "a sign and exactly three digits
+-- with no letter": "The writer writes exponents from 100 to 999 in size that way and refuses only beyond"). A number is given by its
+-- coefficient and its scale: coefficient × 10^scale.
 use mathlib.Core.Bool.{Bool, _&&_}
 use mathlib.Core.List.{List, [], _∷_, _++_}
 use Prim.Native.Nat.{ℕ, zero, suc, _+_, _-_, _*_, _/_, _%_, _^_}
@@ -32,9 +33,9 @@ unfoldable pub exponentOf : ℕ → ℤ → ℤ
 exponentOf n s = pick (eqb n 0) (pos 0) (s +ℤ pos (count n - 1))
 
 -- whether a field of d decimals shows the number. "It is 19 exactly when the number isn't zero and needs more than d + 1 digits once zeros
--- at its end are dropped, or its exponent is outside -99 to 99"; zero needs one digit and has the exponent 0 (`fits-zero`).
+-- at its end are dropped, or its exponent is outside" -999 to 999 (C-12); zero needs one digit and has the exponent 0 (`fits-zero`).
 unfoldable pub fits : ℕ → ℤ → ℤ → Bool
-fits d c s = leb (count (short (natAbs c))) (d + 1) && leb (natAbs (exponentOf (natAbs c) s)) 99
+fits d c s = leb (count (short (natAbs c))) (d + 1) && leb (natAbs (exponentOf (natAbs c) s)) 999
 
 -- the last so many digits of a number
 unfoldable pub digitsOf : ℕ → ℕ → List ℕ
@@ -58,9 +59,10 @@ coefficientText d v = (48 + v / 10 ^ d % 10) ∷ 46 ∷ digitsOf d v
 abbrev pub signByte : Bool → ℕ
 signByte b = pick b 45 43
 
--- "E, sign, two exponent digits"; of an exponent that needs more its last two
+-- "E, sign, two exponent digits" up to 99 in size; past that sign and three digits, of an exponent that needs more its last three
 unfoldable pub exponentText : ℤ → List ℕ
-exponentText x = 69 ∷ signByte (belowZero x) ∷ digitsOf 2 (natAbs x)
+exponentText x =
+    pick (leb (natAbs x) 99) (69 ∷ signByte (belowZero x) ∷ digitsOf 2 (natAbs x)) (signByte (belowZero x) ∷ digitsOf 3 (natAbs x))
 
 -- the number with d decimals
 unfoldable pub numberText : ℕ → ℤ → ℤ → List ℕ

@@ -17,14 +17,14 @@ use Rattle.text.specs.BlankLaws.{blanks-replicate}
 use Rattle.text.specs.Parts.{Sign, Digits, none, more, signed}
 use Rattle.real.specs.declared.Number.{Number}
 use Rattle.real.specs.declared.Real.the-variants.{Value}
-use Rattle.real.specs.Spelling.{Letter, ExponentSign, TwoOrThree, RealSpelling, spelled}
+use Rattle.real.specs.Spelling.{Letter, ExponentSign, TwoOrThree, ExponentSpelling, lettered, bare, RealSpelling, spelled}
 use Rattle.real.specs.Real.{belowZero, numberOf, realOf}
 use Rattle.real.specs.RealLaws.{realOf-complete}
 use Rattle.real.specs.EndLaws.{signed-size}
 use Rattle.decimal.specs.Decimal.{shortIn, count, short, exponentOf, fits, digitsOf, shown, minusText, coefficientText, signByte, exponentText, numberText, fieldText, leadText}
 use Rattle.decimal.specs.CountLaws.{countIn-least, countIn-above, countIn-below, shortIn-most, shortIn-above, Zeros, shortIn-zeros}
 use Rattle.decimal.specs.DigitLaws.{digitsOf-length}
-use Rattle.decimal.specs.PutLaws.{leadText-length, tail-length, field-blank, field-parts}
+use Rattle.decimal.specs.PutLaws.{exponent-cases, leadText-length, tail-length, field-blank, field-parts}
 
 -- a field has just its columns
 pub fieldText-length : (w d : ℕ) (c s : ℤ) → length (fieldText w d c s) ≡ w
@@ -83,6 +83,13 @@ sign-spelled : (x : ℤ) → ExponentSign (belowZero x) (signByte (belowZero x))
 sign-spelled (pos n) = ExponentSign.plus
 sign-spelled (negsuc n) = ExponentSign.minus
 
+-- the exponent: two digits after the letter, or three without it
+exponent-spelled : (x : ℤ) → natAbs x < 1000 → ExponentSpelling (belowZero x) (natAbs x) (exponentText x)
+exponent-spelled x h =
+    exponent-cases (ExponentSpelling (belowZero x) (natAbs x)) x
+    (λ g. lettered (digitsOf 2 (natAbs x)) Letter.E (sign-spelled x) (all-spelled 2 (natAbs x) (omega arith)) (two-digits (natAbs x)))
+    (λ g. bare (digitsOf 3 (natAbs x)) (sign-spelled x) (all-spelled 3 (natAbs x) h) (digitsOf-length 3 (natAbs x)))
+
 -- the digits shown are no more than d + 1
 pub shown-below : (d n : ℕ) → n < 10 ^ 20 → count (short n) ≤ d + 1 → shown d n < 10 ^ suc d
 unfolding shown
@@ -107,9 +114,9 @@ first-digit d n p h g =
     omega arith
 
 -- the field spells what it shows
-field-spelled : (w d : ℕ) (c s : ℤ) → d + 7 ≤ w → d ≤ 17 → shown d (natAbs c) < 10 ^ suc d → natAbs (exponentOf (natAbs c) s) < 100
+field-spelled : (w d : ℕ) (c s : ℤ) → d + 7 ≤ w → d ≤ 17 → shown d (natAbs c) < 10 ^ suc d → natAbs (exponentOf (natAbs c) s) < 1000
     → RealSpelling (belowZero c) (shown d (natAbs c)) (exponentOf (natAbs c) s -ℤ pos d) (fieldText w d c s)
-unfolding fieldText numberText coefficientText exponentText
+unfolding fieldText numberText coefficientText
 field-spelled w d c s h g v x =
     let y : ℤ = exponentOf (natAbs c) s in
     let n : ℕ = shown d (natAbs c) in
@@ -120,8 +127,8 @@ field-spelled w d c s h g v x =
     ap (λ (z : ℤ). z -ℤ pos (length (digitsOf d n))) (signed-size y) ∙ ap (λ (z : ℕ). y -ℤ pos z) (digitsOf-length d n) in
     rw (le-ltb w (d + 7) h)
     (subst (λ (z : ℤ). RealSpelling (belowZero c) n z (bl ++ numberText d c s)) e
-    (spelled bl (minusText c) whole (digitsOf d n) (digitsOf 2 (natAbs y)) (blanks-replicate (w - length (numberText d c s))) (minus-spelled c)
-    (first-spelled d n v) (omega arith) (omega arith) Letter.E (sign-spelled y) (all-spelled 2 (natAbs y) x) (two-digits (natAbs y))))
+    (spelled bl (minusText c) whole (digitsOf d n) (exponentText y) (blanks-replicate (w - length (numberText d c s))) (minus-spelled c)
+    (first-spelled d n v) (omega arith) (omega arith) (exponent-spelled y x)))
 
 -- n × 10^s and m × 10^t are one number: both are zero, or they are the same once zeros are moved between number and scale
 pub data SameNumber : ℕ → ℤ → ℕ → ℤ → Type 0 where
@@ -166,8 +173,8 @@ pub record ReadBack (c s : ℤ) (l : List ℕ) : Type 0 where
 pub fits-read : (w d : ℕ) (c s : ℤ) → natAbs c < 10 ^ 20 → d ≤ 17 → d + 7 ≤ w → fits d c s ≡ true → ReadBack c s (fieldText w d c s)
 unfolding fits
 fits-read w d c s h g r f =
-    let k : count (short (natAbs c)) ≤ d + 1 = leb-true _ _ (and-left (leb (count (short (natAbs c))) (d + 1)) (leb (natAbs (exponentOf (natAbs c) s)) 99) f) in
-    let x : natAbs (exponentOf (natAbs c) s) ≤ 99 = leb-true _ _ (and-right (leb (count (short (natAbs c))) (d + 1)) (leb (natAbs (exponentOf (natAbs c) s)) 99) f) in
+    let k : count (short (natAbs c)) ≤ d + 1 = leb-true _ _ (and-left (leb (count (short (natAbs c))) (d + 1)) (leb (natAbs (exponentOf (natAbs c) s)) 999) f) in
+    let x : natAbs (exponentOf (natAbs c) s) ≤ 999 = leb-true _ _ (and-right (leb (count (short (natAbs c))) (d + 1)) (leb (natAbs (exponentOf (natAbs c) s)) 999) f) in
     let t : ℤ = exponentOf (natAbs c) s -ℤ pos d in
     record {
       number = numberOf (belowZero c) (shown d (natAbs c)) t;

@@ -1,12 +1,13 @@
 -- The columns of a field, part by part.
 use mathlib.Core.Path.{_≡_, refl, sym, ap, _∙_}
+use mathlib.Core.Logic.{⊎-elim}
 use mathlib.Core.Bool.{Bool, true, false}
 use mathlib.Core.List.{List, [], _∷_, _++_, append-nil, append-assoc}
 use Prim.Native.Nat.{ℕ, suc, _+_, _-_, _*_, _/_, _%_, _^_, _≤_, _<_}
 use native.Mathlib.Numerals.{add-one}
 use native.Mathlib.Nat.{div-one}
 use native.Mathlib.Omega.{arith}
-use borrow.Author.Tests.{lt-ltb, le-ltb}
+use borrow.Author.Tests.{lt-ltb, le-ltb, lt-leb, le-leb}
 use borrow.Rule.Slice.PartMut.{putMid}
 use lib.IntN.{ℤ, natAbs}
 use lib.ListN.{length, take, drop, set, getD, replicate, length-replicate, length-append, length-drop, drop-of-length-le, replicate-append-replicate}
@@ -14,7 +15,7 @@ use lib.Seq.{take-suc-set, take-all, set-at, length-take-le, drop-length, take-a
 use mir.Syntax.{w16, w64}
 use mir.Val.{SFits, toZ, ofZ}
 use mir.ValLaws.{toZ-ofZ}
-use Rattle.laws.specs.Choice.{pick}
+use Rattle.laws.specs.Choice.{pick, below-or-not}
 use Rattle.real.specs.Real.{belowZero}
 use Rattle.decimal.specs.Decimal.{leadText, digitsOf, signByte, coefficientText, minusText, exponentText, exponentOf, shown, short, count, numberText, fieldText}
 use Rattle.decimal.specs.SignLaws.{back, exponent-back}
@@ -60,7 +61,7 @@ coefficient-laid (x ∷ y ∷ l) ys v h e =
     ap (λ (m : List ℕ). set (set m 0 (getD m 1 0)) 1 46) p ∙ sym (ap (λ (k : ℕ). coefficientText k v) b)
 
 -- four columns are filled
-four : (l : List ℕ) (a b c d : ℕ) → length l ≡ 4 → set (set (set (set l 0 a) 1 b) 2 c) 3 d ≡ a ∷ b ∷ c ∷ d ∷ []
+four : (l : List ℕ) (a b c d : ℕ) → length l ≡ 4 → set (set (set (set l 2 c) 3 d) 0 a) 1 b ≡ a ∷ b ∷ c ∷ d ∷ []
 four [] a b c d h = absurd (omega arith)
 four (e ∷ []) a b c d h = absurd (omega arith)
 four (e ∷ f ∷ []) a b c d h = absurd (omega arith)
@@ -68,10 +69,26 @@ four (e ∷ f ∷ g ∷ []) a b c d h = absurd (omega arith)
 four (e ∷ f ∷ g ∷ i ∷ []) a b c d h = refl
 four (e ∷ f ∷ g ∷ i ∷ j ∷ l) a b c d h = absurd (omega arith)
 
-pub exponent-laid : (l : List ℕ) (x : ℤ) (a n : ℕ) → length l ≡ 4 → a ≡ signByte (belowZero x) → n ≡ natAbs x
-    → set (set (set (set l 0 69) 1 a) 2 (48 + n / 10 % 10)) 3 (48 + n % 10) ≡ exponentText x
-unfolding exponentText digitsOf
-exponent-laid l x a n h p q = four l _ _ _ _ h ∙ rw (p, q, div-one) refl
+-- the exponent's last two digits, and before them the letter and the sign, or the sign and one digit more
+module _ (l : List ℕ) (x : ℤ) (a n : ℕ) (room : length l ≡ 4) (p : a ≡ signByte (belowZero x)) (q : n ≡ natAbs x) where
+  pub letter-laid : n ≤ 99 → set (set (set (set l 2 (48 + n / 10 % 10)) 3 (48 + n % 10)) 0 69) 1 a ≡ exponentText x
+  unfolding exponentText digitsOf
+  letter-laid h = four l _ _ _ _ room ∙ rw (le-leb (natAbs x) 99 (omega arith), p, q, div-one) refl
+
+  pub bare-laid : 99 < n → set (set (set (set l 2 (48 + n / 10 % 10)) 3 (48 + n % 10)) 0 a) 1 (48 + n / 100 % 10) ≡ exponentText x
+  unfolding exponentText digitsOf
+  bare-laid h = four l _ _ _ _ room ∙ rw (lt-leb (natAbs x) 99 (omega arith), p, q, div-one) refl
+
+-- the exponent's columns by its size
+pub exponent-cases : (P : List ℕ → Type 0) (x : ℤ)
+    → (natAbs x ≤ 99 → P (69 ∷ signByte (belowZero x) ∷ digitsOf 2 (natAbs x)))
+    → (99 < natAbs x → P (signByte (belowZero x) ∷ digitsOf 3 (natAbs x)))
+    → P (exponentText x)
+unfolding exponentText
+exponent-cases P x two three = ⊎-elim
+    (λ h. rw (lt-leb (natAbs x) 99 h) (three h))
+    (λ h. rw (le-leb (natAbs x) 99 h) (two h))
+    (below-or-not 99 (natAbs x))
 
 -- how many columns each part has
 pub leadText-length : (w : ℕ) (m : Bool) → 0 < w → length (leadText w m) ≡ w
@@ -83,8 +100,8 @@ unfolding coefficientText
 coefficientText-length d v = rw (digitsOf-length d v) (omega arith)
 
 exponentText-length : (x : ℤ) → length (exponentText x) ≡ 4
-unfolding exponentText digitsOf
-exponentText-length x = refl
+unfolding digitsOf
+exponentText-length x = exponent-cases (λ (l : List ℕ). length l ≡ 4) x (λ h. refl) (λ h. refl)
 
 -- three parts, laid one after the other, are all the columns
 three : (l a m x : List ℕ) (at e : ℕ) → length a ≡ at → length m ≡ e - at → at ≤ e

@@ -76,7 +76,7 @@ pub fn fits(coefficient: i64, scale: i16, decimals: usize) -> bool
         return false;
     }
     let x = exponent(n, scale);
-    size_of(x) <= 99
+    size_of(x) <= 999
 }
 
 // How many zeros stand after so many digits where d + 1 are shown.
@@ -152,16 +152,22 @@ fn sign(below: bool) -> u8
     43
 }
 
-// Fills four columns with E, the exponent's sign and its last two digits.
+// Fills four columns: up to 99 in size with E, the exponent's sign and two digits, past that with its sign and its last three digits.
 fn put_exponent(out: &mut [u8], x: i64)
     requires { ⌜ length (now out) ≡ 4 ⌝ }
     ensures { λ _. ⌜ now (out .exit) ≡ exponentText x ⌝ }
 {
     let n = size_of(x);
-    out[0] = 69;
-    out[1] = sign(is_below(x));
+    let sign_byte = sign(is_below(x));
     out[2] = 48 + (n / 10 % 10) as u8;
     out[3] = 48 + (n % 10) as u8;
+    if n <= 99 {
+        out[0] = 69;
+        out[1] = sign_byte;
+        return;
+    }
+    out[0] = sign_byte;
+    out[1] = 48 + (n / 100 % 10) as u8;
 }
 
 // Fills the columns with the parts of a number of so many decimals: what stands before it, its digits and its exponent.

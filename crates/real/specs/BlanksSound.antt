@@ -12,7 +12,7 @@ use Rattle.text.specs.Blank.{Blanks, none, one}
 use Rattle.real.specs.declared.Scan.{Scan}
 use Rattle.real.specs.declared.Real.{Real}
 use Rattle.real.specs.declared.Real.the-variants.{Blank}
-use Rattle.real.specs.Real.{start, onCoefficient, onExponent, onDigit, onSign, onPoint, onLetter, onBlank, scanStep, realEnd}
+use Rattle.real.specs.Real.{start, onCoefficient, onExponent, onDigit, afterCoefficient, onSign, onPoint, onLetter, onBlank, scanStep, realEnd}
 use Rattle.real.specs.EndLaws.{blank-value, malformed-blank}
 use Rattle.real.specs.StepLaws.{ended, Step, digit, sign, point, letter, blank, other, step-sound}
 
@@ -25,15 +25,22 @@ pick-both P false a b p q = q
 abbrev Past : Scan → Type 0
 Past s = s .phase ≡ 0 → ⊥
 
+past-coefficient : (s : Scan) (n : Bool) (p : ℕ) → (p ≡ 0 → ⊥) → Past (afterCoefficient s n p)
+past-coefficient s n p q = pick-both Past (leb 1 (s .digits)) _ _ q (omega arith)
+
 past-step : {s t : Scan} {b : ℕ} → Step s b t → Past s → Past t
 unfolding onDigit onCoefficient onExponent onSign onPoint onLetter onBlank
 past-step {s} (digit low high) p =
     pick-both Past (ltb (s .phase) 3) _ _ (pick-both Past (ltb (s .digits) 18) _ _ (omega arith) (omega arith))
     (pick-both Past (eqb (s .phase) 3) _ _ (pick-both Past (ltb (s .digits) 18) _ _ (omega arith) (omega arith))
-    (pick-both Past (ltb (s .phase) 5) _ _ (omega arith) (pick-both Past (ltb (s .phase) 8) _ _ (omega arith) (omega arith))))
-past-step {s} (sign g) p = pick-both Past (eqb (s .phase) 0) _ _ (omega arith) (pick-both Past (eqb (s .phase) 4) _ _ (omega arith) (omega arith))
+    (pick-both Past (ltb (s .phase) 5) _ _ (omega arith)
+    (pick-both Past (ltb (s .phase) 8) _ _ (omega arith)
+    (pick-both Past (ltb (s .phase) 10) _ _ (omega arith) (pick-both Past (ltb (s .phase) 12) _ _ (omega arith) (omega arith))))))
+past-step {s} (sign g) p =
+    pick-both Past (eqb (s .phase) 0) _ _ (omega arith)
+    (pick-both Past (eqb (s .phase) 3) _ _ (past-coefficient s _ _ (omega arith)) (pick-both Past (eqb (s .phase) 4) _ _ (omega arith) (omega arith)))
 past-step {s} point p = pick-both Past (ltb (s .phase) 3) _ _ (omega arith) (omega arith)
-past-step {s} (letter g) p = pick-both Past (eqb (s .phase) 3) _ _ (pick-both Past (leb 1 (s .digits)) _ _ (omega arith) (omega arith)) (omega arith)
+past-step {s} (letter g) p = pick-both Past (eqb (s .phase) 3) _ _ (past-coefficient s _ _ (omega arith)) (omega arith)
 past-step {s} blank p = pick-both Past (ltb 0 (s .phase)) _ _ (omega arith) p
 past-step (other q) p = omega arith
 

@@ -12,7 +12,7 @@ use lib.Seq.{take-suc, take-all, drop-cons, drop-drop, length-take-le}
 use Rattle.laws.specs.Choice.{and-left, and-right}
 use Rattle.text.specs.Blank.{none, one}
 use Rattle.text.specs.Parts.{Digits, more, Sign, isDigit}
-use Rattle.real.specs.Spelling.{ExponentSign, plus, minus, TwoOrThree, two, scale, RealSpelling, spelled}
+use Rattle.real.specs.Spelling.{ExponentSign, plus, minus, TwoOrThree, two, lettered, scale, RealSpelling, spelled}
 use Rattle.real.specs.Real.{at, isLetter, realEnd, realOf}
 use Rattle.real.specs.EndLaws.{realEnd-value}
 use Rattle.real.specs.ByteLaws.{isDigit-low, isDigit-high, isLetter-sound}
@@ -81,10 +81,11 @@ plain-spelled {c = c} {x = x} first second point letter sign whole part ex h lw 
     let le = isLetter-sound letter (t .3) in
     let sx = either (λ (b : ℕ). ExponentSign (eqb b 45) b) sign 43 45 (t .4) plus minus in
     let tx : TwoOrThree (length ex) = rw lx two in
+    let xx = lettered ex le sx (fx .digits) tx in
     rw (eqb-true first 32 (t .0), eqb-true point 46 (t .2))
     (either (λ (b : ℕ). RealSpelling (eqb b 45) c (scale (eqb sign 45) x (length part)) (32 ∷ b ∷ (whole ++ (46 ∷ (part ++ (letter ∷ sign ∷ ex)))))) second 32 45 (t .1)
-    (spelled (32 ∷ 32 ∷ []) [] whole part ex (one (one none)) Sign.bare d low high le sx (fx .digits) tx)
-    (spelled (32 ∷ []) (45 ∷ []) whole part ex (one none) Sign.minus d low high le sx (fx .digits) tx))
+    (spelled (32 ∷ 32 ∷ []) [] whole part _ (one (one none)) Sign.bare d low high xx)
+    (spelled (32 ∷ []) (45 ∷ []) whole part _ (one none) Sign.minus d low high xx))
 
 -- what is read in a field of the usual spelling: the end of a field after two exponent digits
 pub plain-real : {w c x : ℕ} (k : ℕ) (l : List ℕ) → 9 ≤ length l

@@ -8,20 +8,18 @@ use lib.ListN.{length}
 use Rattle.text.specs.Blank.{Blanks}
 use Rattle.text.specs.Parts.{Sign, Digits}
 use Rattle.real.specs.declared.Number.{Number}
-use Rattle.real.specs.Spelling.{Letter, ExponentSign, TwoOrThree, scale}
+use Rattle.real.specs.Spelling.{ExponentSpelling, scale}
 use Rattle.real.specs.Real.{numberOf}
 
--- after the letter, with f digits after the point
-pub data AfterLetter (n : Bool) (c f : ℕ) (v : Number) : List ℕ → Type 0 where
-  exponent : {xn : Bool} {x xs : ℕ} (ex : List ℕ)
-      → ExponentSign xn xs → Digits 0 ex x → TwoOrThree (length ex) → v ≡ numberOf n c (scale xn x f)
-      → AfterLetter n c f v (xs ∷ ex)
+-- after the last digit of the coefficient, with f digits after the point
+pub data AfterDigits (n : Bool) (c f : ℕ) (v : Number) : List ℕ → Type 0 where
+  exponent : {xn : Bool} {x : ℕ} {l : List ℕ} → ExponentSpelling xn x l → v ≡ numberOf n c (scale xn x f) → AfterDigits n c f v l
 
 -- after the point, with k digits so far, f of them after the point
 pub data AfterPoint (n : Bool) (c k f : ℕ) (v : Number) : List ℕ → Type 0 where
-  part : {w letter : ℕ} (ds rest : List ℕ)
-      → Digits c ds w → 1 ≤ k + length ds → k + length ds ≤ 18 → Letter letter → AfterLetter n w (f + length ds) v rest
-      → AfterPoint n c k f v (ds ++ (letter ∷ rest))
+  part : {w : ℕ} (ds rest : List ℕ)
+      → Digits c ds w → 1 ≤ k + length ds → k + length ds ≤ 18 → AfterDigits n w (f + length ds) v rest
+      → AfterPoint n c k f v (ds ++ rest)
 
 -- after the sign, with k digits so far
 pub data AfterSign (n : Bool) (c k : ℕ) (v : Number) : List ℕ → Type 0 where

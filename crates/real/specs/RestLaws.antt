@@ -30,13 +30,13 @@ digits-length ds es = rw (length-append ds es) (omega arith)
 
 -- a spelling follows from the first column
 pub spelled-rest : {n : Bool} {c : ℕ} {s : ℤ} {l : List ℕ} → RealSpelling n c s l → FromStart (numberOf n c s) l
-spelled-rest (spelled {n} {xn} {c} {x} {letter} {xs} bl sg ws ps ex b g ds low high le sx dx t) =
+spelled-rest (spelled bl sg ws ps ex b g ds low high x) =
     let d = digits-split ws ps ds in
     let e = digits-length ws ps in
     columns bl sg _ b g
     (whole ws _ (d .1)
-    (part ps _ (d .2) (omega arith) (omega arith) le
-    (exponent ex sx dx t (rw zero-add refl))))
+    (part ps _ (d .2) (omega arith) (omega arith)
+    (exponent x (rw zero-add refl))))
 
 -- the columns spell v, which is the number of its sign, coefficient and scale
 abbrev pub Spelled : Number → List ℕ → Type 0
@@ -49,7 +49,7 @@ number-spelled {n} {c} {s} v e r = rw (e, signed-size s) (r, refl)
 
 -- what follows from the first column is a spelling
 pub rest-spelled : {v : Number} {l : List ℕ} → FromStart v l → Spelled v l
-rest-spelled (columns bl sg _ b g (whole ws _ dw (part ps _ dp low high le (exponent {xn} {x} ex sx dx t e)))) =
+rest-spelled (columns bl sg _ b g (whole ws _ dw (part ps _ dp low high (exponent {xn} {x} {l = ex} r e)))) =
     let l = digits-length ws ps in
     number-spelled {s = scale xn x (0 + length ps)} _ e
-    (rw zero-add (spelled bl sg ws ps ex b g (digits-join dw dp) (omega arith) (omega arith) le sx dx t))
+    (rw zero-add (spelled bl sg ws ps ex b g (digits-join dw dp) (omega arith) (omega arith) r))

@@ -2,12 +2,12 @@
 use mathlib.Core.Path.{_≡_, refl, sym, ap, _∙_}
 use mathlib.Core.Bool.{Bool, true, false}
 use mathlib.Core.List.{List, [], _∷_}
-use Prim.Native.Nat.{ℕ, _+_, _-_, _*_, _^_, _≤_, _<_}
+use Prim.Native.Nat.{ℕ, zero, suc, _+_, _-_, _*_, _^_, _≤_, _<_}
 use native.Mathlib.Nat.{pow-suc, pow-le-pow-right}
 use native.Mathlib.Numerals.{add-one}
 use native.Mathlib.Omega.{arith}
-use borrow.Author.Tests.{lt-ltb, le-ltb, eqb-true, ne-eqb}
-use lib.Dec.{eqb}
+use borrow.Author.Tests.{lt-ltb, le-ltb, le-leb, eqb-true, ne-eqb}
+use lib.Dec.{ltb, eqb}
 use Rattle.laws.specs.Choice.{pick}
 use Rattle.laws.specs.Run.{run}
 use Rattle.text.specs.Parts.{isDigit}
@@ -16,8 +16,8 @@ use Rattle.real.specs.declared.Scan.{Scan}
 use Rattle.real.specs.declared.Real.{Real}
 use Rattle.real.specs.declared.Real.the-variants.{Malformed, Value}
 use Rattle.real.specs.Spelling.{Letter, ExponentSign, plus, minus}
-use Rattle.real.specs.Real.{at, malformed, push, next, onCoefficient, onExponent, onDigit, onSign, onPoint, onLetter, onBlank, isLetter, scanStep, realEnd, start}
-use Rattle.real.specs.EndLaws.{malformed-value}
+use Rattle.real.specs.Real.{at, malformed, push, next, onCoefficient, onExponent, onDigit, afterCoefficient, onSign, onPoint, onLetter, onBlank, isLetter, scanStep, realEnd, start}
+use Rattle.real.specs.EndLaws.{malformed-value, realEnd-early}
 use Rattle.real.specs.ByteLaws.{isDigit-low, isDigit-high, isDigit-complete, isLetter-sound}
 
 -- what the columns hold, if the rest of them is read from this state
@@ -121,22 +121,58 @@ module _ (n : Bool) (c k d : ℕ) (room : c < 10 ^ k) (few : k < 18) where
   unfolding onDigit next
   part-digit f h = rw (lt-ltb f 18 (omega arith)) (coefficient-digit 3 f 3 (f + 1))
 
--- a digit of the exponent
-pub exponent-digit : (p : ℕ) (n : Bool) (c k f : ℕ) (xn : Bool) (x d : ℕ) → 5 ≤ p → p < 8 → x < 1000
-    → onDigit (at p n c k f xn x) d ≡ at (p + 1) n c k f xn (x * 10 + d)
-unfolding onDigit onExponent
-exponent-digit p n c k f xn x d low high small =
-    rw (le-ltb p 3 (omega arith), ne-eqb p 3 (omega arith), le-ltb p 5 low, lt-ltb p 8 high, push-below (10 ^ 3) x d small) refl
+-- the letter or the exponent's sign right after a coefficient of at least one digit
+pub coefficient-ended : (n m : Bool) (c k f p : ℕ) → 1 ≤ k → afterCoefficient (at 3 n c k f false 0) m p ≡ at p n c k f m 0
+coefficient-ended n m c k f p some = rw (le-leb 1 k some) refl
+
+-- the phase after j exponent digits, where the letter stands (true) or not, and how many are due at least
+abbrev pub phaseAfter : Bool → ℕ → ℕ
+phaseAfter w j = pick w (j + 5) (pick (ltb j 3) (j + 10) 8)
+
+abbrev pub due : Bool → ℕ
+due w = pick w 2 3
+
+pub phase-late : (w : Bool) (j : ℕ) → 5 ≤ phaseAfter w j
+phase-late true j = omega arith
+phase-late false j = go (ltb j 3)
+  where
+    go : (t : Bool) → 5 ≤ pick t (j + 10) 8
+    go true = omega arith
+    go false = omega arith
+
+-- the exponent may end once so many digits stand, and not before
+pub phase-ended : (w : Bool) (j : ℕ) → due w ≤ j → j ≤ 3 → (7 ≤ phaseAfter w j) × (phaseAfter w j ≤ 8)
+phase-ended true j low high = (omega arith, omega arith)
+phase-ended false j low high = rw (le-ltb j 3 low) (omega arith, omega arith)
+
+module _ (n : Bool) (c k f : ℕ) (xn : Bool) (x : ℕ) where
+  pub phase-early : (w : Bool) (j : ℕ) → j < due w → realEnd (at (phaseAfter w j) n c k f xn x) ≡ Malformed
+  unfolding realEnd
+  phase-early true j h = realEnd-early (at (j + 5) n c k f xn x) (omega arith) (omega arith)
+  phase-early false j h = rw (lt-ltb j 3 h, ne-eqb (j + 10) 0 (omega arith), le-ltb (j + 10) 7 (omega arith), lt-ltb 8 (j + 10) (omega arith)) refl
+
+  -- a digit of the exponent; the fourth is malformed
+  pub exponent-digit : (w : Bool) (d j : ℕ) → j < 3 → x < 1000 → onDigit (at (phaseAfter w j) n c k f xn x) d ≡ at (phaseAfter w (j + 1)) n c k f xn (x * 10 + d)
+  unfolding onDigit onExponent
+  exponent-digit true d j h small =
+      let p : ℕ = j + 5 in
+      let e : p + 1 ≡ j + 1 + 5 = omega arith in
+      rw (le-ltb p 3 (omega arith), ne-eqb p 3 (omega arith), le-ltb p 5 (omega arith), lt-ltb p 8 (omega arith), push-below (10 ^ 3) x d small, e) refl
+  exponent-digit false d zero h small = rw (push-below (10 ^ 3) x d small) refl
+  exponent-digit false d (suc zero) h small = rw (push-below (10 ^ 3) x d small) refl
+  exponent-digit false d (suc (suc zero)) h small = rw (push-below (10 ^ 3) x d small) refl
+  exponent-digit false d (suc (suc (suc j))) h small = absurd (omega arith)
+
+  pub exponent-full : (w : Bool) (d j : ℕ) → 3 ≤ j → j ≤ 3 → onDigit (at (phaseAfter w j) n c k f xn x) d ≡ malformed
+  unfolding onDigit onExponent
+  exponent-full true d j low high = let q : j ≡ 3 = omega arith in rw q refl
+  exponent-full false d j low high = let q : j ≡ 3 = omega arith in rw q refl
 
 -- bytes that are malformed where they stand
 module _ (s : Scan) where
-  pub exponent-full : (d : ℕ) → 8 ≤ s .phase → onDigit s d ≡ malformed
-  unfolding onDigit onExponent
-  exponent-full d h = rw (le-ltb (s .phase) 3 (omega arith), ne-eqb (s .phase) 3 (omega arith), le-ltb (s .phase) 5 (omega arith), le-ltb (s .phase) 8 h) refl
-
-  pub sign-refused : (n : Bool) → (s .phase ≡ 0 → ⊥) → (s .phase ≡ 4 → ⊥) → onSign s n ≡ malformed
+  pub sign-refused : (n : Bool) → (s .phase ≡ 0 → ⊥) → (s .phase ≡ 3 → ⊥) → (s .phase ≡ 4 → ⊥) → onSign s n ≡ malformed
   unfolding onSign
-  sign-refused n p q = rw (ne-eqb (s .phase) 0 p, ne-eqb (s .phase) 4 q) refl
+  sign-refused n p q r = rw (ne-eqb (s .phase) 0 p, ne-eqb (s .phase) 3 q, ne-eqb (s .phase) 4 r) refl
 
   pub point-refused : 3 ≤ s .phase → onPoint s ≡ malformed
   unfolding onPoint

@@ -2,7 +2,8 @@
 ghost use mathlib.Core.Path.{_≡_};
 ghost use mathlib.Core.Logic.{_⊎_};
 ghost use Prim.Native.Nat.{_^_, _<_};
-ghost use Rattle.real.specs.Real.{start, malformed, push, next, onCoefficient, onExponent, onDigit, onSign, onPoint, onLetter, onBlank, isLetter, scanStep, scaled, realEnd, realOf};
+ghost use Rattle.real.specs.Real.{start, malformed, push, next, onCoefficient, exponentDigit, onExponent, onDigit};
+ghost use Rattle.real.specs.Real.{afterCoefficient, onSign, onPoint, onLetter, onBlank, isLetter, scanStep, scaled, realEnd, realOf};
 ghost use Rattle.real.specs.Plain.{isPlain, Few};
 use laws::wide;
 use text::blanks_before;
@@ -27,7 +28,8 @@ pub enum Real {
 // What is read so far: the phase, the sign, the digits as a number, how many they are and how many of them stand after the
 // point, whether the exponent's sign is a minus, and its digits as a number.
 // Phases: 0 only blanks, 1 the sign, 2 digits before the point, 3 the point and digits after it, 4 the letter, 5 the exponent's
-// sign, 6 to 8 one to three exponent digits, 9 malformed.
+// sign, 6 to 8 one to three exponent digits, 9 malformed; without a letter 10 the exponent's sign, 11 and 12 one and two exponent
+// digits, and 8 all three.
 pub struct Scan {
     pub phase: u8,
     pub minus: bool,
@@ -105,7 +107,23 @@ fn on_coefficient(s: Scan, d: u8, phase: u8, f: u8) -> Scan
     malformed()
 }
 
-// A digit of the exponent, which stands after the exponent's sign; the fourth is malformed.
+// The exponent with one digit more, which leads to this phase.
+fn exponent_digit(s: Scan, d: u8, phase: u8) -> Scan
+    ensures { λ r. ⌜ r ≡ exponentDigit s d phase ⌝ }
+{
+    let x = push_exponent(s.exponent, d);
+    Scan {
+        phase,
+        minus: s.minus,
+        coefficient: s.coefficient,
+        digits: s.digits,
+        after: s.after,
+        down: s.down,
+        exponent: x,
+    }
+}
+
+// A digit of the exponent, which stands after the exponent's sign; the fourth is malformed. Without a letter all three are due.
 fn on_exponent(s: Scan, d: u8) -> Scan
     ensures { λ r. ⌜ r ≡ onExponent s d ⌝ }
 {
@@ -113,18 +131,15 @@ fn on_exponent(s: Scan, d: u8) -> Scan
         return malformed();
     }
     if s.phase < 8 {
-        let x = push_exponent(s.exponent, d);
-        return Scan {
-            phase: s.phase + 1,
-            minus: s.minus,
-            coefficient: s.coefficient,
-            digits: s.digits,
-            after: s.after,
-            down: s.down,
-            exponent: x,
-        };
+        return exponent_digit(s, d, s.phase + 1);
     }
-    malformed()
+    if s.phase < 10 {
+        return malformed();
+    }
+    if s.phase < 12 {
+        return exponent_digit(s, d, s.phase + 1);
+    }
+    exponent_digit(s, d, 8)
 }
 
 // A digit: before the point, after it, or of the exponent.
@@ -140,7 +155,25 @@ fn on_digit(s: Scan, d: u8) -> Scan
     on_exponent(s, d)
 }
 
-// A sign: after blanks, or after the letter.
+// The letter or the exponent's sign right after the coefficient, which leads to this phase; malformed where no digit stands.
+fn after_coefficient(s: Scan, down: bool, phase: u8) -> Scan
+    ensures { λ r. ⌜ r ≡ afterCoefficient s down phase ⌝ }
+{
+    if 1 <= s.digits {
+        return Scan {
+            phase,
+            minus: s.minus,
+            coefficient: s.coefficient,
+            digits: s.digits,
+            after: s.after,
+            down,
+            exponent: 0,
+        };
+    }
+    malformed()
+}
+
+// A sign: after blanks, right after the coefficient where there is no letter, or after the letter.
 fn on_sign(s: Scan, minus: bool) -> Scan
     ensures { λ r. ⌜ r ≡ onSign s minus ⌝ }
 {
@@ -154,6 +187,9 @@ fn on_sign(s: Scan, minus: bool) -> Scan
             down: false,
             exponent: 0,
         };
+    }
+    if s.phase == 3 {
+        return after_coefficient(s, minus, 10);
     }
     if s.phase == 4 {
         return Scan {
@@ -187,23 +223,12 @@ fn on_point(s: Scan) -> Scan
     malformed()
 }
 
-// The letter: after the point and at least one digit.
+// The letter: right after the coefficient.
 fn on_letter(s: Scan) -> Scan
     ensures { λ r. ⌜ r ≡ onLetter s ⌝ }
 {
     if s.phase == 3 {
-        if 1 <= s.digits {
-            return Scan {
-                phase: 4,
-                minus: s.minus,
-                coefficient: s.coefficient,
-                digits: s.digits,
-                after: s.after,
-                down: false,
-                exponent: 0,
-            };
-        }
-        return malformed();
+        return after_coefficient(s, false, 4);
     }
     malformed()
 }

@@ -1,5 +1,6 @@
 -- The bytes of a number in its field: allowed, and the last one is no blank.
 use mathlib.Core.Path.{_≡_}
+use mathlib.Core.Bool.{Bool, true, false}
 use mathlib.Core.List.{List, [], _∷_, _++_}
 use Prim.Native.Nat.{ℕ, zero, suc, _+_, _-_, _/_, _%_, _^_, _≤_, _<_}
 use native.Mathlib.Nat.{mod-lt}
@@ -11,6 +12,7 @@ use Rattle.text.specs.Text.{Unpadded, last, more}
 use Rattle.line.specs.Line.{Allowed, Allowed.none as no-byte, Allowed.more as byte}
 use Rattle.real.specs.Real.{belowZero}
 use Rattle.decimal.specs.Decimal.{digitsOf, shown, signByte, minusText, coefficientText, exponentText, exponentOf, numberText, fieldText}
+use Rattle.decimal.specs.PutLaws.{exponent-cases}
 use Rattle.rewriter.specs.PlainLaws.{allowed-append}
 
 -- a text with a last byte that is no blank
@@ -47,10 +49,14 @@ unfolding minusText
 minus-allowed (pos n) = no-byte
 minus-allowed (negsuc n) = byte-allowed 45 (omega arith) (omega arith) no-byte
 
+sign-allowed : (b : Bool) {bs : List ℕ} → Allowed bs → Allowed (signByte b ∷ bs)
+sign-allowed true a = byte-allowed 45 (omega arith) (omega arith) a
+sign-allowed false a = byte-allowed 43 (omega arith) (omega arith) a
+
 exponent-allowed : (x : ℤ) → Allowed (exponentText x)
-unfolding exponentText
-exponent-allowed (pos n) = byte-allowed 69 (omega arith) (omega arith) (byte-allowed 43 (omega arith) (omega arith) (digits-allowed 2 n))
-exponent-allowed (negsuc n) = byte-allowed 69 (omega arith) (omega arith) (byte-allowed 45 (omega arith) (omega arith) (digits-allowed 2 (suc n)))
+exponent-allowed x =
+    exponent-cases Allowed x (λ h. byte-allowed 69 (omega arith) (omega arith) (sign-allowed (belowZero x) (digits-allowed 2 (natAbs x))))
+    (λ h. sign-allowed (belowZero x) (digits-allowed 3 (natAbs x)))
 
 number-allowed : (d : ℕ) (x s : ℤ) → Allowed (numberText d x s)
 unfolding numberText coefficientText
@@ -64,9 +70,15 @@ digit-last v = record { unpadded = last (above (v % 10)); some = omega arith }
     above : (k : ℕ) → 48 + k ≡ 32 → ⊥
     above k e = omega arith
 
+digits-end : (w v : ℕ) → Ends (digitsOf (suc w) v)
+unfolding digitsOf
+digits-end zero v = digit-last (v / 10 ^ 0)
+digits-end (suc w) v = byte-before (48 + v / 10 ^ suc w % 10) _ (digits-end w v)
+
 exponent-ends : (x : ℤ) → Ends (exponentText x)
-unfolding exponentText digitsOf
-exponent-ends x = byte-before 69 _ (byte-before (signByte (belowZero x)) _ (byte-before (48 + natAbs x / 10 ^ 1 % 10) _ (digit-last (natAbs x / 10 ^ 0))))
+exponent-ends x =
+    exponent-cases Ends x (λ h. byte-before 69 _ (byte-before (signByte (belowZero x)) _ (digits-end 1 (natAbs x))))
+    (λ h. byte-before (signByte (belowZero x)) _ (digits-end 2 (natAbs x)))
 
 module _ (w d : ℕ) (x s : ℤ) (h : d + 7 ≤ w) where
   pub field-allowed : Allowed (fieldText w d x s)
