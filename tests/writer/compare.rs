@@ -59,6 +59,9 @@ const LEAST: [(usize, u32); 15] = [
 /// Sets of each of the eight cases must be written so often.
 const LEAST_OF_A_CASE: u32 = 500;
 
+/// So many numbers must be written with an exponent without a letter.
+const LEAST_WITHOUT_LETTER: usize = 100_000;
+
 /// The proved side. Not built in, it answers none.
 mod proved {
     #[cfg(write)]
@@ -247,12 +250,14 @@ struct Run {
     /// How often each refusal came (0 for none).
     came: [u32; 23],
     cases: [u32; 8],
+    /// Numbers written with an exponent without a letter.
+    without_letter: usize,
 }
 
 impl Run {
     fn new(alone: bool) -> Run {
         let random = Random::new(0x5EED_0B1E_0019_0022);
-        Run { alone, random, headers: 0, written: 0, came: [0; 23], cases: [0; 8] }
+        Run { alone, random, headers: 0, written: 0, came: [0; 23], cases: [0; 8], without_letter: 0 }
     }
 
     /// Lends so many bytes to both writers.
@@ -288,6 +293,10 @@ impl Run {
                 }
                 let accepted = sound(&subject, &set);
                 self.cases[case_of(&set).expect("an accepted set")] += 1;
+                // The writer's only letter is E.
+                let data = accepted.list()[0][5] as usize;
+                let letters = set[data..].iter().filter(|&&b| b == b'E').count();
+                self.without_letter += numbers.scales.len() - letters;
                 if !self.alone {
                     self.ask_written(&subject, &set, &accepted);
                 }
@@ -386,21 +395,28 @@ fn equal(coefficient: i64, scale: i16, number: &Number) -> bool {
 }
 
 /// Is the field blanks, a minus if negative, one digit (0 only for zero), the point, five or twelve
-/// digits, E, a sign and two digits?
+/// digits, and an exponent of four columns?
 fn in_form(field: &[u8], coefficient: i64) -> bool {
     let decimals = if field.len() == 13 { 5 } else { 12 };
     let (before, after) = field.split_at(field.len() - decimals - 6);
+    let (digits, exponent) = after.split_at(decimals + 2);
     let minus = if coefficient < 0 { b'-' } else { b' ' };
-    let digit = |b: &u8| b.is_ascii_digit();
     before == [b' ', minus]
-        && digit(&after[0])
-        && (after[0] == b'0') == (coefficient == 0)
-        && after[1] == b'.'
-        && after[2..decimals + 2].iter().all(digit)
-        && after[decimals + 2] == b'E'
-        && b"+-".contains(&after[decimals + 3])
-        && after[decimals + 4..].iter().all(digit)
-        && (coefficient != 0 || after.ends_with(b"E+00"))
+        && digits[0].is_ascii_digit()
+        && (digits[0] == b'0') == (coefficient == 0)
+        && digits[1] == b'.'
+        && digits[2..].iter().all(u8::is_ascii_digit)
+        && exponent_in_form(exponent)
+        && (coefficient != 0 || exponent == b"E+00")
+}
+
+/// Is it E, a sign and two digits, or a sign and three digits of which the first is not 0?
+fn exponent_in_form(exponent: &[u8]) -> bool {
+    match exponent {
+        [b'E', b'+' | b'-', digits @ ..] => digits.iter().all(u8::is_ascii_digit),
+        [b'+' | b'-', b'1'..=b'9', digits @ ..] => digits.iter().all(u8::is_ascii_digit),
+        _ => false,
+    }
 }
 
 /// 22 and 19 are given for a reason, and 20 is not given when there is all the room.
@@ -425,7 +441,7 @@ fn sound_refusal(subject: &Subject, reply: Reply) {
 }
 
 /// Is the number zero, or some m times a power of ten, m of just one digit more than the decimals
-/// and the exponent of its first digit from -99 to 99?
+/// and the exponent of its first digit from -999 to 999?
 fn fits(coefficient: i64, scale: i16, decimals: usize) -> bool {
     let (mut m, mut power) = (i128::from(coefficient).abs(), i32::from(scale));
     let most = 10i128.pow(decimals as u32 + 1);
@@ -437,7 +453,7 @@ fn fits(coefficient: i64, scale: i16, decimals: usize) -> bool {
         m /= 10;
         power += 1;
     }
-    m == 0 || (m < most && (-99..=99).contains(&(power + decimals as i32)))
+    m == 0 || (m < most && (-999..=999).contains(&(power + decimals as i32)))
 }
 
 /// Which of the eight cases a set is, from 0, by the last columns of ordinate type and spacing.
@@ -475,7 +491,7 @@ fn check_fixed() -> usize {
         let parts = |field: &str| {
             [b"    -1\n    58\n", &*header, field.as_bytes(), b"\n    -1\n"].concat()
         };
-        let set = field.map(parts);
+        let set = field.as_deref().map(parts);
         let due = set.as_deref().ok_or(Reply { number: 19, place: 0 });
         let name = format!("{coefficient}E{scale}, {decimals} decimals");
         check(&name, (&header, &[coefficient], &[scale], 10_000), due);
@@ -552,6 +568,15 @@ fn take_longest(run: &mut Run) {
             numbers.coefficients[form.stored - 1] = i64::MIN;
             run.take("largest count, its last number wrong", &header, &numbers);
         }
+    }
+}
+
+/// Zero of every scale, in E13.5 and in E20.12.
+fn take_zeros(run: &mut Run) {
+    let scales: Vec<i16> = (i16::MIN..=i16::MAX).collect();
+    let numbers = Numbers { coefficients: vec![0; scales.len()], scales };
+    for ordinate in [2, 4] {
+        run.take("zero of every scale", &fixed::header_of_most(ordinate, 1), &numbers);
     }
 }
 
@@ -672,7 +697,9 @@ fn check_outcomes(run: &Run) {
         println!("{number:7} {came:8}");
     }
     println!("sets of the eight cases: {:?}", run.cases);
-    let mut seldom = run.cases.iter().any(|&came| came < LEAST_OF_A_CASE);
+    println!("numbers written without a letter: {}", run.without_letter);
+    let mut seldom = run.without_letter < LEAST_WITHOUT_LETTER;
+    seldom |= run.cases.iter().any(|&came| came < LEAST_OF_A_CASE);
     seldom |= LEAST.iter().any(|&(number, least)| run.came[number] < least);
     if seldom {
         println!("some outcome came too seldom");
@@ -701,6 +728,7 @@ fn main() {
     take_generated(&mut run);
     take_arbitrary(&mut run);
     take_longest(&mut run);
+    take_zeros(&mut run);
     take_long_headers(&mut run);
     check_outcomes(&run);
     let done = if alone { "the plain side alone:" } else { "compared" };

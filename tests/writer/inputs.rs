@@ -128,14 +128,27 @@ pub fn misfit(random: &mut Random, numbers: &mut Numbers) {
 
 /// A scale of any size, often at an end of its range.
 fn any_scale(random: &mut Random) -> i16 {
-    match random.below(8) {
+    match random.below(10) {
         0 => i16::MIN,
         1 => i16::MAX,
         2 => -100,
         3 => 100,
-        4 => 0,
+        4 => -1_000,
+        5 => 1_000,
+        6 => 0,
         _ => random.next() as i16,
     }
+}
+
+/// An exponent that can be written, often where the letter goes or at an end of the range.
+fn any_exponent(random: &mut Random) -> i32 {
+    const ENDS: [i32; 8] = [0, 1, 98, 99, 100, 101, 998, 999];
+    let size = match random.below(4) {
+        0 => ENDS[random.below(ENDS.len())],
+        1 => random.below(100) as i32,
+        _ => random.below(1_000) as i32,
+    };
+    if random.one_in(2) { -size } else { size }
 }
 
 /// A size of so many digits, none of them a zero at the end.
@@ -162,13 +175,7 @@ fn number(random: &mut Random, count: usize, exponent: i32) -> (i64, i16) {
 
 /// A number that can be written with so many decimals.
 fn good(random: &mut Random, decimals: usize) -> (i64, i16) {
-    let exponent = match random.below(12) {
-        0 => 99,
-        1 => -99,
-        2 => 0,
-        3 => -1,
-        _ => random.below(199) as i32 - 99,
-    };
+    let exponent = any_exponent(random);
     match random.below(16) {
         0 | 1 => (0, any_scale(random)),
         2 => number(random, decimals + 1, exponent),
@@ -186,17 +193,18 @@ fn good(random: &mut Random, decimals: usize) -> (i64, i16) {
 
 /// A number that can't be written with so many decimals.
 fn bad(random: &mut Random, decimals: usize) -> (i64, i16) {
-    let exponent = random.below(199) as i32 - 99;
+    let exponent = any_exponent(random);
+    let beyond = 1_000 + random.below(2) as i32;
     match random.below(8) {
         0 => number(random, decimals + 2, exponent),
         1 => {
             let count = decimals + 2 + random.below(17 - decimals);
             number(random, count, exponent)
         }
-        2 => number(random, 1 + decimals, 100),
-        3 => number(random, 1, -100),
+        2 => number(random, 1 + decimals, beyond),
+        3 => number(random, 1, -beyond),
         4 => (i64::MIN, any_scale(random)),
-        5 => (i64::MAX, -18),
+        5 => (i64::MAX, any_scale(random)),
         6 => (10i64.pow(random.below(19) as u32), i16::MAX),
         _ => (-(10i64.pow(random.below(19) as u32)), i16::MIN),
     }
