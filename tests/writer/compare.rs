@@ -4,10 +4,11 @@
 //! longest sets, lends both sides the same numbers and room, and stops at the first difference (exit 1).
 //! Every set that is written is judged, read back and rewritten by both sides. `compare --self` asks the plain
 //! side alone: against what was typed by hand, and against what must hold of each set it writes.
-//! `compare --fortran DIR` takes the files that a Fortran program wrote. The proved calls are asked
-//! when built with `--cfg write`.
+//! `compare --fortran DIR` takes the files that a Fortran program wrote, `compare --fortran-read PROGRAM` lets a
+//! Fortran program read what the writer lays out. The proved calls are asked when built with `--cfg write`.
 
 mod fixed;
+mod fortran;
 #[allow(dead_code)]
 #[path = "../judge/generate.rs"]
 mod generate;
@@ -556,8 +557,8 @@ fn take_arbitrary(run: &mut Run) {
 /// The largest count in each of the eight cases, and once more with the last number spoiled.
 fn take_longest(run: &mut Run) {
     let mut random = Random::new(0x5EED_0058_6553_6000);
-    for (ordinate, spacing) in [(2, 1), (2, 0), (5, 1), (5, 0), (4, 1), (4, 0), (6, 1), (6, 0)] {
-        let header = fixed::header_of_most(ordinate, spacing);
+    for (ordinate, spacing) in fixed::CASES {
+        let header = fixed::header_of_many(ordinate, spacing, 65_536);
         let Ok(form) = writer::form(&header) else {
             println!("the header of the largest count is refused");
             std::process::exit(1);
@@ -576,7 +577,7 @@ fn take_zeros(run: &mut Run) {
     let scales: Vec<i16> = (i16::MIN..=i16::MAX).collect();
     let numbers = Numbers { coefficients: vec![0; scales.len()], scales };
     for ordinate in [2, 4] {
-        run.take("zero of every scale", &fixed::header_of_most(ordinate, 1), &numbers);
+        run.take("zero of every scale", &fixed::header_of_many(ordinate, 1, 65_536), &numbers);
     }
 }
 
@@ -605,91 +606,6 @@ fn take_long_headers(run: &mut Run) {
     }
 }
 
-// Files from Fortran -------------------------------------------------------------------------------
-
-/// Each file of the eight cases is accepted and reads as the numbers typed for it; those written
-/// with 1P are, but for blanks at line ends, what the writer makes of header and numbers.
-fn check_fortran(folder: &Path, alone: bool) {
-    let read = |name: &str| match std::fs::read(folder.join(name)) {
-        Ok(bytes) => bytes,
-        Err(error) => {
-            println!("{name}: {error}");
-            std::process::exit(1);
-        }
-    };
-    let typed = String::from_utf8_lossy(&read("expected.txt")).into_owned();
-    let mut run = Run::new(alone);
-    for case in 1..=8 {
-        let numbers = typed_numbers(&typed, case);
-        for name in [format!("case{case}.uff"), format!("case{case}-1p.uff")] {
-            let file = read(&name);
-            fortran_file(&mut run, (&name, case), &file, &numbers);
-        }
-    }
-    println!("{} files from Fortran read as the numbers typed", run.headers);
-}
-
-/// The numbers typed for a case, each a coefficient, e and a scale.
-fn typed_numbers(typed: &str, case: usize) -> Numbers {
-    let mut numbers = Numbers { coefficients: Vec::new(), scales: Vec::new() };
-    for line in typed.lines().filter(|line| !line.starts_with('#')) {
-        let mut words = line.split_whitespace();
-        if words.next() != Some(&case.to_string()) {
-            continue;
-        }
-        for word in words {
-            let parts = word.split_once('e').map(|(c, s)| (c.parse(), s.parse()));
-            let Some((Ok(coefficient), Ok(scale))) = parts else {
-                println!("expected.txt: {word} is not a coefficient, e and a scale");
-                std::process::exit(1);
-            };
-            numbers.coefficients.push(coefficient);
-            numbers.scales.push(scale);
-        }
-    }
-    numbers
-}
-
-fn fortran_file(run: &mut Run, (name, case): (&str, usize), file: &[u8], numbers: &Numbers) {
-    let lines: Vec<&[u8]> = file.split_inclusive(|&b| b == b'\n').collect();
-    let header = lines.iter().skip(2).take(11).copied().collect::<Vec<_>>().concat();
-    let subject = Subject { name, header: &header, numbers };
-    let accepted = match reader::accept(file) {
-        Ok(accepted) => accepted,
-        Err(reply) => subject.fail("plain judge", &format!("{name}: {reply:?}")),
-    };
-    let Numbers { coefficients, scales } = numbers;
-    for (j, (&coefficient, &scale)) in coefficients.iter().zip(scales).enumerate() {
-        let number = accepted.number(1, j as u32);
-        if !number.is_ok_and(|number| equal(coefficient, scale, &number)) {
-            subject.fail("plain reader", &format!("{name} at {j}: {number:?}"));
-        }
-    }
-    // The same header and numbers, written.
-    run.take(name, &header, numbers);
-    let written = subject.write(usize::MAX);
-    let one_p = name.contains("-1p");
-    let same = written.as_ref().is_ok_and(|set| !one_p || *set == accepted.rewrite());
-    if !same || accepted.list().len() != 1 || case_of(file) != Some(case - 1) {
-        subject.fail("plain writer", &format!("{name}: other bytes, or another case"));
-    }
-    if !run.alone {
-        let put = accepted.rewrite();
-        let length = put.len() as u32;
-        subject.hold("uff_judge", 0, Ok((lines.len() as u32, &[])), |_| proved::judge(file));
-        let due = Ok((length, &*put));
-        subject.hold("uff_rewrite", put.len(), due, |out| proved::rewrite(file, out));
-        for index in 0..coefficients.len() as u32 {
-            if let Ok(number) = accepted.number(1, index) {
-                let put = number_bytes(&number);
-                subject.hold("uff_number", 20, Ok((20, &put)), |out| {
-                    proved::number(file, index, out)
-                });
-            }
-        }
-    }
-}
-
 /// Prints how often each outcome came and ends the program if one came too seldom.
 fn check_outcomes(run: &Run) {
     println!("refusal    calls");
@@ -707,19 +623,29 @@ fn check_outcomes(run: &Run) {
     }
 }
 
+/// The argument after this one, if this one is given.
+fn path_after<'a>(arguments: &'a [String], name: &str) -> Option<&'a Path> {
+    let at = arguments.iter().position(|argument| argument == name)?;
+    let Some(path) = arguments.get(at + 1) else {
+        eprintln!("{name} needs a path");
+        std::process::exit(2);
+    };
+    Some(Path::new(path))
+}
+
 fn main() {
     let arguments: Vec<String> = std::env::args().skip(1).collect();
     let alone = arguments.iter().any(|argument| argument == "--self");
-    if let Some(at) = arguments.iter().position(|argument| argument == "--fortran") {
-        let Some(folder) = arguments.get(at + 1) else {
-            eprintln!("--fortran needs a folder");
-            std::process::exit(2);
-        };
-        check_fortran(Path::new(folder), alone);
+    if let Some(folder) = path_after(&arguments, "--fortran") {
+        fortran::check_files(folder, alone);
+        return;
+    }
+    if let Some(program) = path_after(&arguments, "--fortran-read") {
+        fortran::check_read(program, alone);
         return;
     }
     if !alone && !proved::BUILT_IN {
-        eprintln!("built without --cfg write: only --self and --fortran can run");
+        eprintln!("built without --cfg write: only --self, --fortran and --fortran-read can run");
         std::process::exit(2);
     }
     println!("{} answers as the papers say", check_fixed());

@@ -314,10 +314,14 @@ pub fn header_of_one(decimals: usize) -> Vec<u8> {
         .into_bytes()
 }
 
-/// A header of the largest count.
-pub fn header_of_most(ordinate: u32, spacing: u32) -> Vec<u8> {
-    let line = format!("{ordinate:10}     65536{spacing:10}  0.00000E+00  0.00000E+00  0.00000E+00");
-    with(7, &line).into_bytes()
+/// Ordinate type and spacing of the eight cases.
+pub const CASES: [(u32, u32); 8] =
+    [(2, 1), (2, 0), (5, 1), (5, 0), (4, 1), (4, 0), (6, 1), (6, 0)];
+
+/// A header of so many values.
+pub fn header_of_many(ordinate: u32, spacing: u32, count: usize) -> Vec<u8> {
+    let abscissa = "  0.00000E+00  0.00000E+00  0.00000E+00";
+    with(7, &format!("{ordinate:10}{count:10}{spacing:10}{abscissa}")).into_bytes()
 }
 
 /// Headers that are refused: what is wrong, the header, number and line.

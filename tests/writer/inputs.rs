@@ -74,6 +74,30 @@ pub fn writable(random: &mut Random, form: &Form) -> Numbers {
     Numbers { coefficients, scales }
 }
 
+/// As many numbers as a header of eight or more asks for, all of which can be written, zero or from
+/// 10^-300 to 10^300 in size; the first eight are always the same.
+pub fn doubles(random: &mut Random, form: &Form) -> Numbers {
+    const FIRST: [(i64, i16); 8] =
+        [(1, -101), (1, 150), (-1, -101), (-1, 150), (123_456, -305), (-5, 300), (1, 99), (10, 99)];
+    let decimals = (0..form.stored).map(|j| form.fields[j % form.fields.len()].decimals);
+    let any = decimals.map(|decimals| loop {
+        let (coefficient, scale) = good(random, decimals);
+        if within_300(coefficient, scale) {
+            break (coefficient, scale);
+        }
+    });
+    let mut numbers: Vec<(i64, i16)> = any.collect();
+    numbers[..FIRST.len()].copy_from_slice(&FIRST);
+    let (coefficients, scales) = numbers.into_iter().unzip();
+    Numbers { coefficients, scales }
+}
+
+/// Is the number zero, or the exponent of its first digit at most 300 in size?
+fn within_300(coefficient: i64, scale: i16) -> bool {
+    let more = coefficient.unsigned_abs().checked_ilog10();
+    more.is_none_or(|more| (i32::from(scale) + more as i32).abs() <= 300)
+}
+
 /// So many numbers of all sorts, for a header that is refused.
 pub fn any(random: &mut Random, stored: usize) -> Numbers {
     let number = |random: &mut Random| {
