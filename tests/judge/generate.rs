@@ -904,12 +904,17 @@ fn respell(random: &mut Random, file: &mut Vec<u8>, from: usize) {
     let Some(sign) = (from.max(1)..file.len() - 1).find(exponent) else {
         return;
     };
-    match random.below(6) {
+    match random.below(7) {
         // The letter becomes a digit, or the digit in its place a letter.
         0 | 1 => file[sign - 1] = if file[sign - 1].is_ascii_alphabetic() { b'0' } else { b'E' },
-        2 => file[sign] = random.pick(b"+-E0 "),
-        3 => file[sign + 1] = random.pick(b"0123456789+-E "),
-        4 => {
+        // One digit more stands behind the sign.
+        2 => {
+            file[sign - 1] = file[sign];
+            file[sign] = b'0';
+        }
+        3 => file[sign] = random.pick(b"+-E0 "),
+        4 => file[sign + 1] = random.pick(b"0123456789+-E "),
+        5 => {
             file.remove(sign - random.below(2));
         }
         _ => {
