@@ -257,10 +257,11 @@ fn integer(field: &[u8]) -> i64 {
 
 /// What an accepted real field means: is it negative, its coefficient and its scale.
 pub fn meaning(field: &[u8]) -> (bool, u64, i16) {
-    let mut rest = field.iter();
+    // The exponent, which has two or three digits, begins with the last sign.
+    let digits = if b"+-".contains(&field[field.len() - 3]) { 2 } else { 3 };
+    let (before, exponent) = field.split_at(field.len() - digits - 1);
     let (mut negative, mut coefficient, mut decimals, mut pointed) = (false, 0, 0, false);
-    let mut below = false;
-    for &byte in &mut rest {
+    for &byte in before {
         match byte {
             // 18 digits at most, so nothing overflows.
             b'0'..=b'9' => {
@@ -268,18 +269,13 @@ pub fn meaning(field: &[u8]) -> (bool, u64, i16) {
                 decimals += i16::from(pointed);
             }
             b'.' => pointed = true,
-            // Behind the point a sign is the exponent's, whose digits are left.
-            b'+' | b'-' if pointed => {
-                below = byte == b'-';
-                break;
-            }
             b'-' => negative = true,
             // A blank, a plus, or the letter if there is one.
             _ => {}
         }
     }
-    let exponent = rest.fold(0, |x, &digit| 10 * x + i16::from(digit - b'0'));
-    (negative, coefficient, if below { -exponent } else { exponent } - decimals)
+    let size = exponent[1..].iter().fold(0, |x, &digit| 10 * x + i16::from(digit - b'0'));
+    (negative, coefficient, if exponent[0] == b'-' { -size } else { size } - decimals)
 }
 
 /// The powers of ten that f64 has exactly.
