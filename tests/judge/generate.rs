@@ -2,7 +2,7 @@
 //!
 //! `proper` writes a random list of sets in random spellings; both judges must accept the result.
 //! `faulty` does the same but now and then writes a wrong field, a wrong line or a wrong count.
-//! `damage` changes the bytes of a finished file: bytes, lines, line ends, columns, length.
+//! `damage` changes the bytes of a finished file: bytes, lines, line ends, columns, exponents, length.
 //! `arbitrary` gives strings of bytes that are a file by chance only.
 //! All choices come from one xorshift generator, so a seed always gives the same files.
 

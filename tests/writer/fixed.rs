@@ -197,43 +197,46 @@ pub fn fields() -> Vec<OneField> {
     all
 }
 
-/// Exponents where the letter goes and where 19 comes, with digits of all sorts before them.
+/// A coefficient, the exponent of its first digit, decimals, and what stands before the exponent.
+const DIGITS: [(i64, i16, usize, &str); 12] = [
+    (1, 0, 5, "  1.00000"),
+    (-1, 0, 5, " -1.00000"),
+    (1, 0, 12, "  1.000000000000"),
+    (-1, 0, 12, " -1.000000000000"),
+    (10, 1, 5, "  1.00000"),
+    (-10, 1, 12, " -1.000000000000"),
+    (999_999, 5, 5, "  9.99999"),
+    (-123_456_000, 8, 5, " -1.23456"),
+    (-9_999_999_999_999, 12, 12, " -9.999999999999"),
+    (1_000_000_000_000_000_000, 18, 5, "  1.00000"),
+    (9_223_372_036_854_000_000, 18, 12, "  9.223372036854"),
+    (-9_223_372_036_854_000_000, 18, 12, " -9.223372036854"),
+];
+
+/// Exponents around those where the letter goes and where 19 comes, as they are shown.
+const EXPONENTS: [(i16, Option<&str>); 18] = [
+    (0, Some("E+00")),
+    (9, Some("E+09")),
+    (98, Some("E+98")),
+    (99, Some("E+99")),
+    (100, Some("+100")),
+    (101, Some("+101")),
+    (998, Some("+998")),
+    (999, Some("+999")),
+    (1_000, None),
+    (1_001, None),
+    (-98, Some("E-98")),
+    (-99, Some("E-99")),
+    (-100, Some("-100")),
+    (-101, Some("-101")),
+    (-998, Some("-998")),
+    (-999, Some("-999")),
+    (-1_000, None),
+    (-1_001, None),
+];
+
+/// Each of these coefficients with each of these exponents.
 fn exponents_at_the_ends() -> Vec<OneField> {
-    // A coefficient, the exponent of its first digit, decimals, and what stands before the exponent.
-    const DIGITS: [(i64, i16, usize, &str); 12] = [
-        (1, 0, 5, "  1.00000"),
-        (-1, 0, 5, " -1.00000"),
-        (1, 0, 12, "  1.000000000000"),
-        (-1, 0, 12, " -1.000000000000"),
-        (10, 1, 5, "  1.00000"),
-        (-10, 1, 12, " -1.000000000000"),
-        (999_999, 5, 5, "  9.99999"),
-        (-123_456_000, 8, 5, " -1.23456"),
-        (-9_999_999_999_999, 12, 12, " -9.999999999999"),
-        (1_000_000_000_000_000_000, 18, 5, "  1.00000"),
-        (9_223_372_036_854_000_000, 18, 12, "  9.223372036854"),
-        (-9_223_372_036_854_000_000, 18, 12, " -9.223372036854"),
-    ];
-    const EXPONENTS: [(i16, Option<&str>); 18] = [
-        (0, Some("E+00")),
-        (9, Some("E+09")),
-        (98, Some("E+98")),
-        (99, Some("E+99")),
-        (100, Some("+100")),
-        (101, Some("+101")),
-        (998, Some("+998")),
-        (999, Some("+999")),
-        (1_000, None),
-        (1_001, None),
-        (-98, Some("E-98")),
-        (-99, Some("E-99")),
-        (-100, Some("-100")),
-        (-101, Some("-101")),
-        (-998, Some("-998")),
-        (-999, Some("-999")),
-        (-1_000, None),
-        (-1_001, None),
-    ];
     let mut all = Vec::new();
     for (coefficient, first, decimals, digits) in DIGITS {
         for (exponent, shown) in EXPONENTS {
