@@ -682,21 +682,21 @@ fn zeros_without_letter(list: &mut List) {
 fn fields_without_letter(list: &mut List) {
     let double = "-1.0000000000000-101";
     let single = "-1.000000-101";
-    let list_of = |file: Vec<u8>, line: usize, fields: &[&str]| with(&file, line, &fields.concat());
-    list.add("two of E20.12 that touch", list_of(function(5, 2, 2), 14, &[double; 2]), 0, 15);
-    list.add("four of E20.12 that touch", list_of(function(5, 4, 4), 14, &[double; 4]), 0, 15);
-    list.add("four of E20.12, one column on", list_of(function(5, 4, 4), 14, &[" ", &double.repeat(4)[..79]]), 12, 14);
-    list.add("six of E13.5 that touch", list_of(function(1, 6, 6), 14, &[single; 6]), 0, 15);
-    list.add("six of E13.5, one column on", list_of(function(1, 6, 6), 14, &[" ", &single.repeat(6)]), 12, 14);
-    list.add("case 6, all that touch", list_of(function(6, 2, 2), 14, &[single, double, single, double]), 0, 15);
-    list.add("case 8, all that touch", list_of(function(8, 1, 1), 14, &[single, double, double]), 0, 15);
-    let orders = list_of(ORDERS.as_bytes().to_vec(), 27, &["-1.23456789-101"; 5]);
+    let with_fields = |file: Vec<u8>, line: usize, fields: &[&str]| with(&file, line, &fields.concat());
+    list.add("two of E20.12 that touch", with_fields(function(5, 2, 2), 14, &[double; 2]), 0, 15);
+    list.add("four of E20.12 that touch", with_fields(function(5, 4, 4), 14, &[double; 4]), 0, 15);
+    list.add("four of E20.12, one column on", with_fields(function(5, 4, 4), 14, &[" ", &double.repeat(4)[..79]]), 12, 14);
+    list.add("six of E13.5 that touch", with_fields(function(1, 6, 6), 14, &[single; 6]), 0, 15);
+    list.add("six of E13.5, one column on", with_fields(function(1, 6, 6), 14, &[" ", &single.repeat(6)]), 12, 14);
+    list.add("case 6, all that touch", with_fields(function(6, 2, 2), 14, &[single, double, single, double]), 0, 15);
+    list.add("case 8, all that touch", with_fields(function(8, 1, 1), 14, &[single, double, double]), 0, 15);
+    let orders = with_fields(ORDERS.as_bytes().to_vec(), 27, &["-1.23456789-101"; 5]);
     list.add("five of E15.7 that touch", orders, 0, 30);
-    let digit_past = list_of(function(1, 6, 6), 14, &[single, single, single, single, single, single, "0"]);
+    let digit_past = with_fields(function(1, 6, 6), 14, &[single, single, single, single, single, single, "0"]);
     list.add("E13.5, a fourth digit past the last field", digit_past, 13, 14);
-    list.add("the last number, a fourth digit past it", list_of(function(1, 7, 7), 15, &[single, "0"]), 13, 15);
-    list.add("the last number, its third digit lost", list_of(function(1, 7, 7), 15, &[&single[..12]]), 12, 15);
-    list.add("a letter in one field only", list_of(function(5, 2, 2), 14, &[double, "-1.000000000000E-101"]), 0, 15);
+    list.add("the last number, a fourth digit past it", with_fields(function(1, 7, 7), 15, &[single, "0"]), 13, 15);
+    list.add("the last number, its third digit lost", with_fields(function(1, 7, 7), 15, &[&single[..12]]), 12, 15);
+    list.add("a letter in one field only", with_fields(function(5, 2, 2), 14, &[double, "-1.000000000000E-101"]), 0, 15);
 }
 
 /// A capture that lost power: more is declared than was written.

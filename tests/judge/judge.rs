@@ -2,9 +2,9 @@
 //!
 //! It was written from the papers alone (document 01, the source documents it names and request C-12
 //! of document 02, with the readings settled for them) and shares nothing with the proved judge, so
-//! that each can be held against the other. It answers refusals 0 to 16 with their places as document 01's table says.
-//! Safe Rust, standard library only, nothing allocated; every line is looked at once, in order,
-//! and the first bad line decides.
+//! that each can be held against the other. It answers refusals 0 to 16 with their places as document
+//! 01's table says. Safe Rust, standard library only, nothing allocated; every line is looked at once,
+//! in order, and the first bad line decides.
 
 /// A refusal's number (0 is "accepted") and its place.
 #[derive(Clone, Copy, Debug, PartialEq, Eq)]
