@@ -72,6 +72,17 @@ pub fn many(case: usize, length: usize) -> Vec<u8> {
     file
 }
 
+/// The same file with no letter in any exponent, in the same columns: E-01 becomes -001.
+pub fn without_letters(mut file: Vec<u8>) -> Vec<u8> {
+    for n in 1..file.len() {
+        if file[n - 1] == b'E' && b"+-".contains(&file[n]) {
+            file[n - 1] = file[n];
+            file[n] = b'0';
+        }
+    }
+    file
+}
+
 /// Sets of case 1 with CR LF and every line filled to column 80.
 pub fn filled() -> Vec<u8> {
     let one = files::filled(&set(1, 65_536), b"\r\n");

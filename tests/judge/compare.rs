@@ -46,6 +46,9 @@ const LEAST: [(usize, u32); 15] = [
     (15, 12),
 ];
 
+/// So many reals of the proper files must have an exponent without a letter.
+const LEAST_WITHOUT_LETTER: u32 = 400_000;
+
 #[cfg(not(alone))]
 extern "C" {
     fn uff_judge(file: *const u8, len: usize) -> u64;
@@ -76,6 +79,8 @@ struct Run {
     bytes: usize,
     /// How often each refusal came.
     came: [u32; 17],
+    /// Exponents without a letter in the proper files.
+    without_letter: u32,
 }
 
 impl Run {
@@ -119,18 +124,8 @@ fn fail(name: &str, file: &[u8], replies: &[(&str, Reply)]) -> ! {
     std::process::exit(1);
 }
 
-fn main() {
-    let alone = std::env::args().any(|argument| argument == "--self");
-    let mut run = Run { alone, files: 0, bytes: 0, came: [0; 17] };
-
-    for edge in edges::edges() {
-        let expected = Reply { number: edge.number, place: edge.place };
-        run.take(&edge.name, &edge.file, Some(expected));
-    }
-    let edge_files = run.files;
-    let edge_came = run.came;
-    run.came = [0; 17];
-
+/// Generated files, proper, faulty and damaged, arbitrary bytes and files of many sets.
+fn take_generated(run: &mut Run) {
     let mut random = Random::new(0x5EED_0F58_0082_0151);
     for n in 0..FILES {
         match n % 4 {
@@ -138,6 +133,7 @@ fn main() {
             0 | 2 => {
                 let made = generate::proper(&mut random);
                 let expected = Reply { number: 0, place: made.lines };
+                run.without_letter += made.without_letter;
                 run.take("proper file", &made.file, Some(expected));
             }
             // Wrong fields, lines and counts, now and then damaged on top.
@@ -163,27 +159,54 @@ fn main() {
     for _ in 0..ARBITRARY {
         run.take("arbitrary bytes", &generate::arbitrary(&mut random), None);
     }
+    take_many_sets(run, &mut random);
+}
+
+fn take_many_sets(run: &mut Run, random: &mut Random) {
     for n in 0..FILES_OF_MANY_SETS {
         let sets = 4_095 + n % 4;
-        let mut made = generate::many_sets(&mut random, sets);
+        let mut made = generate::many_sets(random, sets);
         let expected = (sets <= 4_096).then_some(Reply { number: 0, place: made.lines });
         run.take("many sets", &made.file, expected);
         if n % 8 >= 4 {
-            generate::damage(&mut random, &mut made.file);
+            generate::damage(random, &mut made.file);
             run.take("many sets, damaged", &made.file, None);
         }
     }
+}
 
-    println!("refusal  edge files  generated files");
-    for number in 0..17 {
-        println!("{number:7}  {:10}  {:15}", edge_came[number], run.came[number]);
-    }
+/// Ends the program if the generated files had too little of something.
+fn check_outcomes(run: &Run) {
     for (number, least) in LEAST {
         if run.came[number] < least {
             println!("refusal {number} came {} times, less than {least}", run.came[number]);
             std::process::exit(1);
         }
     }
+    println!("{} exponents without a letter in proper files", run.without_letter);
+    if run.without_letter < LEAST_WITHOUT_LETTER {
+        println!("less than {LEAST_WITHOUT_LETTER}");
+        std::process::exit(1);
+    }
+}
+
+fn main() {
+    let alone = std::env::args().any(|argument| argument == "--self");
+    let mut run = Run { alone, files: 0, bytes: 0, came: [0; 17], without_letter: 0 };
+    for edge in edges::edges() {
+        let expected = Reply { number: edge.number, place: edge.place };
+        run.take(&edge.name, &edge.file, Some(expected));
+    }
+    let edge_files = run.files;
+    let edge_came = run.came;
+    run.came = [0; 17];
+    take_generated(&mut run);
+
+    println!("refusal  edge files  generated files");
+    for number in 0..17 {
+        println!("{number:7}  {:10}  {:15}", edge_came[number], run.came[number]);
+    }
+    check_outcomes(&run);
     if alone {
         println!("the plain judge alone, {edge_files} edge files as the papers say");
     } else {

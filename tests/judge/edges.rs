@@ -154,6 +154,9 @@ pub fn edges() -> Vec<Edge> {
     numbers_of_sets(&mut list);
     function_heads(&mut list);
     function_data(&mut list);
+    exponents_without_letter(&mut list);
+    zeros_without_letter(&mut list);
+    fields_without_letter(&mut list);
     lost_captures(&mut list);
     traces(&mut list);
     headers(&mut list);
@@ -483,6 +486,7 @@ fn function_data(list: &mut List) {
         ".12345678E+00",
         "12345678.E+00",
         "-0000000.E-99",
+        "      1.0+000",
     ] {
         list.add(&format!("real {good:?}"), put(&base, 14, 1, good), 0, 16);
     }
@@ -497,7 +501,6 @@ fn function_data(list: &mut List) {
         "       10E+00",
         "        1E+00",
         "        1.000",
-        "      1.0+000",
         "       1.0+00",
         "     1.0F+00 ",
         "      1.0F+00",
@@ -580,6 +583,120 @@ fn function_data(list: &mut List) {
     list.add("touching fields", with(&function(5, 4, 4), 14, touching), 0, 15);
     let shifted = format!(" {}", &touching[..79]);
     list.add("touching fields, one column on", with(&function(5, 4, 4), 14, &shifted), 12, 14);
+}
+
+/// Fields of reals: whose, the file and its lines, the field's line, first column and width.
+fn real_fields() -> Vec<(&'static str, Vec<u8>, u32, usize, usize, usize)> {
+    let (single, double, mixed) = (function(1, 7, 7), function(5, 6, 6), function(8, 2, 2));
+    let (units, orders) = (UNITS.as_bytes().to_vec(), ORDERS.as_bytes().to_vec());
+    vec![
+        ("58, minimum", single.clone(), 16, 9, 31, 13),
+        ("58, Z value", single.clone(), 16, 9, 57, 13),
+        ("case 1, first of a line", single.clone(), 16, 14, 1, 13),
+        ("case 1, last of a line", single.clone(), 16, 14, 66, 13),
+        ("case 1, last of all", single, 16, 15, 1, 13),
+        ("case 5, first of a line", double.clone(), 16, 14, 1, 20),
+        ("case 5, last of a line", double.clone(), 16, 14, 61, 20),
+        ("case 5, last of all", double, 16, 15, 21, 20),
+        ("case 8, abscissa", mixed.clone(), 16, 15, 1, 13),
+        ("case 8, imaginary part", mixed, 16, 15, 34, 20),
+        ("164, offset", units, 6, 5, 1, 25),
+        ("1815, first of a line", orders.clone(), 30, 4, 1, 15),
+        ("1815, last of a line", orders.clone(), 30, 4, 16, 15),
+        ("1815, last order of a line", orders, 30, 27, 61, 15),
+    ]
+}
+
+/// Request C-12: an exponent is a sign and three digits where there is no letter.
+fn exponents_without_letter(list: &mut List) {
+    const GOOD: [&str; 23] = [
+        "-1.234567890123-101", "1.0+005", "1.0E+005", "1.-101", ".5-999", "-.5+000", "+0.0-000", "-0.0+999",
+        "1.0+000", "+1.0-005", "1.0+999", "0.00000-101",
+        // All columns of E13.5, of E15.7 and of E20.12.
+        "-1.234567-101", "12345678.+000", ".12345678-999", "-1.23456789-101", "1.234567890+100",
+        "-1.0000000000000-101", "1.23456789012345-101",
+        // Eighteen digits.
+        "1.23456789012345678-101", "-.123456789012345678+999", "+123456789012345678.-000", "000000000000000000.+100",
+    ];
+    const BAD: [&str; 34] = [
+        "1.0-10", "1.0-1010", "1-101", ".-101", "1.0 -101", "1.0- 101", "1.0--101", "1.0-101 ", "1.0E101", "1.0E-1010",
+        "1.0+00", "1.0-1", "1.0-", "1.0+0000", "-.-101", "+.+000", "-101", "1.0+-101", "1.0-+101", "1.0-10x", "1.0-1x1",
+        "1.0-10.", "1.0101", "1.0x101", "1.0F-101", "1.0EE-101", "1.0.-101", "1..0-101", "--1.0-101", "- 1.0-101",
+        "1.0-101-101", "1.0-101E+00",
+        // Nineteen digits.
+        "1.234567890123456789-101", "0000000000000000000.-101",
+    ];
+    for (name, file, lines, line, column, width) in real_fields() {
+        let mut add = |text: &str, number, place| {
+            if text.len() <= width {
+                let field = format!("{text:>width$}");
+                list.add(&format!("{name}: {field:?}"), put(&file, line, column, &field), number, place);
+            }
+        };
+        GOOD.iter().for_each(|good| add(good, 0, lines));
+        BAD.iter().for_each(|bad| add(bad, 12, line as u32));
+    }
+}
+
+/// "Minimum and increment are zero" and "above zero" are about value, whatever the exponent.
+fn zeros_without_letter(list: &mut List) {
+    let uneven = function(2, 7, 7);
+    for (column, text, number) in [
+        (31, "  0.00000-101", 0),
+        (31, " -0.00000+999", 0),
+        (31, "     +0.0-000", 0),
+        (31, "      .0+005 ", 12),
+        (31, "  0.00001-101", 14),
+        (31, ".00000001-999", 14),
+        (31, " -1.00000+000", 14),
+        (44, "  0.00000-101", 0),
+        (44, "     -.0+999 ", 12),
+        (44, "  1.00000-101", 14),
+        (44, "      .0-0010", 12),
+        (57, " -1.00000-101", 0),
+        (57, "     1.0-1010", 12),
+    ] {
+        let place = if number == 0 { 17 } else { 9 };
+        list.add(&format!("uneven, column {column}: {text:?}"), put(&uneven, 9, column, text), number, place);
+    }
+    let nonzero = put(&uneven, 9, 31, "  1.00000-101");
+    list.add("uneven, no letter: 12 before 14", put(&nonzero, 9, 57, "   1.00000-10"), 12, 9);
+    let units = UNITS.as_bytes();
+    for (column, text, number) in [
+        (1, "  1.00000000000000000-101", 0),
+        (26, "  0.00000000000000001-999", 0),
+        (51, " +123456789012345678.+999", 0),
+        (1, "  0.00000000000000000-101", 14),
+        (26, " -0.00000000000000000+000", 14),
+        (51, " -1.00000000000000000-101", 14),
+        (1, " 1.234567890123456789-101", 12),
+        (26, "   1.00000000000000000-10", 12),
+        (51, " 1.00000000000000000-101 ", 12),
+    ] {
+        let place = if number == 0 { 6 } else { 4 };
+        list.add(&format!("164, line 4, column {column}: {text:?}"), put(units, 4, column, text), number, place);
+    }
+}
+
+/// Fields without a letter that touch, one column on, and with a digit past the last field.
+fn fields_without_letter(list: &mut List) {
+    let double = "-1.0000000000000-101";
+    let single = "-1.000000-101";
+    let with_fields = |file: Vec<u8>, line: usize, fields: &[&str]| with(&file, line, &fields.concat());
+    list.add("two of E20.12 that touch", with_fields(function(5, 2, 2), 14, &[double; 2]), 0, 15);
+    list.add("four of E20.12 that touch", with_fields(function(5, 4, 4), 14, &[double; 4]), 0, 15);
+    list.add("four of E20.12, one column on", with_fields(function(5, 4, 4), 14, &[" ", &double.repeat(4)[..79]]), 12, 14);
+    list.add("six of E13.5 that touch", with_fields(function(1, 6, 6), 14, &[single; 6]), 0, 15);
+    list.add("six of E13.5, one column on", with_fields(function(1, 6, 6), 14, &[" ", &single.repeat(6)]), 12, 14);
+    list.add("case 6, all that touch", with_fields(function(6, 2, 2), 14, &[single, double, single, double]), 0, 15);
+    list.add("case 8, all that touch", with_fields(function(8, 1, 1), 14, &[single, double, double]), 0, 15);
+    let orders = with_fields(ORDERS.as_bytes().to_vec(), 27, &["-1.23456789-101"; 5]);
+    list.add("five of E15.7 that touch", orders, 0, 30);
+    let digit_past = with_fields(function(1, 6, 6), 14, &[single, single, single, single, single, single, "0"]);
+    list.add("E13.5, a fourth digit past the last field", digit_past, 13, 14);
+    list.add("the last number, a fourth digit past it", with_fields(function(1, 7, 7), 15, &[single, "0"]), 13, 15);
+    list.add("the last number, its third digit lost", with_fields(function(1, 7, 7), 15, &[&single[..12]]), 12, 15);
+    list.add("a letter in one field only", with_fields(function(5, 2, 2), 14, &[double, "-1.000000000000E-101"]), 0, 15);
 }
 
 /// A capture that lost power: more is declared than was written.

@@ -2,7 +2,7 @@
 //!
 //! `proper` writes a random list of sets in random spellings; both judges must accept the result.
 //! `faulty` does the same but now and then writes a wrong field, a wrong line or a wrong count.
-//! `damage` changes the bytes of a finished file: bytes, lines, line ends, columns, length.
+//! `damage` changes the bytes of a finished file: bytes, lines, line ends, columns, exponents, length.
 //! `arbitrary` gives strings of bytes that are a file by chance only.
 //! All choices come from one xorshift generator, so a seed always gives the same files.
 
@@ -40,10 +40,12 @@ impl Random {
     }
 }
 
-/// A generated file and the number of its lines (right for proper files only).
+/// A generated file, the number of its lines (right for proper files only) and of its exponents
+/// without a letter.
 pub struct Made {
     pub file: Vec<u8>,
     pub lines: u32,
+    pub without_letter: u32,
 }
 
 /// What a real field has to be.
@@ -59,7 +61,7 @@ enum Kind {
 pub fn proper(random: &mut Random) -> Made {
     let mut pen = Pen::new(random, 0);
     pen.sets();
-    Made { file: pen.out, lines: pen.lines }
+    pen.made()
 }
 
 /// The same with about one wrong thing in so many fields and lines.
@@ -88,7 +90,7 @@ pub fn many_sets(random: &mut Random, sets: usize) -> Made {
         pen.end();
         pen.delimiter();
     }
-    Made { file: pen.out, lines: pen.lines }
+    pen.made()
 }
 
 const TYPED: [i64; 5] = [58, 82, 151, 164, 1815];
@@ -113,6 +115,7 @@ struct Pen<'a> {
     out: Vec<u8>,
     line: Vec<u8>,
     lines: u32,
+    without_letter: u32,
     /// Line ends: 0 for LF, 1 for CR LF, 2 for both in turn.
     ends: usize,
     /// Blanks at line ends: 0 for none, 1 for filled to column 80, 2 for anything.
@@ -130,10 +133,15 @@ impl<'a> Pen<'a> {
             out: Vec::with_capacity(4096),
             line: Vec::with_capacity(128),
             lines: 0,
+            without_letter: 0,
             ends,
             filled,
             faults,
         }
+    }
+
+    fn made(self) -> Made {
+        Made { file: self.out, lines: self.lines, without_letter: self.without_letter }
     }
 
     /// Is the next thing to be wrong?
@@ -427,22 +435,30 @@ impl<'a> Pen<'a> {
             Kind::Above => self.random.pick(&[b"".as_slice(), b"", b"", b"+"]),
             _ => self.random.pick(&[b"".as_slice(), b"", b"", b"-", b"-", b"+"]),
         };
-        let exponent_digits = if self.random.one_in(4) { 3 } else { 2 };
-        let most = (width - sign.len() - 3 - exponent_digits).min(18);
+        let exponent = self.exponent();
+        // The point is one column more.
+        let room = width - sign.len() - 1 - exponent.len();
+        let most = room.min(18);
         let count = match self.random.below(8) {
             0 => 1 + self.random.below(most),
             1 => most,
             2 => 1,
             _ => most.min(width - 7),
         };
+        self.blanks(room - count);
+        self.line.extend_from_slice(sign);
+        self.digits(count, kind);
+        self.line.extend_from_slice(&exponent);
+    }
+
+    /// So many digits and a point.
+    fn digits(&mut self, count: usize, kind: Kind) {
         let point = match self.random.below(8) {
             0 => 0,
             1 => count,
             2 => self.random.below(count + 1),
             _ => 1,
         };
-        self.blanks(width - sign.len() - 3 - exponent_digits - count);
-        self.line.extend_from_slice(sign);
         let mut bits = self.random.next();
         for n in 0..count {
             if n == point {
@@ -459,14 +475,30 @@ impl<'a> Pen<'a> {
         if point == count {
             self.line.push(b'.');
         }
-        let letter = self.random.pick(b"EEEEEDed");
-        self.line.push(letter);
-        let sign = self.random.pick(b"+-");
-        self.line.push(sign);
-        for _ in 0..exponent_digits {
-            let digit = b'0' + self.random.below(10) as u8;
-            self.line.push(digit);
+    }
+
+    /// An exponent: a letter, a sign and two or three digits, or a sign and three digits.
+    fn exponent(&mut self) -> Vec<u8> {
+        let mut exponent = Vec::with_capacity(5);
+        let (letter, digits) = self.random.pick(&[(true, 2), (true, 2), (true, 2), (true, 3), (false, 3)]);
+        if letter {
+            exponent.push(self.random.pick(b"EEEEEDed"));
+        } else {
+            self.without_letter += 1;
         }
+        exponent.push(self.random.pick(b"+-"));
+        // Any digits; now and then all the same, or zeros before the last.
+        let same = self.random.pick(b"09");
+        let way = self.random.below(12);
+        for n in 0..digits {
+            let any = b'0' + self.random.below(10) as u8;
+            exponent.push(match way {
+                0 => same,
+                1 if n + 1 < digits => b'0',
+                _ => any,
+            });
+        }
+        exponent
     }
 
     /// A real field that is blank or malformed.
@@ -478,8 +510,18 @@ impl<'a> Pen<'a> {
             b"1.0E00",
             b"1.0E+0",
             b"1.0E+0000",
-            b"1.0+000",
             b"1.0+00",
+            b"1.0-10",
+            b"1.0-1010",
+            b"1-101",
+            b".-101",
+            b"-.+000",
+            b"1.0 -101",
+            b"1.0- 101",
+            b"1.0--101",
+            b"1.0-101 ",
+            b"1.0E101",
+            b"1.0E-1010",
             b".E+00",
             b"-.E+00",
             b"1..0E+00",
@@ -503,7 +545,9 @@ impl<'a> Pen<'a> {
             b"1.0E+0x",
             b"1.0E+x0",
             b"1.234567890123456789E+00",
+            b"1.234567890123456789-101",
             b"0000000000000000000.E+00",
+            b"0000000000000000000.-000",
             b"1.23456789012345678E+00",
         ]);
         let wrong = &wrong[wrong.len().saturating_sub(width)..];
@@ -811,10 +855,10 @@ impl<'a> Pen<'a> {
 // Arbitrary bytes ------------------------------------------------------------------------------
 
 /// Lines and fields of files, and their parts.
-const PIECES: [&[u8]; 20] = [
+const PIECES: [&[u8]; 22] = [
     b"    -1\n", b"    -1\n", b"    -1  \r\n", b"\n", b"\r\n", b"NONE\n", b"    58\n", b"    82\n",
     b"   151\n", b"   164\n", b"  1815\n", b"     7\n", b"         1", b"         0",
-    b"  1.00000E+00", b"  1.000000000000E+00", b"    ", b"-1", b"x", b"\x7f",
+    b"  1.00000E+00", b"  1.000000000000E+00", b"  1.00000-101", b"-1.0000000000000-101", b"    ", b"-1", b"x", b"\x7f",
 ];
 
 /// Any bytes, bytes that files hold, pieces of files in any order, or any text as a plain set's lines.
@@ -850,6 +894,36 @@ fn starts(file: &[u8]) -> Vec<usize> {
     starts
 }
 
+/// Changes the first exponent from a place on, in its columns or by a column: its letter, its sign or one
+/// of its digits becomes something near, comes or goes.
+fn respell(random: &mut Random, file: &mut Vec<u8>, from: usize) {
+    let exponent = |n: &usize| {
+        let three = &file[n - 1..n + 2];
+        b".0123456789EeDd".contains(&three[0]) && b"+-".contains(&three[1]) && three[2].is_ascii_digit()
+    };
+    let Some(sign) = (from.max(1)..file.len() - 1).find(exponent) else {
+        return;
+    };
+    match random.below(7) {
+        // The letter becomes a digit, or the digit in its place a letter.
+        0 | 1 => file[sign - 1] = if file[sign - 1].is_ascii_alphabetic() { b'0' } else { b'E' },
+        // One digit more stands behind the sign.
+        2 => {
+            file[sign - 1] = file[sign];
+            file[sign] = b'0';
+        }
+        3 => file[sign] = random.pick(b"+-E0 "),
+        4 => file[sign + 1] = random.pick(b"0123456789+-E "),
+        5 => {
+            file.remove(sign - random.below(2));
+        }
+        _ => {
+            let byte = random.pick(b"0E-+ ");
+            file.insert(sign + random.below(3), byte);
+        }
+    }
+}
+
 /// Changes a file in one random way.
 pub fn damage(random: &mut Random, file: &mut Vec<u8>) {
     if file.is_empty() {
@@ -868,7 +942,7 @@ pub fn damage(random: &mut Random, file: &mut Vec<u8>) {
         }
     }
     let at = random.below(file.len());
-    match random.below(24) {
+    match random.below(25) {
         // a byte becomes any byte
         0 => file[at] = random.below(256) as u8,
         // a byte becomes one that files hold
@@ -956,6 +1030,8 @@ pub fn damage(random: &mut Random, file: &mut Vec<u8>) {
             file.remove(at);
         }
         23 => file.insert(at, random.pick(b" 019.-E")),
+        // an exponent is spelled otherwise
+        24 => respell(random, file, at),
         // the choice does not suit this line: a bit changes
         _ => file[at] ^= 1 << random.below(8),
     }

@@ -1,10 +1,10 @@
 //! A plain, strict judge of Universal Files: the second opinion.
 //!
-//! It was written from the papers alone (document 01 and the source documents it names, with the
-//! readings settled for it) and shares nothing with the proved judge, so that each can be held
-//! against the other. It answers refusals 0 to 16 with their places as document 01's table says.
-//! Safe Rust, standard library only, nothing allocated; every line is looked at once, in order,
-//! and the first bad line decides.
+//! It was written from the papers alone (document 01, the source documents it names and request C-12
+//! of document 02, with the readings settled for them) and shares nothing with the proved judge, so
+//! that each can be held against the other. It answers refusals 0 to 16 with their places as document
+//! 01's table says. Safe Rust, standard library only, nothing allocated; every line is looked at once,
+//! in order, and the first bad line decides.
 
 /// A refusal's number (0 is "accepted") and its place.
 #[derive(Clone, Copy, Debug, PartialEq, Eq)]
@@ -543,8 +543,9 @@ fn integer(field: &[u8], width: usize) -> Result<i64, u32> {
     }
 }
 
-/// A real field: blanks, an optional sign, 1 to 18 digits with one point, a letter, a sign, two or
-/// three digits up to the last column. Answers the sign of the value: -1, 0 or 1.
+/// A real field: blanks, an optional sign, 1 to 18 digits with one point, and then a letter, a sign and
+/// two or three digits, or a sign and just three digits, up to the last column. Answers the sign of the
+/// value: -1, 0 or 1.
 fn real(field: &[u8], width: usize) -> Result<i64, u32> {
     if field.len() < width {
         return Err(12);
@@ -558,10 +559,12 @@ fn real(field: &[u8], width: usize) -> Result<i64, u32> {
     if !(1..=18).contains(&(whole.len() + fraction.len())) {
         return Err(12);
     }
-    let [b'E' | b'e' | b'D' | b'd', b'+' | b'-', exponent @ ..] = rest else {
-        return Err(12);
+    let (least, exponent) = match rest {
+        [b'E' | b'e' | b'D' | b'd', b'+' | b'-', exponent @ ..] => (2, exponent),
+        [b'+' | b'-', exponent @ ..] => (3, exponent),
+        _ => return Err(12),
     };
-    if !(2..=3).contains(&exponent.len()) || digits(exponent) < exponent.len() {
+    if !(least..=3).contains(&exponent.len()) || digits(exponent) < exponent.len() {
         return Err(12);
     }
     let zero = whole.iter().chain(fraction).all(|&b| b == b'0');

@@ -13,6 +13,7 @@ mod edges;
 #[path = "../judge/files.rs"]
 mod files;
 mod fixed;
+#[allow(dead_code)]
 #[path = "../judge/generate.rs"]
 mod generate;
 #[path = "../judge/judge.rs"]
@@ -70,6 +71,8 @@ const LEAST_OF_A_KIND: u32 = 1_000;
 /// All values of a set are there only where every number is in the exact path.
 const LEAST_OF_ALL_VALUES: u32 = 5_000;
 const LEAST_AT_ONCE: u32 = 1_000;
+/// So many numbers and values that are answered must have an exponent without a letter.
+const LEAST_WITHOUT_LETTER: u32 = 1_000;
 
 /// The proved side. A call that is not built in answers none.
 mod proved {
@@ -219,6 +222,8 @@ struct Run {
     numbers: Tally,
     values: Tally,
     kinds: [u32; 5],
+    /// Numbers and values with an exponent without a letter.
+    without_letter: [u32; 2],
     all_values: Tally,
     /// Sets whose values at once and one by one were held against each other: accepted, 21.
     at_once: [u32; 2],
@@ -242,6 +247,13 @@ impl Subject<'_> {
         println!("call: {call}");
         println!("{what}");
         std::process::exit(1);
+    }
+
+    /// Has one of so many numbers from an index on, all of which are there, no letter?
+    fn without_letter(&self, set: u32, index: u32, numbers: u32) -> bool {
+        let accepted = self.opened.as_ref().expect("an accepted file");
+        let mut there = (index..index + numbers).map_while(|j| accepted.number(set, j).ok());
+        there.any(|number| without_letter(&self.file[number.first as usize..number.past as usize]))
     }
 
     /// What a call must give where the lent places are enough, and what it gives otherwise.
@@ -377,6 +389,7 @@ impl Run {
         };
         let due = subject.due(answer, lent, 20);
         self.numbers.came[number_of(&due)] += 1;
+        self.without_letter[0] += u32::from(due.is_ok() && subject.without_letter(set, index, 1));
         if self.alone {
             return;
         }
@@ -393,8 +406,10 @@ impl Run {
         };
         let due = subject.due(answer, lent, 20);
         self.values.came[number_of(&due)] += 1;
-        if let Ok((kind, _)) = &due {
+        if let Ok((kind, put)) = &due {
             self.kinds[*kind as usize] += 1;
+            let k = put.len() as u32 / 8;
+            self.without_letter[1] += u32::from(subject.without_letter(set, index * k, k));
         }
         if self.alone {
             return;
@@ -710,7 +725,7 @@ fn sound_numbers(subject: &Subject, accepted: &Accepted, set: u32, row: [u32; 6]
             subject.fail("plain number", &format!("{number:?} is not in its columns"));
         }
         at = past;
-        let spelled = String::from_utf8_lossy(&file[first..past]).replace(['D', 'd'], "E");
+        let spelled = spelled_with_letter(&file[first..past]);
         let right: f64 = spelled.trim().parse().unwrap_or(f64::NAN);
         let real = reader::real(number.negative, number.coefficient, number.scale);
         if real.is_some_and(|real| real.to_bits() != right.to_bits()) {
@@ -726,6 +741,20 @@ fn sound_numbers(subject: &Subject, accepted: &Accepted, set: u32, row: [u32; 6]
     if got.as_deref().map(bits) != due.as_deref().map(bits) {
         subject.fail("plain values", &format!("set {set}: {got:?}, of its fields {due:?}"));
     }
+}
+
+/// A real field as std reads it: the letter E before the exponent, which has four bytes where it has no
+/// letter.
+fn spelled_with_letter(field: &[u8]) -> String {
+    let mut text = String::from_utf8_lossy(field).replace(['D', 'd'], "E");
+    if without_letter(field) {
+        text.insert(text.len() - 4, 'E');
+    }
+    text
+}
+
+fn without_letter(field: &[u8]) -> bool {
+    !field.iter().any(u8::is_ascii_alphabetic)
 }
 
 /// The rewritten file is accepted, has the same sets and numbers, and is rewritten as itself.
@@ -837,19 +866,24 @@ fn near_exact_path(random: &mut Random, file: &mut [u8]) {
             4 => 22,
             _ => random.below(45) as i32 - 22,
         };
-        let field = &mut file[number.first as usize..number.past as usize];
-        let point = field.iter().position(|&b| b == b'.');
-        let letter = field.iter().position(|b| b.is_ascii_alphabetic());
-        let (Some(point), Some(letter)) = (point, letter) else {
-            return;
-        };
-        let exponent = scale + (letter - point - 1) as i32;
-        field[letter + 1] = if exponent < 0 { b'-' } else { b'+' };
-        let mut left = exponent.unsigned_abs();
-        for digit in field[letter + 2..].iter_mut().rev() {
-            *digit = b'0' + (left % 10) as u8;
-            left /= 10;
-        }
+        rescale(&mut file[number.first as usize..number.past as usize], scale);
+    }
+}
+
+/// Gives a field another scale by its exponent's sign and digits, whether it has a letter or not.
+fn rescale(field: &mut [u8], scale: i32) {
+    let point = field.iter().position(|&b| b == b'.');
+    let sign = field.iter().rposition(|b| b"+-".contains(b));
+    let (Some(point), Some(sign)) = (point, sign) else {
+        return;
+    };
+    let decimals = field[point + 1..].iter().take_while(|b| b.is_ascii_digit()).count();
+    let exponent = scale + decimals as i32;
+    field[sign] = if exponent < 0 { b'-' } else { b'+' };
+    let mut left = exponent.unsigned_abs();
+    for digit in field[sign + 1..].iter_mut().rev() {
+        *digit = b'0' + (left % 10) as u8;
+        left /= 10;
     }
 }
 
@@ -901,7 +935,9 @@ fn check_outcomes(run: &Run) {
         }
     }
     println!("values of the four kinds: {:?}", &run.kinds[1..]);
+    println!("numbers and values without a letter: {:?}", run.without_letter);
     let mut seldom = run.lists.came[17] < LEAST_OF_17;
+    seldom |= run.without_letter.iter().any(|&came| came < LEAST_WITHOUT_LETTER);
     seldom |= run.kinds[1..].iter().any(|&came| came < LEAST_OF_A_KIND);
     for (number, least) in LEAST {
         // 18 and 21 are the reader's, 20 is not the lister's, all others every call's.
@@ -943,6 +979,7 @@ fn main() {
         numbers: Tally::default(),
         values: Tally::default(),
         kinds: [0; 5],
+        without_letter: [0; 2],
         all_values: Tally::default(),
         at_once: [0; 2],
         rewritten: Tally::default(),

@@ -36,6 +36,11 @@ pub fn fixed() -> Vec<Fixed> {
         double_complex_uneven(),
         double_complex_uneven_exact(),
         exact_path(),
+        single_without_letter(),
+        double_without_letter(),
+        exact_without_letter(),
+        exact_path_without_letter(),
+        untidy_without_letter(),
         plain_sets(),
         messy(),
     ]
@@ -474,6 +479,158 @@ fn exact_path() -> Fixed {
         (8, Err(18)),
     ];
     alone("exact path", file, 8, numbers, values, Err(21))
+}
+
+/// Exponents without a letter in E13.5; with the letter `1.0E+005` is the same number as `1.0+005`.
+fn single_without_letter() -> Fixed {
+    let file = function(2, 9, 1, &[
+        "      1.0+005     1.0E+005       1.-101       .5-999      -.5+000     +0.0-000",
+        "     -0.0+999-1.234567-10112345678.+000",
+    ]);
+    let numbers = vec![
+        (0, number(&file, (14, 1, 13), false, 10, 4)),
+        (1, number(&file, (14, 14, 26), false, 10, 4)),
+        (2, number(&file, (14, 27, 39), false, 1, -101)),
+        (3, number(&file, (14, 40, 52), false, 5, -1000)),
+        (4, number(&file, (14, 53, 65), true, 5, -1)),
+        (5, number(&file, (14, 66, 78), false, 0, -1)),
+        (6, number(&file, (15, 1, 13), true, 0, 998)),
+        (7, number(&file, (15, 14, 26), true, 1_234_567, -107)),
+        (8, number(&file, (15, 27, 39), false, 12_345_678, 0)),
+        (9, Err(18)),
+    ];
+    let values = vec![
+        (0, real(100_000.0)),
+        (1, real(100_000.0)),
+        (2, Err(21)),
+        (3, Err(21)),
+        (4, real(-0.5)),
+        (5, real(0.0)),
+        (6, Err(21)),
+        (7, Err(21)),
+        (8, real(12_345_678.0)),
+        (9, Err(18)),
+    ];
+    alone("E13.5 without a letter", file, 9, numbers, values, Err(21))
+}
+
+/// The same in E20.12, fields that touch among them.
+fn double_without_letter() -> Fixed {
+    let file = function(4, 6, 1, &[
+        " -1.234567890123-101-1.0000000000000-101-1.0000000000000-1011.23456789012345-101",
+        "             1.0+005-.12345678901234+014",
+    ]);
+    let numbers = vec![
+        (0, number(&file, (14, 1, 20), true, 1_234_567_890_123, -113)),
+        (1, number(&file, (14, 21, 40), true, 10_000_000_000_000, -114)),
+        (2, number(&file, (14, 41, 60), true, 10_000_000_000_000, -114)),
+        (3, number(&file, (14, 61, 80), false, 123_456_789_012_345, -115)),
+        (4, number(&file, (15, 1, 20), false, 10, 4)),
+        (5, number(&file, (15, 21, 40), true, 12_345_678_901_234, 0)),
+        (6, Err(18)),
+    ];
+    let values = vec![
+        (0, Err(21)),
+        (1, Err(21)),
+        (2, Err(21)),
+        (3, Err(21)),
+        (4, real(100_000.0)),
+        (5, real(-12_345_678_901_234.0)),
+        (6, Err(18)),
+    ];
+    alone("E20.12 without a letter", file, 6, numbers, values, Err(21))
+}
+
+/// Case 8 without any letter, every number in the exact path.
+fn exact_without_letter() -> Fixed {
+    let file = function(6, 2, 0, &[
+        "  1.00000+027  1.000000000000-010 -0.000000000000+034",
+        "-1.000000+005-2.5000000000000+000 +0.000000000000-000",
+    ]);
+    let numbers = vec![
+        (0, number(&file, (14, 1, 13), false, 100_000, 22)),
+        (1, number(&file, (14, 14, 33), false, 1_000_000_000_000, -22)),
+        (2, number(&file, (14, 34, 53), true, 0, 22)),
+        (3, number(&file, (15, 1, 13), true, 1_000_000, -1)),
+        (4, number(&file, (15, 14, 33), true, 25_000_000_000_000, -13)),
+        (5, number(&file, (15, 34, 53), false, 0, -12)),
+        (6, Err(18)),
+    ];
+    let values =
+        vec![(0, point_pair(1e27, 1e-10, -0.0)), (1, point_pair(-1e5, -2.5, 0.0)), (2, Err(18))];
+    let all_values = vec![1e27, 1e-10, -0.0, -1e5, -2.5, 0.0];
+    alone("case 8 without a letter", file, 2, numbers, values, Ok(all_values))
+}
+
+/// The ends of the exact path without a letter.
+fn exact_path_without_letter() -> Fixed {
+    let file = function(2, 6, 1, &[
+        "       1.+022       1.+023       1.-022       1.-023       0.+022      -0.+023",
+    ]);
+    let numbers = vec![
+        (0, number(&file, (14, 1, 13), false, 1, 22)),
+        (1, number(&file, (14, 14, 26), false, 1, 23)),
+        (2, number(&file, (14, 27, 39), false, 1, -22)),
+        (3, number(&file, (14, 40, 52), false, 1, -23)),
+        (4, number(&file, (14, 53, 65), false, 0, 22)),
+        (5, number(&file, (14, 66, 78), true, 0, 23)),
+    ];
+    let values = vec![
+        (0, real(1e22)),
+        (1, Err(21)),
+        (2, real(1e-22)),
+        (3, Err(21)),
+        (4, real(0.0)),
+        (5, Err(21)),
+        (6, Err(18)),
+    ];
+    alone("exact path without a letter", file, 6, numbers, values, Err(21))
+}
+
+/// A 164 and a 58 of case 8 without any letter, line 7 too.
+const WITHOUT_LETTER: &str = "    -1
+   164
+         1SI: Meter (newton)           2
+  1.00000000000000000-101  0.00000000000000001-999 +123456789012345678.+999
+ -.123456789012345678+000
+    -1
+    -1
+    58
+Drive end bearing
+NONE
+NONE
+NONE
+NONE
+    1         1    0         0 NONE               7   3 NONE               0   0
+         6         1         0  0.00000-101     -0.0+999 -1.00000-101
+        17    0    0    0 Time                 s
+        12    0    0    0 Acceleration         m/s2
+         0    0    0    0 NONE                 NONE
+         0    0    0    0 NONE                 NONE
+-1.000000-101-1.0000000000000-101+0.0000000000000+005
+    -1
+";
+
+/// The same with CR LF and filled to column 80: the rewriter keeps the spelling of every number.
+fn untidy_without_letter() -> Fixed {
+    let file: String = WITHOUT_LETTER.lines().map(|line| format!("{line:80}\r\n")).collect();
+    let at = |line| begins(&file, line);
+    let numbers = vec![
+        (2, 0, number(&file, (20, 1, 13), true, 1_000_000, -107)),
+        (2, 1, number(&file, (20, 14, 33), true, 10_000_000_000_000, -114)),
+        (2, 2, number(&file, (20, 34, 53), false, 0, -8)),
+        (2, 3, Err(18)),
+        (1, 0, Err(18)),
+    ];
+    Fixed {
+        name: "untidy, without a letter",
+        rows: vec![[1, 164, 0, 0, at(7), 0], [7, 58, 1, at(7), at(22), at(20)]],
+        numbers,
+        values: vec![(2, 0, Err(21)), (2, 1, Err(18)), (1, 0, Err(18))],
+        all_values: vec![(1, Err(18)), (2, Err(21)), (3, Err(18))],
+        rewritten: WITHOUT_LETTER.to_string(),
+        file,
+    }
 }
 
 /// Blank lines outside sets, an empty plain set, blank lines inside a plain one; places typed.

@@ -1,7 +1,8 @@
 //! A plain lister, reader and rewriter of Universal Files: the second opinion.
 //!
-//! It was written from the papers alone (document 01, the source documents it names, the readings
-//! settled for it and the shapes of the C boundary) by somebody who had not seen the proved one.
+//! It was written from the papers alone (document 01, the source documents it names, request C-12 of
+//! document 02, the readings settled for them and the shapes of the C boundary) by somebody who had
+//! not seen the proved one.
 //! The plain judge beside it judges first; what that judge accepts is not doubted again here.
 //! Refusals 17 and 20 are about lent places, so they are the caller's. Safe Rust, standard library
 //! only.
@@ -255,10 +256,12 @@ fn integer(field: &[u8]) -> i64 {
 }
 
 /// What an accepted real field means: is it negative, its coefficient and its scale.
-fn meaning(field: &[u8]) -> (bool, u64, i16) {
-    let mut rest = field.iter();
+pub fn meaning(field: &[u8]) -> (bool, u64, i16) {
+    // The exponent, which has two or three digits, begins with the last sign.
+    let digits = if b"+-".contains(&field[field.len() - 3]) { 2 } else { 3 };
+    let (before, exponent) = field.split_at(field.len() - digits - 1);
     let (mut negative, mut coefficient, mut decimals, mut pointed) = (false, 0, 0, false);
-    for &byte in &mut rest {
+    for &byte in before {
         match byte {
             // 18 digits at most, so nothing overflows.
             b'0'..=b'9' => {
@@ -267,14 +270,12 @@ fn meaning(field: &[u8]) -> (bool, u64, i16) {
             }
             b'.' => pointed = true,
             b'-' => negative = true,
-            b'+' | b' ' => {}
-            // The letter; a sign and the exponent's digits are left.
-            _ => break,
+            // A blank, a plus, or the letter if there is one.
+            _ => {}
         }
     }
-    let below = rest.next() == Some(&b'-');
-    let exponent = rest.fold(0, |x, &digit| 10 * x + i16::from(digit - b'0'));
-    (negative, coefficient, if below { -exponent } else { exponent } - decimals)
+    let size = exponent[1..].iter().fold(0, |x, &digit| 10 * x + i16::from(digit - b'0'));
+    (negative, coefficient, if exponent[0] == b'-' { -size } else { size } - decimals)
 }
 
 /// The powers of ten that f64 has exactly.

@@ -4,10 +4,11 @@
 //! longest sets, lends both sides the same numbers and room, and stops at the first difference (exit 1).
 //! Every set that is written is judged, read back and rewritten by both sides. `compare --self` asks the plain
 //! side alone: against what was typed by hand, and against what must hold of each set it writes.
-//! `compare --fortran DIR` takes the files that a Fortran program wrote. The proved calls are asked
-//! when built with `--cfg write`.
+//! `compare --fortran DIR` takes the files that a Fortran program wrote, `compare --fortran-read PROGRAM` lets a
+//! Fortran program read what the writer lays out. The proved calls are asked when built with `--cfg write`.
 
 mod fixed;
+mod fortran;
 #[allow(dead_code)]
 #[path = "../judge/generate.rs"]
 mod generate;
@@ -58,6 +59,9 @@ const LEAST: [(usize, u32); 15] = [
 
 /// Sets of each of the eight cases must be written so often.
 const LEAST_OF_A_CASE: u32 = 500;
+
+/// So many numbers must be written with an exponent without a letter.
+const LEAST_WITHOUT_LETTER: usize = 100_000;
 
 /// The proved side. Not built in, it answers none.
 mod proved {
@@ -247,12 +251,14 @@ struct Run {
     /// How often each refusal came (0 for none).
     came: [u32; 23],
     cases: [u32; 8],
+    /// Numbers written with an exponent without a letter.
+    without_letter: usize,
 }
 
 impl Run {
     fn new(alone: bool) -> Run {
         let random = Random::new(0x5EED_0B1E_0019_0022);
-        Run { alone, random, headers: 0, written: 0, came: [0; 23], cases: [0; 8] }
+        Run { alone, random, headers: 0, written: 0, came: [0; 23], cases: [0; 8], without_letter: 0 }
     }
 
     /// Lends so many bytes to both writers.
@@ -288,6 +294,10 @@ impl Run {
                 }
                 let accepted = sound(&subject, &set);
                 self.cases[case_of(&set).expect("an accepted set")] += 1;
+                // The writer's only letter is E.
+                let data = accepted.list()[0][5] as usize;
+                let letters = set[data..].iter().filter(|&&b| b == b'E').count();
+                self.without_letter += numbers.scales.len() - letters;
                 if !self.alone {
                     self.ask_written(&subject, &set, &accepted);
                 }
@@ -386,21 +396,28 @@ fn equal(coefficient: i64, scale: i16, number: &Number) -> bool {
 }
 
 /// Is the field blanks, a minus if negative, one digit (0 only for zero), the point, five or twelve
-/// digits, E, a sign and two digits?
+/// digits, and an exponent of four columns?
 fn in_form(field: &[u8], coefficient: i64) -> bool {
     let decimals = if field.len() == 13 { 5 } else { 12 };
     let (before, after) = field.split_at(field.len() - decimals - 6);
+    let (digits, exponent) = after.split_at(decimals + 2);
     let minus = if coefficient < 0 { b'-' } else { b' ' };
-    let digit = |b: &u8| b.is_ascii_digit();
     before == [b' ', minus]
-        && digit(&after[0])
-        && (after[0] == b'0') == (coefficient == 0)
-        && after[1] == b'.'
-        && after[2..decimals + 2].iter().all(digit)
-        && after[decimals + 2] == b'E'
-        && b"+-".contains(&after[decimals + 3])
-        && after[decimals + 4..].iter().all(digit)
-        && (coefficient != 0 || after.ends_with(b"E+00"))
+        && digits[0].is_ascii_digit()
+        && (digits[0] == b'0') == (coefficient == 0)
+        && digits[1] == b'.'
+        && digits[2..].iter().all(u8::is_ascii_digit)
+        && exponent_in_form(exponent)
+        && (coefficient != 0 || exponent == b"E+00")
+}
+
+/// Is it E, a sign and two digits, or a sign and three digits of which the first is not 0?
+fn exponent_in_form(exponent: &[u8]) -> bool {
+    match exponent {
+        [b'E', b'+' | b'-', digits @ ..] => digits.iter().all(u8::is_ascii_digit),
+        [b'+' | b'-', b'1'..=b'9', digits @ ..] => digits.iter().all(u8::is_ascii_digit),
+        _ => false,
+    }
 }
 
 /// 22 and 19 are given for a reason, and 20 is not given when there is all the room.
@@ -425,7 +442,7 @@ fn sound_refusal(subject: &Subject, reply: Reply) {
 }
 
 /// Is the number zero, or some m times a power of ten, m of just one digit more than the decimals
-/// and the exponent of its first digit from -99 to 99?
+/// and the exponent of its first digit from -999 to 999?
 fn fits(coefficient: i64, scale: i16, decimals: usize) -> bool {
     let (mut m, mut power) = (i128::from(coefficient).abs(), i32::from(scale));
     let most = 10i128.pow(decimals as u32 + 1);
@@ -437,7 +454,7 @@ fn fits(coefficient: i64, scale: i16, decimals: usize) -> bool {
         m /= 10;
         power += 1;
     }
-    m == 0 || (m < most && (-99..=99).contains(&(power + decimals as i32)))
+    m == 0 || (m < most && (-999..=999).contains(&(power + decimals as i32)))
 }
 
 /// Which of the eight cases a set is, from 0, by the last columns of ordinate type and spacing.
@@ -475,7 +492,7 @@ fn check_fixed() -> usize {
         let parts = |field: &str| {
             [b"    -1\n    58\n", &*header, field.as_bytes(), b"\n    -1\n"].concat()
         };
-        let set = field.map(parts);
+        let set = field.as_deref().map(parts);
         let due = set.as_deref().ok_or(Reply { number: 19, place: 0 });
         let name = format!("{coefficient}E{scale}, {decimals} decimals");
         check(&name, (&header, &[coefficient], &[scale], 10_000), due);
@@ -540,8 +557,8 @@ fn take_arbitrary(run: &mut Run) {
 /// The largest count in each of the eight cases, and once more with the last number spoiled.
 fn take_longest(run: &mut Run) {
     let mut random = Random::new(0x5EED_0058_6553_6000);
-    for (ordinate, spacing) in [(2, 1), (2, 0), (5, 1), (5, 0), (4, 1), (4, 0), (6, 1), (6, 0)] {
-        let header = fixed::header_of_most(ordinate, spacing);
+    for (ordinate, spacing) in fixed::CASES {
+        let header = fixed::header_of_many(ordinate, spacing, 65_536);
         let Ok(form) = writer::form(&header) else {
             println!("the header of the largest count is refused");
             std::process::exit(1);
@@ -552,6 +569,15 @@ fn take_longest(run: &mut Run) {
             numbers.coefficients[form.stored - 1] = i64::MIN;
             run.take("largest count, its last number wrong", &header, &numbers);
         }
+    }
+}
+
+/// Zero of every scale, in E13.5 and in E20.12.
+fn take_zeros(run: &mut Run) {
+    let scales: Vec<i16> = (i16::MIN..=i16::MAX).collect();
+    let numbers = Numbers { coefficients: vec![0; scales.len()], scales };
+    for ordinate in [2, 4] {
+        run.take("zero of every scale", &fixed::header_of_many(ordinate, 1, 65_536), &numbers);
     }
 }
 
@@ -580,91 +606,6 @@ fn take_long_headers(run: &mut Run) {
     }
 }
 
-// Files from Fortran -------------------------------------------------------------------------------
-
-/// Each file of the eight cases is accepted and reads as the numbers typed for it; those written
-/// with 1P are, but for blanks at line ends, what the writer makes of header and numbers.
-fn check_fortran(folder: &Path, alone: bool) {
-    let read = |name: &str| match std::fs::read(folder.join(name)) {
-        Ok(bytes) => bytes,
-        Err(error) => {
-            println!("{name}: {error}");
-            std::process::exit(1);
-        }
-    };
-    let typed = String::from_utf8_lossy(&read("expected.txt")).into_owned();
-    let mut run = Run::new(alone);
-    for case in 1..=8 {
-        let numbers = typed_numbers(&typed, case);
-        for name in [format!("case{case}.uff"), format!("case{case}-1p.uff")] {
-            let file = read(&name);
-            fortran_file(&mut run, (&name, case), &file, &numbers);
-        }
-    }
-    println!("{} files from Fortran read as the numbers typed", run.headers);
-}
-
-/// The numbers typed for a case, each a coefficient, e and a scale.
-fn typed_numbers(typed: &str, case: usize) -> Numbers {
-    let mut numbers = Numbers { coefficients: Vec::new(), scales: Vec::new() };
-    for line in typed.lines().filter(|line| !line.starts_with('#')) {
-        let mut words = line.split_whitespace();
-        if words.next() != Some(&case.to_string()) {
-            continue;
-        }
-        for word in words {
-            let parts = word.split_once('e').map(|(c, s)| (c.parse(), s.parse()));
-            let Some((Ok(coefficient), Ok(scale))) = parts else {
-                println!("expected.txt: {word} is not a coefficient, e and a scale");
-                std::process::exit(1);
-            };
-            numbers.coefficients.push(coefficient);
-            numbers.scales.push(scale);
-        }
-    }
-    numbers
-}
-
-fn fortran_file(run: &mut Run, (name, case): (&str, usize), file: &[u8], numbers: &Numbers) {
-    let lines: Vec<&[u8]> = file.split_inclusive(|&b| b == b'\n').collect();
-    let header = lines.iter().skip(2).take(11).copied().collect::<Vec<_>>().concat();
-    let subject = Subject { name, header: &header, numbers };
-    let accepted = match reader::accept(file) {
-        Ok(accepted) => accepted,
-        Err(reply) => subject.fail("plain judge", &format!("{name}: {reply:?}")),
-    };
-    let Numbers { coefficients, scales } = numbers;
-    for (j, (&coefficient, &scale)) in coefficients.iter().zip(scales).enumerate() {
-        let number = accepted.number(1, j as u32);
-        if !number.is_ok_and(|number| equal(coefficient, scale, &number)) {
-            subject.fail("plain reader", &format!("{name} at {j}: {number:?}"));
-        }
-    }
-    // The same header and numbers, written.
-    run.take(name, &header, numbers);
-    let written = subject.write(usize::MAX);
-    let one_p = name.contains("-1p");
-    let same = written.as_ref().is_ok_and(|set| !one_p || *set == accepted.rewrite());
-    if !same || accepted.list().len() != 1 || case_of(file) != Some(case - 1) {
-        subject.fail("plain writer", &format!("{name}: other bytes, or another case"));
-    }
-    if !run.alone {
-        let put = accepted.rewrite();
-        let length = put.len() as u32;
-        subject.hold("uff_judge", 0, Ok((lines.len() as u32, &[])), |_| proved::judge(file));
-        let due = Ok((length, &*put));
-        subject.hold("uff_rewrite", put.len(), due, |out| proved::rewrite(file, out));
-        for index in 0..coefficients.len() as u32 {
-            if let Ok(number) = accepted.number(1, index) {
-                let put = number_bytes(&number);
-                subject.hold("uff_number", 20, Ok((20, &put)), |out| {
-                    proved::number(file, index, out)
-                });
-            }
-        }
-    }
-}
-
 /// Prints how often each outcome came and ends the program if one came too seldom.
 fn check_outcomes(run: &Run) {
     println!("refusal    calls");
@@ -672,7 +613,9 @@ fn check_outcomes(run: &Run) {
         println!("{number:7} {came:8}");
     }
     println!("sets of the eight cases: {:?}", run.cases);
-    let mut seldom = run.cases.iter().any(|&came| came < LEAST_OF_A_CASE);
+    println!("numbers written without a letter: {}", run.without_letter);
+    let mut seldom = run.without_letter < LEAST_WITHOUT_LETTER;
+    seldom |= run.cases.iter().any(|&came| came < LEAST_OF_A_CASE);
     seldom |= LEAST.iter().any(|&(number, least)| run.came[number] < least);
     if seldom {
         println!("some outcome came too seldom");
@@ -680,19 +623,29 @@ fn check_outcomes(run: &Run) {
     }
 }
 
+/// The argument after this one, if this one is given.
+fn path_after<'a>(arguments: &'a [String], name: &str) -> Option<&'a Path> {
+    let at = arguments.iter().position(|argument| argument == name)?;
+    let Some(path) = arguments.get(at + 1) else {
+        eprintln!("{name} needs a path");
+        std::process::exit(2);
+    };
+    Some(Path::new(path))
+}
+
 fn main() {
     let arguments: Vec<String> = std::env::args().skip(1).collect();
     let alone = arguments.iter().any(|argument| argument == "--self");
-    if let Some(at) = arguments.iter().position(|argument| argument == "--fortran") {
-        let Some(folder) = arguments.get(at + 1) else {
-            eprintln!("--fortran needs a folder");
-            std::process::exit(2);
-        };
-        check_fortran(Path::new(folder), alone);
+    if let Some(folder) = path_after(&arguments, "--fortran") {
+        fortran::check_files(folder, alone);
+        return;
+    }
+    if let Some(program) = path_after(&arguments, "--fortran-read") {
+        fortran::check_read(program, alone);
         return;
     }
     if !alone && !proved::BUILT_IN {
-        eprintln!("built without --cfg write: only --self and --fortran can run");
+        eprintln!("built without --cfg write: only --self, --fortran and --fortran-read can run");
         std::process::exit(2);
     }
     println!("{} answers as the papers say", check_fixed());
@@ -701,6 +654,7 @@ fn main() {
     take_generated(&mut run);
     take_arbitrary(&mut run);
     take_longest(&mut run);
+    take_zeros(&mut run);
     take_long_headers(&mut run);
     check_outcomes(&run);
     let done = if alone { "the plain side alone:" } else { "compared" };

@@ -123,6 +123,28 @@ fn cases() -> Vec<Fixed> {
     ]
 }
 
+/// Exponents of three digits, beside those of two, and without a letter in line 7 as lent.
+fn three_digits() -> Vec<Fixed> {
+    vec![
+        whole(
+            "case 1, exponents of three digits",
+            "         2         7         1  0.00000+000  1.00000-003 -1.00000-101",
+            &[(1, -101), (-1, 150), (123_456, 994), (-1, -999), (1, 99), (1, 100), (-5, -100)],
+            "  1.00000-101 -1.00000+150  1.23456+999 -1.00000-999  1.00000E+99  1.00000+100
+ -5.00000-100
+",
+        ),
+        whole(
+            "case 8, exponents of three digits",
+            "         6         2         0  0.00000-101 -0.00000+999  1.00000-101",
+            &[(1, -300), (-1_234_567_890_123, -113), (1, 150), (-25, 298), (0, 999), (1, -100)],
+            "  1.00000-300 -1.234567890123-101  1.000000000000+150
+ -2.50000+299  0.000000000000E+00  1.000000000000-100
+",
+        ),
+    ]
+}
+
 /// The set keeps the header's spellings, but for blanks at line ends and CR.
 fn untidy() -> Fixed {
     let header = " Drive end bearing      \r
@@ -164,7 +186,68 @@ fn untidy() -> Fixed {
 }
 
 /// A number, the decimals of its field, and the field, or none for 19.
-pub fn fields() -> Vec<(i64, i16, usize, Option<&'static str>)> {
+type OneField = (i64, i16, usize, Option<String>);
+
+/// All single fields.
+pub fn fields() -> Vec<OneField> {
+    let mut all = exponents_at_the_ends();
+    for (coefficient, scale, decimals, field) in digits_and_exponents() {
+        all.push((coefficient, scale, decimals, field.map(String::from)));
+    }
+    all
+}
+
+/// A coefficient, the exponent of its first digit, decimals, and what stands before the exponent.
+const DIGITS: [(i64, i16, usize, &str); 12] = [
+    (1, 0, 5, "  1.00000"),
+    (-1, 0, 5, " -1.00000"),
+    (1, 0, 12, "  1.000000000000"),
+    (-1, 0, 12, " -1.000000000000"),
+    (10, 1, 5, "  1.00000"),
+    (-10, 1, 12, " -1.000000000000"),
+    (999_999, 5, 5, "  9.99999"),
+    (-123_456_000, 8, 5, " -1.23456"),
+    (-9_999_999_999_999, 12, 12, " -9.999999999999"),
+    (1_000_000_000_000_000_000, 18, 5, "  1.00000"),
+    (9_223_372_036_854_000_000, 18, 12, "  9.223372036854"),
+    (-9_223_372_036_854_000_000, 18, 12, " -9.223372036854"),
+];
+
+/// Exponents around those where the letter goes and where 19 comes, as they are shown.
+const EXPONENTS: [(i16, Option<&str>); 18] = [
+    (0, Some("E+00")),
+    (9, Some("E+09")),
+    (98, Some("E+98")),
+    (99, Some("E+99")),
+    (100, Some("+100")),
+    (101, Some("+101")),
+    (998, Some("+998")),
+    (999, Some("+999")),
+    (1_000, None),
+    (1_001, None),
+    (-98, Some("E-98")),
+    (-99, Some("E-99")),
+    (-100, Some("-100")),
+    (-101, Some("-101")),
+    (-998, Some("-998")),
+    (-999, Some("-999")),
+    (-1_000, None),
+    (-1_001, None),
+];
+
+/// Each of these coefficients with each of these exponents.
+fn exponents_at_the_ends() -> Vec<OneField> {
+    let mut all = Vec::new();
+    for (coefficient, first, decimals, digits) in DIGITS {
+        for (exponent, shown) in EXPONENTS {
+            let field = shown.map(|shown| digits.to_string() + shown);
+            all.push((coefficient, exponent - first, decimals, field));
+        }
+    }
+    all
+}
+
+fn digits_and_exponents() -> Vec<(i64, i16, usize, Option<&'static str>)> {
     vec![
         (0, 0, 5, Some("  0.00000E+00")),
         (0, i16::MIN, 5, Some("  0.00000E+00")),
@@ -191,21 +274,21 @@ pub fn fields() -> Vec<(i64, i16, usize, Option<&'static str>)> {
         (99_999_999_999_999, 0, 12, None),
         (-9_999_999_999_999_000, 0, 12, Some(" -9.999999999999E+15")),
         (1_000_000_000_000_000_000, 81, 5, Some("  1.00000E+99")),
-        (1_000_000_000_000_000_000, 82, 5, None),
+        (1_000_000_000_000_000_000, 82, 5, Some("  1.00000+100")),
         (1_000_000_000_000_000_000, -117, 5, Some("  1.00000E-99")),
-        (1_000_000_000_000_000_000, -118, 5, None),
+        (1_000_000_000_000_000_000, -118, 5, Some("  1.00000-100")),
         (9_000_000_000_000_000_000, 0, 12, Some("  9.000000000000E+18")),
         (1, 99, 5, Some("  1.00000E+99")),
-        (1, 100, 5, None),
+        (1, 100, 5, Some("  1.00000+100")),
         (1, 99, 12, Some("  1.000000000000E+99")),
-        (1, 100, 12, None),
+        (1, 100, 12, Some("  1.000000000000+100")),
         (-1, -99, 5, Some(" -1.00000E-99")),
-        (-1, -100, 5, None),
+        (-1, -100, 5, Some(" -1.00000-100")),
         (10, -100, 5, Some("  1.00000E-99")),
         (999_999, 94, 5, Some("  9.99999E+99")),
-        (999_999, 95, 5, None),
+        (999_999, 95, 5, Some("  9.99999+100")),
         (999_999, -104, 5, Some("  9.99999E-99")),
-        (999_999, -105, 5, None),
+        (999_999, -105, 5, Some("  9.99999-100")),
         (i64::MIN, 0, 5, None),
         (i64::MIN, 0, 12, None),
         (i64::MIN, -18, 12, None),
@@ -213,7 +296,17 @@ pub fn fields() -> Vec<(i64, i16, usize, Option<&'static str>)> {
         (1, i16::MAX, 5, None),
         (1, i16::MIN, 12, None),
         (i64::MIN, i16::MIN, 12, None),
+        (i64::MIN, i16::MIN, 5, None),
+        (i64::MIN, i16::MAX, 5, None),
+        (i64::MIN, i16::MAX, 12, None),
+        (i64::MAX, i16::MIN, 5, None),
+        (i64::MAX, i16::MIN, 12, None),
+        (i64::MAX, i16::MAX, 5, None),
+        (i64::MAX, i16::MAX, 12, None),
+        (-1, i16::MIN, 5, None),
+        (-1, i16::MAX, 12, None),
         (9_000_000_000_000_000_000, i16::MAX, 12, None),
+        (9_000_000_000_000_000_000, i16::MIN, 5, None),
     ]
 }
 
@@ -224,10 +317,14 @@ pub fn header_of_one(decimals: usize) -> Vec<u8> {
         .into_bytes()
 }
 
-/// A header of the largest count.
-pub fn header_of_most(ordinate: u32, spacing: u32) -> Vec<u8> {
-    let line = format!("{ordinate:10}     65536{spacing:10}  0.00000E+00  0.00000E+00  0.00000E+00");
-    with(7, &line).into_bytes()
+/// Ordinate type and spacing of the eight cases.
+pub const CASES: [(u32, u32); 8] =
+    [(2, 1), (2, 0), (5, 1), (5, 0), (4, 1), (4, 0), (6, 1), (6, 0)];
+
+/// A header of so many values.
+pub fn header_of_many(ordinate: u32, spacing: u32, count: usize) -> Vec<u8> {
+    let abscissa = "  0.00000E+00  0.00000E+00  0.00000E+00";
+    with(7, &format!("{ordinate:10}{count:10}{spacing:10}{abscissa}")).into_bytes()
 }
 
 /// Headers that are refused: what is wrong, the header, number and line.
@@ -329,6 +426,24 @@ fn refused_headers() -> Vec<(&'static str, String, u32, u32)> {
             7,
         ),
         (
+            "increment of two exponent digits and no letter",
+            with(7, "         2         2         1  0.00000E+00   1.00000-03  0.00000E+00"),
+            12,
+            7,
+        ),
+        (
+            "Z value of four exponent digits and no letter",
+            with(7, "         2         2         1  0.00000E+00  1.00000E-03 1.00000-0010"),
+            12,
+            7,
+        ),
+        (
+            "uneven, minimum not zero, no letter",
+            with(7, "         2         2         0  1.00000-101  0.00000-101  0.00000E+00"),
+            14,
+            7,
+        ),
+        (
             "column 70 of line 7",
             with(7, "         2         2         1  0.00000E+00  1.00000E-03  0.00000E+00x"),
             13,
@@ -385,23 +500,29 @@ fn refused_numbers() -> Vec<Fixed> {
         good("22 before 19 and 20", &[i64::MIN, 1, 1], &[0, 0, 0], 0, 22, 0),
         good("19 at 0", &[1_000_001, 1], &[0, 0], ENOUGH, 19, 0),
         good("19 at 1", &[1, 1_000_001], &[0, 0], ENOUGH, 19, 1),
-        good("19 at the smallest index", &[1, 1_000_001], &[100, 0], ENOUGH, 19, 0),
-        good("19 before 20", &[0, 1], &[100, -100], 0, 19, 1),
+        good("19 at the smallest index", &[1, 1_000_001], &[1_000, 0], ENOUGH, 19, 0),
+        good("19 before 20", &[0, 1], &[1_000, -1_000], 0, 19, 1),
+        good("exponent 1000 after 999", &[1, 1], &[999, 1_000], ENOUGH, 19, 1),
         good("no room", &[1, 2], &[0, 0], 0, 20, 0),
         good("one byte too few", &[1, 2], &[0, 0], LENGTH - 1, 20, 0),
+        good("one byte too few, exponents of three digits", &[1, -1], &[100, -999], LENGTH - 1, 20, 0),
     ];
-    let (header, due) = set(
-        "         2         2         1  0.00000E+00  1.00000E-03  0.00000E+00",
-        "  1.00000E+00  2.00000E+00\n",
+    let line_7 = "         2         2         1  0.00000E+00  1.00000E-03  0.00000E+00";
+    let two = whole("just the room", line_7, &[(1, 0), (2, 0)], "  1.00000E+00  2.00000E+00\n");
+    let three = whole(
+        "just the room, exponents of three digits",
+        line_7,
+        &[(1, 100), (-1, -999)],
+        "  1.00000+100 -1.00000-999\n",
     );
-    let (coefficients, scales) = (vec![1, 2], vec![0, 0]);
-    all.push(Fixed { name: "just the room", header, coefficients, scales, room: LENGTH, due });
+    all.extend([two, three].map(|fixed| Fixed { room: LENGTH, ..fixed }));
     all
 }
 
 /// All fixed headers and numbers.
 pub fn fixed() -> Vec<Fixed> {
     let mut all = cases();
+    all.extend(three_digits());
     all.push(untidy());
     for (name, header, number, place) in refused_headers() {
         // The header's refusal comes before those of numbers and room: wrong and right ones.

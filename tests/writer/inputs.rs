@@ -74,6 +74,30 @@ pub fn writable(random: &mut Random, form: &Form) -> Numbers {
     Numbers { coefficients, scales }
 }
 
+/// As many numbers as a header of eight or more asks for, all of which can be written, zero or from
+/// 10^-300 to 10^300 in size; the first eight are always the same.
+pub fn doubles(random: &mut Random, form: &Form) -> Numbers {
+    const FIRST: [(i64, i16); 8] =
+        [(1, -101), (1, 150), (-1, -101), (-1, 150), (123_456, -305), (-5, 300), (1, 99), (10, 99)];
+    let decimals = (0..form.stored).map(|j| form.fields[j % form.fields.len()].decimals);
+    let any = decimals.map(|decimals| loop {
+        let (coefficient, scale) = good(random, decimals);
+        if within_300(coefficient, scale) {
+            break (coefficient, scale);
+        }
+    });
+    let mut numbers: Vec<(i64, i16)> = any.collect();
+    numbers[..FIRST.len()].copy_from_slice(&FIRST);
+    let (coefficients, scales) = numbers.into_iter().unzip();
+    Numbers { coefficients, scales }
+}
+
+/// Is the number zero, or the exponent of its first digit at most 300 in size?
+fn within_300(coefficient: i64, scale: i16) -> bool {
+    let more = coefficient.unsigned_abs().checked_ilog10();
+    more.is_none_or(|more| (i32::from(scale) + more as i32).abs() <= 300)
+}
+
 /// So many numbers of all sorts, for a header that is refused.
 pub fn any(random: &mut Random, stored: usize) -> Numbers {
     let number = |random: &mut Random| {
@@ -128,14 +152,27 @@ pub fn misfit(random: &mut Random, numbers: &mut Numbers) {
 
 /// A scale of any size, often at an end of its range.
 fn any_scale(random: &mut Random) -> i16 {
-    match random.below(8) {
+    match random.below(10) {
         0 => i16::MIN,
         1 => i16::MAX,
         2 => -100,
         3 => 100,
-        4 => 0,
+        4 => -1_000,
+        5 => 1_000,
+        6 => 0,
         _ => random.next() as i16,
     }
+}
+
+/// An exponent that can be written, often where the letter goes or at an end of the range.
+fn any_exponent(random: &mut Random) -> i32 {
+    const ENDS: [i32; 8] = [0, 1, 98, 99, 100, 101, 998, 999];
+    let size = match random.below(4) {
+        0 => ENDS[random.below(ENDS.len())],
+        1 => random.below(100) as i32,
+        _ => random.below(1_000) as i32,
+    };
+    if random.one_in(2) { -size } else { size }
 }
 
 /// A size of so many digits, none of them a zero at the end.
@@ -162,13 +199,7 @@ fn number(random: &mut Random, count: usize, exponent: i32) -> (i64, i16) {
 
 /// A number that can be written with so many decimals.
 fn good(random: &mut Random, decimals: usize) -> (i64, i16) {
-    let exponent = match random.below(12) {
-        0 => 99,
-        1 => -99,
-        2 => 0,
-        3 => -1,
-        _ => random.below(199) as i32 - 99,
-    };
+    let exponent = any_exponent(random);
     match random.below(16) {
         0 | 1 => (0, any_scale(random)),
         2 => number(random, decimals + 1, exponent),
@@ -186,17 +217,18 @@ fn good(random: &mut Random, decimals: usize) -> (i64, i16) {
 
 /// A number that can't be written with so many decimals.
 fn bad(random: &mut Random, decimals: usize) -> (i64, i16) {
-    let exponent = random.below(199) as i32 - 99;
+    let exponent = any_exponent(random);
+    let beyond = 1_000 + random.below(2) as i32;
     match random.below(8) {
         0 => number(random, decimals + 2, exponent),
         1 => {
             let count = decimals + 2 + random.below(17 - decimals);
             number(random, count, exponent)
         }
-        2 => number(random, 1 + decimals, 100),
-        3 => number(random, 1, -100),
+        2 => number(random, 1 + decimals, beyond),
+        3 => number(random, 1, -beyond),
         4 => (i64::MIN, any_scale(random)),
-        5 => (i64::MAX, -18),
+        5 => (i64::MAX, any_scale(random)),
         6 => (10i64.pow(random.below(19) as u32), i16::MAX),
         _ => (-(10i64.pow(random.below(19) as u32)), i16::MIN),
     }

@@ -1,9 +1,9 @@
 //! A plain writer of dataset 58: the second opinion.
 //!
-//! It was written from the papers alone (document 01, source document 001 and the readings settled
-//! for them) by somebody who had not seen the proved one. Line ends, columns and the order of
-//! refusals are its own; what a header line's fields may hold is asked of the plain judge beside it.
-//! Safe Rust, standard library only.
+//! It was written from the papers alone (document 01, source document 001, request C-12 of document 02
+//! and the readings settled for them) by somebody who had not seen the proved one. Line ends, columns
+//! and the order of refusals are its own; what a header line's fields may hold is asked of the plain
+//! judge beside it. Safe Rust, standard library only.
 
 use crate::judge::{judge, Reply};
 
@@ -156,11 +156,17 @@ fn spelled(coefficient: i64, scale: i16, field: Field) -> Option<String> {
         exponent = i32::from(scale) + digits.len() as i32 - 1;
         digits.truncate(digits.trim_end_matches('0').len());
     }
-    if digits.len() > decimals + 1 || !(-99..=99).contains(&exponent) {
+    // An exponent of three digits takes the letter's column.
+    let exponent = match exponent {
+        -99..=99 => format!("E{exponent:+03}"),
+        -999..=999 => format!("{exponent:+}"),
+        _ => return None,
+    };
+    if digits.len() > decimals + 1 {
         return None;
     }
     let minus = if coefficient < 0 { "-" } else { "" };
     let (first, rest) = digits.split_at(1);
-    let text = format!("{minus}{first}.{rest:0<decimals$}E{exponent:+03}");
+    let text = format!("{minus}{first}.{rest:0<decimals$}{exponent}");
     Some(format!("{text:>width$}"))
 }

@@ -3,19 +3,25 @@
 ! case8-1p.uff with the scale factor 1P before them (1.23450E+00). The last line holds only the
 ! numbers that are left: the whole list is written by one statement, whose FORMAT starts a new
 ! line when it is used up.
+!
+! exponents.uff and exponents-1p.uff have a dataset 164 and the eight cases one after the other, with
+! numbers of sizes 10^-300 to 10^300: where an exponent needs three digits, the letter is dropped.
 program write58
   implicit none
 
+  ! Record 12's FORMATs, with or without the scale factor.
+  character(len=40) :: single, double, mixed, mixed_complex
+
   call write_all('', '.uff')
   call write_all('1P,', '-1p.uff')
+  call write_exponents('', 'exponents.uff')
+  call write_exponents('1P,', 'exponents-1p.uff')
 
 contains
 
   subroutine write_all(scale_factor, suffix)
     character(len=*), intent(in) :: scale_factor, suffix
 
-    ! Record 12's FORMATs, with or without the scale factor.
-    character(len=40) :: single, double, mixed, mixed_complex
     integer :: lun, i, j
 
     real :: y1(7), x2(4), y2(4), x4(3), x6(3), x8(3)
@@ -35,10 +41,7 @@ contains
     x8 = [1.0, 2.0, 4.0]
     y8 = reshape([1.0d-5, -2.0d5, 0.0d0, 3.33333333333d-1, -4.4d0, 5.5d50], [2, 3])
 
-    single = '(' // scale_factor // '6E13.5)'
-    double = '(' // scale_factor // '4E20.12)'
-    mixed = '(' // scale_factor // '2(E13.5,E20.12))'
-    mixed_complex = '(' // scale_factor // 'E13.5,2E20.12)'
+    call set_formats(scale_factor)
 
     call open_set(lun, '1' // suffix, scale_factor, 2, size(y1), 1)
     write (lun, single) (y1(i), i=1,size(y1))
@@ -74,39 +77,135 @@ contains
     call close_set(lun)
   end subroutine write_all
 
+  ! Double precision in every case, E13.5 too. Each case has 1.0D-101 and 1.0D+150.
+  subroutine write_exponents(scale_factor, name)
+    character(len=*), intent(in) :: scale_factor, name
+
+    integer :: lun, i, j
+
+    double precision :: y1(8), x2(4), y2(4), y3(2, 4), x4(3), y4(2, 3)
+    double precision :: y5(6), x6(3), y6(3), y7(2, 3), x8(3), y8(2, 3)
+
+    y1 = [1.0d-101, 1.0d150, -1.2345d-300, 9.9999d299, 1.0d99, -1.0d-100, 1.0d100, -1.0d300]
+    x2 = [0.0d0, 1.0d-300, 2.5d-200, 1.0d-101]
+    y2 = [1.0d150, -9.8765d-150, 9.9999d98, -1.0d-101]
+    y3 = reshape([1.0d-101, 1.0d150, -6.25d200, 7.5d-200, 0.0d0, 1.0d300, -1.0d-99, 3.1416d101], [2, 4])
+    x4 = [1.0d-250, 1.0d-101, 1.0d2]
+    y4 = reshape([1.0d150, -1.0d-150, 1.0d0, -1.0d0, 9.9999d-300, -2.0d299], [2, 3])
+    y5 = [1.0d-101, 1.0d150, -1.23456789012d-101, 9.99999999999d299, 1.0d99, -9.87654321012d-300]
+    x6 = [0.0d0, 1.0d-101, 1.2345d105]
+    y6 = [1.0d150, -3.14159265359d-200, 6.02214076d223]
+    y7 = reshape([1.0d-101, -1.0d-101, 1.0d150, 0.0d0, -1.00000000001d-100, 1.0d300], [2, 3])
+    x8 = [1.0d-300, 1.0d-101, 1.0d150]
+    y8 = reshape([1.0d-101, -1.0d150, 0.0d0, 3.33333333333d-150, -4.4d0, 5.5d250], [2, 3])
+
+    call set_formats(scale_factor)
+
+    open (newunit=lun, file=name, status='replace', action='write')
+    call write_units(lun, scale_factor)
+
+    call write_head(lun, '1', scale_factor, 2, size(y1), 1, [-1.0d-300, 1.0d-101, 1.0d150])
+    write (lun, single) (y1(i), i=1,size(y1))
+    call write_delimiter(lun)
+
+    call write_head(lun, '2', scale_factor, 2, size(y2), 0, [0.0d0, 0.0d0, 1.0d150])
+    write (lun, single) (x2(i), y2(i), i=1,size(y2))
+    call write_delimiter(lun)
+
+    call write_head(lun, '3', scale_factor, 5, size(y3, 2), 1, [0.0d0, 1.0d-101, -1.0d-101])
+    write (lun, single) ((y3(i,j), i=1,2), j=1,size(y3, 2))
+    call write_delimiter(lun)
+
+    call write_head(lun, '4', scale_factor, 5, size(y4, 2), 0, [0.0d0, 0.0d0, -1.0d-101])
+    write (lun, single) (x4(j), (y4(i,j), i=1,2), j=1,size(y4, 2))
+    call write_delimiter(lun)
+
+    call write_head(lun, '5', scale_factor, 4, size(y5), 1, [0.0d0, 1.0d-101, 0.0d0])
+    write (lun, double) (y5(i), i=1,size(y5))
+    call write_delimiter(lun)
+
+    call write_head(lun, '6', scale_factor, 4, size(y6), 0, [0.0d0, 0.0d0, 0.0d0])
+    write (lun, mixed) (x6(i), y6(i), i=1,size(y6))
+    call write_delimiter(lun)
+
+    call write_head(lun, '7', scale_factor, 6, size(y7, 2), 1, [1.0d150, 1.0d100, 1.0d99])
+    write (lun, double) ((y7(i,j), i=1,2), j=1,size(y7, 2))
+    call write_delimiter(lun)
+
+    call write_head(lun, '8', scale_factor, 6, size(y8, 2), 0, [0.0d0, 0.0d0, 0.0d0])
+    write (lun, mixed_complex) (x8(j), (y8(i,j), i=1,2), j=1,size(y8, 2))
+    call close_set(lun)
+  end subroutine write_exponents
+
+  subroutine set_formats(scale_factor)
+    character(len=*), intent(in) :: scale_factor
+
+    single = '(' // scale_factor // '6E13.5)'
+    double = '(' // scale_factor // '4E20.12)'
+    mixed = '(' // scale_factor // '2(E13.5,E20.12))'
+    mixed_complex = '(' // scale_factor // 'E13.5,2E20.12)'
+  end subroutine set_formats
+
+  ! A whole dataset 164.
+  subroutine write_units(lun, scale_factor)
+    integer, intent(in) :: lun
+    character(len=*), intent(in) :: scale_factor
+
+    character(len=20) :: description
+    integer :: i
+
+    description = 'SI: Meter (newton)'
+    call write_delimiter(lun)
+    write (lun, '(I6)') 164
+    write (lun, '(I10,20A1,I10)') 1, (description(i:i), i=1,20), 2
+    write (lun, '(' // scale_factor // '3D25.17)') 1.0d-101, 1.0d150, 1.2345d-300
+    write (lun, '(' // scale_factor // 'D25.17)') -1.0d300
+    call write_delimiter(lun)
+  end subroutine write_units
+
   ! Opens a file and writes the delimiter, the number line and records 1 to 11.
   subroutine open_set(lun, name, scale_factor, ordinate_type, values, spacing)
     integer, intent(out) :: lun
     character(len=*), intent(in) :: name, scale_factor
     integer, intent(in) :: ordinate_type, values, spacing
 
+    double precision :: increment
+
+    increment = 0.0d0
+    if (spacing == 1) increment = 1.0d-3
+    open (newunit=lun, file='case' // name, status='replace', action='write')
+    call write_head(lun, name(1:1), scale_factor, ordinate_type, values, spacing, [0.0d0, increment, 0.0d0])
+  end subroutine open_set
+
+  ! Writes the delimiter, the number line and records 1 to 11 of a case, named by its digit; record 7
+  ! ends in abscissa minimum, increment and Z value.
+  subroutine write_head(lun, digit, scale_factor, ordinate_type, values, spacing, abscissa)
+    integer, intent(in) :: lun, ordinate_type, values, spacing
+    character(len=*), intent(in) :: digit, scale_factor
+    double precision, intent(in) :: abscissa(3)
+
     character(len=80) :: id_lines(5)
     character(len=10) :: entity
-    real :: increment
     integer :: i, k
 
     id_lines = 'NONE'
-    id_lines(1) = 'Case ' // name(1:1) // ' written by Fortran'
+    id_lines(1) = 'Case ' // digit // ' written by Fortran'
     id_lines(3) = '30-JUN-99 12:00:00'
     entity = 'NONE'
-    increment = 0.0
-    if (spacing == 1) increment = 1.0e-3
 
-    open (newunit=lun, file='case' // name, status='replace', action='write')
-    write (lun, '(I6)') -1
+    call write_delimiter(lun)
     write (lun, '(I6)') 58
     do k = 1, 5
       write (lun, '(80A1)') (id_lines(k)(i:i), i=1,80)
     end do
     write (lun, '(2(I5,I10),2(1X,10A1,I10,I4))') 1, 1, 0, 0, &
       (entity(i:i), i=1,10), 7, 3, (entity(i:i), i=1,10), 0, 0
-    write (lun, '(' // scale_factor // '3I10,3E13.5)') &
-      ordinate_type, values, spacing, 0.0, increment, 0.0
+    write (lun, '(' // scale_factor // '3I10,3E13.5)') ordinate_type, values, spacing, abscissa
     call write_axis(lun, 17, 'Time', 's')
     call write_axis(lun, 12, 'Acceleration', 'm/s2')
     call write_axis(lun, 0, 'NONE', 'NONE')
     call write_axis(lun, 0, 'NONE', 'NONE')
-  end subroutine open_set
+  end subroutine write_head
 
   ! One of the records 8 to 11.
   subroutine write_axis(lun, data_type, label, units)
@@ -124,8 +223,14 @@ contains
   subroutine close_set(lun)
     integer, intent(in) :: lun
 
-    write (lun, '(I6)') -1
+    call write_delimiter(lun)
     close (lun)
   end subroutine close_set
+
+  subroutine write_delimiter(lun)
+    integer, intent(in) :: lun
+
+    write (lun, '(I6)') -1
+  end subroutine write_delimiter
 
 end program write58
