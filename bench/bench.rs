@@ -103,6 +103,8 @@ fn judge_table() {
     judge_row("4,096 plain sets without lines", &files::empty_sets(4_096));
     judge_row("4,096 sets 82 of one entry", &sets::traces());
     judge_row("case 1, CR LF, 80 columns, 16 MB", &sets::filled());
+    judge_row("case 1, no letters, 16 MB", &sets::without_letters(sets::many(1, LONGEST)));
+    judge_row("case 5, no letters, 16 MB", &sets::without_letters(sets::many(5, LONGEST)));
     judge_row("case 1, 1 MB", &sets::many(1, LONGEST / 16));
     judge_row("case 1, 4 MB", &sets::many(1, LONGEST / 4));
     judge_row("case 1, 16 MB again", &sets::many(1, LONGEST));
