@@ -1,5 +1,6 @@
 // Runs test vectors: for each line of standard input one line with the library's answer.
 // A test line is a letter, two digits, one blank and what is tested; a line that begins with # is a heading and comes back.
+use exact::Exact;
 use integer::Integer;
 use libc::STDIN_FILENO;
 use libc::STDOUT_FILENO;
@@ -60,6 +61,23 @@ fn show_real(field: &[u8]) {
             put(b"value ");
             put_real(n);
         }
+    }
+}
+
+// Writes the bit pattern of a number's f64, in decimal.
+fn put_exact(n: Number) {
+    match exact::exact_f64(n.minus, n.coefficient, n.below, n.scale) {
+        Exact::Value(x) => put_number(exact::bits(x)),
+        Exact::Outside => put(b"outside"),
+    }
+}
+
+// f: the f64 of the number that a real field holds.
+fn show_exact(field: &[u8]) {
+    match real::real_field(field) {
+        Real::Blank => put(b"blank"),
+        Real::Malformed => put(b"malformed"),
+        Real::Value(n) => put_exact(n),
     }
 }
 
@@ -170,6 +188,7 @@ fn answer(command: u8, digits: usize, tested: &[u8]) {
     match command {
         b'i' => show_integer(tested),
         b'r' => show_real(tested),
+        b'f' => show_exact(tested),
         b't' => show_text(tested),
         b'l' => show_line(tested, true),
         b'm' => show_line(tested, false),

@@ -1,5 +1,5 @@
 -- Coefficient and power of ten are exact, so that the one operation rounds the number itself, and once. No answer is a NaN.
-use mathlib.Core.Path.{_≡_, refl, sym, _∙_}
+use mathlib.Core.Path.{_≡_, refl, sym, ap, _∙_}
 use mathlib.Core.Logic.{⊎-elim}
 use mathlib.Core.Bool.{Bool, true, false, cond}
 use Prim.Native.Nat.{ℕ, zero, suc, _+_, _*_, _^_, _≤_, _<_}
@@ -9,7 +9,7 @@ use borrow.Author.Tests.{ltb-true, leb-true, ne-eqb}
 use lib.Dec.{leb, ltb}
 use lib.IntN.{pos}
 use lib.Pow.{pow-add, pow-mono, shl-lt}
-use lib.Ieee.{Float, nan, inf, fin, Format, binary64, prec, emax, low, up, down, odd, units, round, ofInt, neg, mul, div, isNan}
+use lib.Ieee.{Float, nan, inf, fin, Format, binary64, prec, emax, low, up, down, odd, units, round, ofInt, ofBits, neg, mul, div, isNan}
 use lib.Ieee.Exact.{HasValue, round-exact}
 use lib.Ieee.Fits.{down-pos}
 use lib.Ieee.Scale.{round-same}
@@ -62,6 +62,14 @@ div-rounded (fin s m e) (fin t n d) a b h (s0, p) (t0, q) =
     rw (s0, t0, ne-eqb n 0 (λ z. let w : 0 < 0 * up d = rw z at g in omega (arith, zero-mul (up d))))
     (round-same binary64 false _ _ a b (mul-pos g (down-pos e)) h
     (rw (p′, q′) (simp (mul-assoc, mul-comm, mul-left-comm))))
+
+-- a power of ten times ten, by its bits, is the next one itself: up to 10^22 nothing is rounded away
+pub tenOf-next : {x : Float} (k : ℕ) → k < 22 → x ≡ tenOf k → mul binary64 x (ofBits binary64 0x4024000000000000) ≡ tenOf (k + 1)
+unfolding tenOf ofInt ofBits
+tenOf-next k h e =
+    rw e
+    (mul-rounded _ _ (10 ^ k) (10 ^ 1) (tenOf-exact k (omega arith)) (tenOf-exact 1 (omega arith))
+    ∙ ap (λ (n : ℕ). round binary64 false n 1) (sym (pow-add 10 k 1)))
 
 -- the magnitude is c × 10^k, rounded
 pub magnitudeOf-times : (c k : ℕ) → c ≤ 9007199254740992 → k ≤ 22 → magnitudeOf c false k ≡ round binary64 false (c * 10 ^ k) 1
