@@ -36,6 +36,7 @@ pub fn fixed() -> Vec<Fixed> {
         double_complex_uneven(),
         double_complex_uneven_exact(),
         exact_path(),
+        every_scale(),
         single_without_letter(),
         double_without_letter(),
         exact_without_letter(),
@@ -479,6 +480,26 @@ fn exact_path() -> Fixed {
         (8, Err(18)),
     ];
     alone("exact path", file, 8, numbers, values, Err(21))
+}
+
+/// Every scale of the exact path with coefficients of 0, 1 and 15 digits; the values are by Rust's own powers of ten.
+fn every_scale() -> Fixed {
+    const TENS: [f64; 23] = [
+        1e0, 1e1, 1e2, 1e3, 1e4, 1e5, 1e6, 1e7, 1e8, 1e9, 1e10, 1e11, 1e12, 1e13, 1e14, 1e15, 1e16, 1e17, 1e18, 1e19, 1e20,
+        1e21, 1e22,
+    ];
+    let mut data = Vec::new();
+    let mut all_values = Vec::new();
+    for scale in -22_i32..=22 {
+        let ten = TENS[scale.unsigned_abs() as usize];
+        let coefficients = [0_u64, 1, 123_456_789_012_345, 999_999_999_999_999];
+        data.push(coefficients.map(|c| format!("{c:>15}.E{scale:+03}")).concat());
+        all_values.extend(coefficients.map(|c| if scale < 0 { c as f64 / ten } else { c as f64 * ten }));
+    }
+    let lines: Vec<&str> = data.iter().map(String::as_str).collect();
+    let file = function(4, 180, 1, &lines);
+    let values = (0..180).map(|i| (i, real(all_values[i as usize]))).collect();
+    alone("every scale of the exact path", file, 180, Vec::new(), values, Ok(all_values))
 }
 
 /// Exponents without a letter in E13.5; with the letter `1.0E+005` is the same number as `1.0+005`.
