@@ -17,8 +17,10 @@ all: target/uff
 $(ARCHIVE): crates.txt $(wildcard crates/*/src/*.rt crates/*/specs/*.antt crates/*/proofs/*/Proof.antt)
 	rt staticlib host
 
-target/uff: cmd/uff.c include/uff.h $(ARCHIVE)
-	$(CC) $(WARN) $(CFLAGS) $(CPPFLAGS) -Iinclude -o $@ cmd/uff.c $(ARCHIVE) $(LDFLAGS)
+COMMAND = $(wildcard cmd/*.c)
+
+target/uff: $(COMMAND) cmd/command.h include/uff.h $(ARCHIVE)
+	$(CC) $(WARN) $(CFLAGS) $(CPPFLAGS) -Iinclude -o $@ $(COMMAND) $(ARCHIVE) $(LDFLAGS)
 
 target/canaries: tests/host/canaries.c include/uff.h $(ARCHIVE)
 	$(CC) $(WARN) $(CFLAGS) $(CPPFLAGS) -g -Iinclude -o $@ tests/host/canaries.c $(ARCHIVE) $(LDFLAGS)

@@ -1,26 +1,10 @@
 /* The command `uff`: the calls of uff.h for people at a terminal. It holds no rule of the format. */
-#define _POSIX_C_SOURCE 200809L
-#define _XOPEN_SOURCE 700
+#include "command.h"
 
 #include <errno.h>
-#include <fcntl.h>
-#include <poll.h>
-#include <signal.h>
-#include <stdbool.h>
-#include <stdio.h>
 #include <stdlib.h>
 #include <string.h>
-#include <sys/stat.h>
-#include <time.h>
 #include <unistd.h>
-
-#include "uff.h"
-
-enum { ACCEPTED = 0, REFUSED = 1, TROUBLE = 2 };
-
-/* One byte more than a file may have is enough to see that it is too long. */
-#define MOST ((size_t)UFF_LONGEST + 1)
-#define BURST 65536
 
 static const char usage[] =
     "usage: uff judge [-H] FILE...      say whether each file is a Universal File\n"
@@ -37,183 +21,11 @@ static const char usage[] =
     "Exit status: 0 accepted, 1 refused (the file, or what was asked of it),\n"
     "2 wrong usage or trouble with a file.\n";
 
-/* Milliseconds on a clock that never goes back. */
-static int64_t now(void)
-{
-    struct timespec t;
-    clock_gettime(CLOCK_MONOTONIC, &t);
-    return (int64_t)t.tv_sec * 1000 + t.tv_nsec / 1000000;
-}
-
-/* Progress over many files, on standard error where that is a terminal. */
-static struct {
-    bool on;
-    bool shown;
-    int64_t next;
-} progress;
-
-static void show_progress(int done, int all)
-{
-    if (!progress.on || now() < progress.next)
-        return;
-    fprintf(stderr, "\r%d of %d files", done, all);
-    progress.shown = true;
-    progress.next = now() + 100;
-}
-
-static void clear_progress(void)
-{
-    if (progress.shown)
-        fputs("\r\033[K", stderr);
-    progress.shown = false;
-}
-
-/* Says what is wrong with a file. */
-static int trouble(const char *name, const char *what)
-{
-    clear_progress();
-    fflush(stdout);
-    fprintf(stderr, "uff: %s: %s\n", name, what);
-    return TROUBLE;
-}
-
-/* Says what is wrong with the words typed. */
-static int misused(const char *what, const char *word)
-{
-    fprintf(stderr, "uff: %s%s%s\nTry 'uff help'.\n", what, *word ? ": " : "", word);
-    return TROUBLE;
-}
-
-/* Input. */
-
-static bool is_standard(const char *name)
-{
-    return strcmp(name, "-") == 0;
-}
-
-static const char *shown_name(const char *name)
-{
-    return is_standard(name) ? "standard input" : name;
-}
-
-static int open_input(const char *name)
-{
-    return is_standard(name) ? STDIN_FILENO : open(name, O_RDONLY | O_CLOEXEC);
-}
-
-static void close_input(const char *name, int fd)
-{
-    if (!is_standard(name))
-        close(fd);
-}
-
-static ssize_t read_some(int fd, uint8_t *to, size_t room)
-{
-    ssize_t n;
-    do
-        n = read(fd, to, room);
-    while (n < 0 && errno == EINTR);
-    return n;
-}
-
-/* The bytes of a file; the room is kept for the next one. */
-struct text {
-    uint8_t *bytes;
-    size_t count;
-    size_t room;
-};
-
-static bool grow(struct text *t)
-{
-    size_t room = t->room == 0 ? BURST : t->room * 2;
-    uint8_t *bytes;
-    if (room > MOST)
-        room = MOST;
-    bytes = realloc(t->bytes, room);
-    if (bytes == NULL)
-        return false;
-    t->bytes = bytes;
-    t->room = room;
-    return true;
-}
-
-/* Reads to the end, or up to MOST bytes. */
-static bool read_from(int fd, struct text *t)
-{
-    t->count = 0;
-    while (t->count < MOST) {
-        ssize_t n;
-        if (t->count == t->room && !grow(t))
-            return false;
-        n = read_some(fd, t->bytes + t->count, t->room - t->count);
-        if (n < 0)
-            return false;
-        if (n == 0)
-            return true;
-        t->count += (size_t)n;
-    }
-    return true;
-}
-
-/* Reads a file, or says what is wrong with it and keeps no room. */
-static bool read_file(const char *name, struct text *t)
-{
-    int fd = open_input(name);
-    bool good = fd >= 0 && read_from(fd, t);
-    int error = errno;
-    if (fd >= 0)
-        close_input(name, fd);
-    if (good)
-        return true;
-    free(t->bytes);
-    *t = (struct text){NULL, 0, 0};
-    trouble(shown_name(name), strerror(error));
-    return false;
-}
-
-/* Replies. */
-
-/* The lines in some bytes; one that is open at their end counts if `open`. */
-static uint64_t count_lines(const uint8_t *bytes, size_t count, bool open)
-{
-    uint64_t lines = 0;
-    const uint8_t *at = bytes, *past = bytes + count;
-    while (at < past) {
-        const uint8_t *end = memchr(at, '\n', (size_t)(past - at));
-        if (end == NULL)
-            return lines + (open ? 1 : 0);
-        lines++;
-        at = end + 1;
-    }
-    return lines;
-}
-
-/* Prints a reply in the paper's form, and a refusal's text; `lines` are the lines that came. */
-static void print_reply(FILE *to, uint64_t reply, uint64_t lines)
-{
-    unsigned number = UFF_NUMBER(reply);
-    uint32_t place = UFF_PLACE(reply);
-    if (number == UFF_ACCEPTED)
-        fprintf(to, "accepted %u\n", place);
-    else if (number == UFF_SO_FAR)
-        fprintf(to, "so far %u\n", place);
-    else
-        fprintf(to, "refused %u at line %u: %s%s\n", number, place, uff_text(number),
-                place > lines ? " (the file ends before that line)" : "");
-}
-
 /* Prints the reply for a whole file, and gives the exit status that it calls for. */
 static int print_verdict(FILE *to, uint64_t reply, const struct text *t)
 {
     print_reply(to, reply, count_lines(t->bytes, t->count, true));
     return UFF_NUMBER(reply) == UFF_ACCEPTED ? ACCEPTED : REFUSED;
-}
-
-/* Writes what was printed in one piece; where that fails there is nothing left to do. */
-static void flush_output(void)
-{
-    if (fflush(stdout) != 0)
-        exit(trouble("standard output", strerror(errno)));
 }
 
 /* Commands. Each takes its words and gives the exit status. */
@@ -231,7 +43,8 @@ static int run_judge(int count, char **words)
     int seen[3] = {0, 0, 0};
     bool named = always_named || count > 1;
     setvbuf(stdout, judge_line, _IOFBF, sizeof judge_line);
-    progress.on = count > 1 && isatty(STDERR_FILENO);
+    if (count > 1)
+        start_progress();
     for (int i = 0; i < count; i++) {
         uint64_t reply;
         show_progress(i, count);
@@ -380,142 +193,6 @@ static int run_values(int count, char **words)
     return status;
 }
 
-/* Output: a new file beside the old one, which takes its name once it is wholly written. */
-
-static char temporary[4200];
-static volatile sig_atomic_t has_temporary = 0;
-
-static void remove_temporary(void)
-{
-    if (has_temporary)
-        unlink(temporary);
-    has_temporary = 0;
-}
-
-static void on_signal(int number)
-{
-    remove_temporary();
-    raise(number);
-}
-
-static void catch_signals(void)
-{
-    static const int numbers[] = {SIGHUP, SIGINT, SIGTERM};
-    struct sigaction action, old;
-    memset(&action, 0, sizeof action);
-    action.sa_handler = on_signal;
-    action.sa_flags = (int)SA_RESETHAND;
-    for (size_t i = 0; i < sizeof numbers / sizeof *numbers; i++)
-        if (sigaction(numbers[i], NULL, &old) == 0 && old.sa_handler != SIG_IGN)
-            sigaction(numbers[i], &action, NULL);
-    signal(SIGXFSZ, SIG_IGN);
-}
-
-static bool write_all(int fd, const uint8_t *bytes, size_t count)
-{
-    while (count > 0) {
-        ssize_t n = write(fd, bytes, count);
-        if (n < 0 && errno == EINTR)
-            continue;
-        if (n < 0)
-            return false;
-        bytes += n;
-        count -= (size_t)n;
-    }
-    return true;
-}
-
-/* Gives the new file the mode and, where it may, the owner of the old one; a wholly new one what the mask leaves. */
-static bool set_mode(int fd, const struct stat *old)
-{
-    mode_t mask;
-    if (old != NULL) {
-        if (fchown(fd, old->st_uid, old->st_gid) != 0)
-            errno = 0;
-        return fchmod(fd, old->st_mode & 0777) == 0;
-    }
-    mask = umask(0);
-    umask(mask);
-    return fchmod(fd, 0666 & ~mask) == 0;
-}
-
-/* Fills the temporary file and closes it. */
-static bool fill(int fd, const struct stat *old, const uint8_t *bytes, size_t count)
-{
-    bool good = write_all(fd, bytes, count) && set_mode(fd, old) && (fsync(fd) == 0 || errno == EINVAL);
-    int error = errno;
-    if (close(fd) != 0 && good)
-        return false;
-    errno = error;
-    return good;
-}
-
-/* Makes sure that the new name lasts; where a folder cannot be synced the file stands all the same. */
-static void sync_folder(const char *path, size_t length)
-{
-    char folder[sizeof temporary];
-    int fd;
-    snprintf(folder, sizeof folder, "%.*s", (int)length, path);
-    fd = open(folder, O_RDONLY | O_DIRECTORY | O_CLOEXEC);
-    if (fd < 0)
-        return;
-    fsync(fd);
-    close(fd);
-}
-
-/* Puts the bytes at the path, which has no link at its end; `old` is the file there, if any. */
-static bool replace(const char *path, const struct stat *old, const uint8_t *bytes, size_t count)
-{
-    const char *slash = strrchr(path, '/');
-    const char *folder = slash == NULL ? "./" : path;
-    size_t length = slash == NULL ? 2 : (size_t)(slash - path) + 1;
-    int fd, error;
-    if (length + sizeof ".uff-XXXXXX" > sizeof temporary) {
-        errno = ENAMETOOLONG;
-        return false;
-    }
-    snprintf(temporary, sizeof temporary, "%.*s.uff-XXXXXX", (int)length, folder);
-    fd = mkstemp(temporary);
-    if (fd < 0)
-        return false;
-    has_temporary = 1;
-    if (fill(fd, old, bytes, count) && rename(temporary, path) == 0) {
-        has_temporary = 0;
-        sync_folder(folder, length);
-        return true;
-    }
-    error = errno;
-    remove_temporary();
-    errno = error;
-    return false;
-}
-
-/* Puts the bytes in a file, or says what is wrong with it and leaves what stands there. */
-static int save(const char *name, const uint8_t *bytes, size_t count)
-{
-    struct stat link, old;
-    char *path;
-    bool good;
-    if (lstat(name, &link) != 0) {
-        if (errno != ENOENT)
-            return trouble(name, strerror(errno));
-        return replace(name, NULL, bytes, count) ? ACCEPTED : trouble(name, strerror(errno));
-    }
-    path = realpath(name, NULL);
-    if (path == NULL || stat(path, &old) != 0) {
-        int error = errno;
-        free(path);
-        return trouble(name, strerror(error));
-    }
-    if (!S_ISREG(old.st_mode)) {
-        free(path);
-        return trouble(name, S_ISDIR(old.st_mode) ? strerror(EISDIR) : "Not a regular file");
-    }
-    good = access(path, W_OK) == 0 && replace(path, &old, bytes, count);
-    free(path);
-    return good ? ACCEPTED : trouble(name, strerror(errno));
-}
-
 /* Writes a file in plain form, and says so; where it goes to standard output, on standard error. */
 static int put_rewritten(const char *name, const uint8_t *bytes, uint32_t count)
 {
@@ -526,7 +203,6 @@ static int put_rewritten(const char *name, const uint8_t *bytes, uint32_t count)
         fprintf(stderr, "accepted %u\n", count);
         return ACCEPTED;
     }
-    catch_signals();
     status = save(name, bytes, count);
     if (status == ACCEPTED)
         printf("accepted %u: %s has that many bytes\n", count, name);
@@ -555,80 +231,6 @@ static int run_rewrite(int count, char **words)
     free(t.bytes);
     free(out);
     return status;
-}
-
-/* A file that is watched: the replies so far, and what was shown of them. */
-struct watch {
-    struct uff_stream record;
-    size_t total;
-    uint64_t lines;
-    bool open;
-    uint64_t reply;
-    uint64_t shown;
-    int64_t next;
-};
-
-static void show(struct watch *w)
-{
-    print_reply(stdout, w->reply, w->lines + (w->open ? 1 : 0));
-    flush_output();
-    w->shown = w->reply;
-    w->next = now() + 1000;
-}
-
-/* Shows a refusal at once, and other news if a second has gone by or does so before more bytes come. */
-static void show_news(struct watch *w, int fd)
-{
-    struct pollfd input = {fd, POLLIN, 0};
-    int64_t left;
-    if (w->reply == w->shown)
-        return;
-    left = w->next - now();
-    if (UFF_NUMBER(w->reply) != UFF_SO_FAR || left <= 0 || poll(&input, 1, (int)left) == 0)
-        show(w);
-}
-
-/* Takes in burst after burst until the input ends, or is too long whatever follows. */
-static bool take_in(struct watch *w, int fd)
-{
-    static uint8_t burst[BURST];
-    while (w->total < MOST) {
-        size_t room = MOST - w->total < BURST ? MOST - w->total : BURST;
-        ssize_t n = read_some(fd, burst, room);
-        if (n < 0)
-            return false;
-        if (n == 0)
-            return true;
-        w->reply = uff_stream_burst(&w->record, burst, (size_t)n);
-        w->total += (size_t)n;
-        w->lines += count_lines(burst, (size_t)n, false);
-        w->open = burst[n - 1] != '\n';
-        show_news(w, fd);
-    }
-    return true;
-}
-
-static int run_watch(int count, char **words)
-{
-    static struct watch w;
-    int fd = open_input(words[0]);
-    bool good;
-    int error;
-    (void)count;
-    if (fd < 0)
-        return trouble(words[0], strerror(errno));
-    uff_stream_start(&w.record);
-    w.shown = uff_stream_burst(&w.record, NULL, 0);
-    w.next = now() + 1000;
-    good = take_in(&w, fd);
-    error = errno;
-    close_input(words[0], fd);
-    if (!good)
-        return trouble(shown_name(words[0]), strerror(error));
-    w.reply = uff_stream_end(&w.record);
-    if (w.reply != w.shown)
-        show(&w);
-    return UFF_NUMBER(w.reply) == UFF_ACCEPTED ? ACCEPTED : REFUSED;
 }
 
 static int run_help(int count, char **words)
