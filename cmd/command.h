@@ -21,6 +21,13 @@ enum { ACCEPTED = 0, REFUSED = 1, TROUBLE = 2 };
 /* Milliseconds on a clock that never goes back. */
 int64_t now(void);
 
+/* Gives both outputs room for a line, so that a line is one write, and several processes may share a file or a pipe. */
+void prepare_outputs(void);
+
+/* Prints a name or a word typed so that it cannot end the line or command a terminal: a byte below 32, 127 and the
+   backslash as \n, \x1b, \\ and the like. */
+void print_name(FILE *to, const char *name);
+
 /* Progress over many files, on standard error where that is a terminal. */
 void start_progress(void);
 void show_progress(int done, int all);

@@ -1,4 +1,4 @@
-/* What the command prints: progress, trouble, replies. */
+/* What the command prints: names, progress, trouble, replies. */
 #include "command.h"
 
 #include <errno.h>
@@ -12,6 +12,31 @@ int64_t now(void)
     struct timespec t;
     clock_gettime(CLOCK_MONOTONIC, &t);
     return (int64_t)t.tv_sec * 1000 + t.tv_nsec / 1000000;
+}
+
+/* Room for a line: the longest name that opens, each byte of it shown by four, and a reply. */
+#define LINE (4 * 4096 + 512)
+
+void prepare_outputs(void)
+{
+    static char output[LINE], errors[LINE];
+    setvbuf(stdout, output, _IOFBF, sizeof output);
+    setvbuf(stderr, errors, _IOLBF, sizeof errors);
+}
+
+void print_name(FILE *to, const char *name)
+{
+    static const char bytes[] = "\n\r\t\\", letters[] = "nrt\\";
+    for (; *name != '\0'; name++) {
+        unsigned byte = (unsigned char)*name;
+        const char *at = strchr(bytes, (int)byte);
+        if (at != NULL)
+            fprintf(to, "\\%c", letters[at - bytes]);
+        else if (byte < 32 || byte == 127)
+            fprintf(to, "\\x%02x", byte);
+        else
+            putc((int)byte, to);
+    }
 }
 
 static struct {
@@ -30,14 +55,17 @@ void show_progress(int done, int all)
     if (!progress.on || now() < progress.next)
         return;
     fprintf(stderr, "\r%d of %d files", done, all);
+    fflush(stderr);
     progress.shown = true;
     progress.next = now() + 100;
 }
 
 void clear_progress(void)
 {
-    if (progress.shown)
-        fputs("\r\033[K", stderr);
+    if (!progress.shown)
+        return;
+    fputs("\r\033[K", stderr);
+    fflush(stderr);
     progress.shown = false;
 }
 
@@ -45,13 +73,17 @@ int trouble(const char *name, const char *what)
 {
     clear_progress();
     fflush(stdout);
-    fprintf(stderr, "uff: %s: %s\n", name, what);
+    fputs("uff: ", stderr);
+    print_name(stderr, name);
+    fprintf(stderr, ": %s\n", what);
     return TROUBLE;
 }
 
 int misused(const char *what, const char *word)
 {
-    fprintf(stderr, "uff: %s%s%s\nTry 'uff help'.\n", what, *word ? ": " : "", word);
+    fprintf(stderr, "uff: %s%s", what, *word ? ": " : "");
+    print_name(stderr, word);
+    fputs("\nTry 'uff help'.\n", stderr);
     return TROUBLE;
 }
 

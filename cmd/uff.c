@@ -33,16 +33,11 @@ static int print_verdict(FILE *to, uint64_t reply, const struct text *t)
 /* The option -H: `judge` prints name and count for one file too. */
 static bool always_named;
 
-/* Room for a line of `judge`: the longest name that opens, and a reply. */
-static char judge_line[16384];
-
-/* Each line is one write, so that several processes may share a file or a pipe. */
 static int run_judge(int count, char **words)
 {
     struct text t = {NULL, 0, 0};
     int seen[3] = {0, 0, 0};
     bool named = always_named || count > 1;
-    setvbuf(stdout, judge_line, _IOFBF, sizeof judge_line);
     if (count > 1)
         start_progress();
     for (int i = 0; i < count; i++) {
@@ -54,8 +49,10 @@ static int run_judge(int count, char **words)
         }
         reply = uff_judge(t.bytes, t.count);
         clear_progress();
-        if (named)
-            printf("%s: ", words[i]);
+        if (named) {
+            print_name(stdout, words[i]);
+            fputs(": ", stdout);
+        }
         seen[print_verdict(stdout, reply, &t)]++;
         flush_output();
     }
@@ -204,8 +201,11 @@ static int put_rewritten(const char *name, const uint8_t *bytes, uint32_t count)
         return ACCEPTED;
     }
     status = save(name, bytes, count);
-    if (status == ACCEPTED)
-        printf("accepted %u: %s has that many bytes\n", count, name);
+    if (status == ACCEPTED) {
+        printf("accepted %u: ", count);
+        print_name(stdout, name);
+        fputs(" has that many bytes\n", stdout);
+    }
     return status;
 }
 
@@ -313,8 +313,11 @@ static int run(int count, char **words)
 
 int main(int count, char **words)
 {
-    int status = run(count - 1, words + 1);
-    bool failed = ferror(stdout) != 0;
+    int status;
+    bool failed;
+    prepare_outputs();
+    status = run(count - 1, words + 1);
+    failed = ferror(stdout) != 0;
     errno = 0;
     if (fclose(stdout) != 0 || failed) {
         fprintf(stderr, "uff: standard output: %s\n", errno ? strerror(errno) : "not wholly written");
