@@ -33,6 +33,9 @@ void start_progress(void);
 void show_progress(int done, int all);
 void clear_progress(void);
 
+/* Says something of a file on standard error; why, where `error` is not 0. */
+void tell(const char *name, const char *what, int error);
+
 /* Says what is wrong with a file. Gives TROUBLE. */
 int trouble(const char *name, const char *what);
 

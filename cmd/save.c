@@ -9,34 +9,23 @@
 #include <sys/stat.h>
 #include <unistd.h>
 
-static char temporary[4200];
-static volatile sig_atomic_t has_temporary = 0;
+/* Where a file is put: the path, with no link at its end; the folder, with its slash; the file there, unless it is new. */
+struct place {
+    char *path;
+    char folder[4200];
+    bool is_new;
+    struct stat old;
+};
 
-static void remove_temporary(void)
-{
-    if (has_temporary)
-        unlink(temporary);
-    has_temporary = 0;
-}
+/* What the new file could not be given: the error, or 0. */
+struct lost {
+    int owner;
+    int group;
+    int mode;
+};
 
-static void on_signal(int number)
-{
-    remove_temporary();
-    raise(number);
-}
-
-static void catch_signals(void)
-{
-    static const int numbers[] = {SIGHUP, SIGINT, SIGTERM};
-    struct sigaction action, old;
-    memset(&action, 0, sizeof action);
-    action.sa_handler = on_signal;
-    action.sa_flags = (int)SA_RESETHAND;
-    for (size_t i = 0; i < sizeof numbers / sizeof *numbers; i++)
-        if (sigaction(numbers[i], NULL, &old) == 0 && old.sa_handler != SIG_IGN)
-            sigaction(numbers[i], &action, NULL);
-    signal(SIGXFSZ, SIG_IGN);
-}
+/* What became of it. Where it failed, errno says why. */
+enum outcome { DONE, FILE_FAILED, FOLDER_FAILED };
 
 bool write_all(int fd, const uint8_t *bytes, size_t count)
 {
@@ -52,24 +41,48 @@ bool write_all(int fd, const uint8_t *bytes, size_t count)
     return true;
 }
 
-/* Gives the new file the mode and, where it may, the owner of the old one; a wholly new one what the mask leaves. */
-static bool set_mode(int fd, const struct stat *old)
+/*
+ * Gives the new file the owner, the group and the mode of the old one, as far as it may. Without the group the bits for
+ * it and for others would let in people whom they shut out before: they go.
+ */
+static bool keep_access(int fd, const struct stat *old, struct lost *lost)
 {
-    mode_t mask;
-    if (old != NULL) {
-        if (fchown(fd, old->st_uid, old->st_gid) != 0)
-            errno = 0;
-        return fchmod(fd, old->st_mode & 0777) == 0;
+    struct stat made;
+    mode_t mode = old->st_mode & 0777;
+    if (fstat(fd, &made) != 0)
+        return false;
+    if (made.st_uid != old->st_uid && fchown(fd, old->st_uid, (gid_t)-1) != 0)
+        lost->owner = errno;
+    if (made.st_gid != old->st_gid && fchown(fd, (uid_t)-1, old->st_gid) != 0) {
+        lost->group = errno;
+        mode &= 0700;
     }
-    mask = umask(0);
-    umask(mask);
-    return fchmod(fd, 0666 & ~mask) == 0;
+    if (fchmod(fd, mode) != 0)
+        lost->mode = errno;
+    return true;
 }
 
-/* Fills the temporary file and closes it. */
-static bool fill(int fd, const struct stat *old, const uint8_t *bytes, size_t count)
+/* Gives a wholly new file what the mask leaves. */
+static bool set_mode(int fd, struct lost *lost)
 {
-    bool good = write_all(fd, bytes, count) && set_mode(fd, old) && (fsync(fd) == 0 || errno == EINVAL);
+    mode_t mask = umask(0);
+    umask(mask);
+    if (fchmod(fd, 0666 & ~mask) != 0)
+        lost->mode = errno;
+    return true;
+}
+
+/* Whether the bytes are on the disk, as far as the file system has a way to say so. */
+static bool is_synced(int fd)
+{
+    return fsync(fd) == 0 || errno == ENOSYS || errno == EOPNOTSUPP || errno == EINVAL;
+}
+
+/* Fills the temporary file, which its maker alone may use until then, and closes it. */
+static bool fill(int fd, const struct place *p, const uint8_t *bytes, size_t count, struct lost *lost)
+{
+    bool good = write_all(fd, bytes, count) && (p->is_new ? set_mode(fd, lost) : keep_access(fd, &p->old, lost)) &&
+                is_synced(fd);
     int error = errno;
     if (close(fd) != 0 && good)
         return false;
@@ -77,68 +90,131 @@ static bool fill(int fd, const struct stat *old, const uint8_t *bytes, size_t co
     return good;
 }
 
-/* Makes sure that the new name lasts; where a folder cannot be synced the file stands all the same. */
-static void sync_folder(const char *path, size_t length)
+/* Whether no signal waits that is to end the command. */
+static bool goes_on(void)
 {
-    char folder[sizeof temporary];
-    int fd;
-    snprintf(folder, sizeof folder, "%.*s", (int)length, path);
-    fd = open(folder, O_RDONLY | O_DIRECTORY | O_CLOEXEC);
+    static const int numbers[] = {SIGHUP, SIGINT, SIGQUIT, SIGTERM};
+    sigset_t waiting;
+    struct sigaction action;
+    if (sigpending(&waiting) != 0)
+        return false;
+    for (size_t i = 0; i < sizeof numbers / sizeof *numbers; i++) {
+        if (sigismember(&waiting, numbers[i]) != 1)
+            continue;
+        if (sigaction(numbers[i], NULL, &action) == 0 && action.sa_handler == SIG_IGN)
+            continue;
+        errno = EINTR;
+        return false;
+    }
+    return true;
+}
+
+static enum outcome replace_blocked(const struct place *p, const uint8_t *bytes, size_t count, struct lost *lost)
+{
+    char temporary[sizeof p->folder + sizeof ".uff-XXXXXX"];
+    bool filled;
+    int fd, error;
+    snprintf(temporary, sizeof temporary, "%s.uff-XXXXXX", p->folder);
+    fd = mkstemp(temporary);
+    if (fd < 0)
+        return FOLDER_FAILED;
+    filled = fill(fd, p, bytes, count, lost);
+    if (filled && goes_on() && rename(temporary, p->path) == 0)
+        return DONE;
+    error = errno;
+    unlink(temporary);
+    errno = error;
+    return filled && (error == EACCES || error == EPERM || error == EROFS) ? FOLDER_FAILED : FILE_FAILED;
+}
+
+/*
+ * Puts the bytes at the place. All signals wait in the meantime: one that ends the command does so with the old file or
+ * the new one in place and nothing beside it.
+ */
+static enum outcome replace(const struct place *p, const uint8_t *bytes, size_t count, struct lost *lost)
+{
+    sigset_t all, before;
+    enum outcome outcome;
+    int error;
+    sigfillset(&all);
+    if (sigprocmask(SIG_BLOCK, &all, &before) != 0)
+        return FILE_FAILED;
+    outcome = replace_blocked(p, bytes, count, lost);
+    error = errno;
+    sigprocmask(SIG_SETMASK, &before, NULL);
+    errno = error;
+    return outcome;
+}
+
+/* Makes sure that the new name lasts; where a folder cannot be synced the file stands all the same. */
+static void sync_folder(const char *folder)
+{
+    int fd = open(folder, O_RDONLY | O_DIRECTORY | O_CLOEXEC);
     if (fd < 0)
         return;
     fsync(fd);
     close(fd);
 }
 
-/* Puts the bytes at the path, which has no link at its end; `old` is the file there, if any. */
-static bool replace(const char *path, const struct stat *old, const uint8_t *bytes, size_t count)
+/* Finds the place of a file. Gives what is wrong with it, or NULL. */
+static const char *find_place(const char *name, struct place *p)
 {
-    const char *slash = strrchr(path, '/');
-    const char *folder = slash == NULL ? "./" : path;
-    size_t length = slash == NULL ? 2 : (size_t)(slash - path) + 1;
-    int fd, error;
-    if (length + sizeof ".uff-XXXXXX" > sizeof temporary) {
-        errno = ENAMETOOLONG;
-        return false;
+    bool is_link;
+    p->is_new = lstat(name, &p->old) != 0;
+    if (p->is_new && errno != ENOENT)
+        return strerror(errno);
+    is_link = !p->is_new && S_ISLNK(p->old.st_mode);
+    p->path = is_link ? realpath(name, NULL) : strdup(name);
+    if (p->path == NULL || (is_link && stat(p->path, &p->old) != 0))
+        return strerror(errno);
+    if (p->is_new)
+        return NULL;
+    if (S_ISDIR(p->old.st_mode))
+        return strerror(EISDIR);
+    if (!S_ISREG(p->old.st_mode))
+        return "Not a regular file";
+    return access(p->path, W_OK) == 0 ? NULL : strerror(errno);
+}
+
+/* Finds the folder of the path. Gives what is wrong with it, or NULL. */
+static const char *find_folder(struct place *p)
+{
+    const char *slash = strrchr(p->path, '/');
+    int length = slash == NULL ? 2 : (int)(slash - p->path) + 1;
+    snprintf(p->folder, sizeof p->folder, "%.*s", length, slash == NULL ? "./" : p->path);
+    return (size_t)length < sizeof p->folder ? NULL : strerror(ENAMETOOLONG);
+}
+
+/* Puts the bytes at a place that was found, and says what went wrong. Gives the exit status. */
+static int put(const char *name, const struct place *p, const uint8_t *bytes, size_t count)
+{
+    struct lost lost = {0, 0, 0};
+    enum outcome outcome = replace(p, bytes, count, &lost);
+    if (outcome == FILE_FAILED)
+        return trouble(name, strerror(errno));
+    if (outcome == FOLDER_FAILED) {
+        tell(p->folder, "the folder cannot be written", errno);
+        return TROUBLE;
     }
-    snprintf(temporary, sizeof temporary, "%.*s.uff-XXXXXX", (int)length, folder);
-    fd = mkstemp(temporary);
-    if (fd < 0)
-        return false;
-    has_temporary = 1;
-    if (fill(fd, old, bytes, count) && rename(temporary, path) == 0) {
-        has_temporary = 0;
-        sync_folder(folder, length);
-        return true;
-    }
-    error = errno;
-    remove_temporary();
-    errno = error;
-    return false;
+    sync_folder(p->folder);
+    if (lost.owner != 0)
+        tell(name, "the owner is not kept", lost.owner);
+    if (lost.group != 0)
+        tell(name, "the group is not kept, and group and others may not use the file", lost.group);
+    if (lost.mode != 0)
+        tell(name, "the mode is not set", lost.mode);
+    return ACCEPTED;
 }
 
 int save(const char *name, const uint8_t *bytes, size_t count)
 {
-    struct stat link, old;
-    char *path;
-    bool good;
-    catch_signals();
-    if (lstat(name, &link) != 0) {
-        if (errno != ENOENT)
-            return trouble(name, strerror(errno));
-        return replace(name, NULL, bytes, count) ? ACCEPTED : trouble(name, strerror(errno));
-    }
-    path = realpath(name, NULL);
-    if (path == NULL || stat(path, &old) != 0) {
-        int error = errno;
-        free(path);
-        return trouble(name, strerror(error));
-    }
-    if (!S_ISREG(old.st_mode)) {
-        free(path);
-        return trouble(name, S_ISDIR(old.st_mode) ? strerror(EISDIR) : "Not a regular file");
-    }
-    good = access(path, W_OK) == 0 && replace(path, &old, bytes, count);
-    free(path);
-    return good ? ACCEPTED : trouble(name, strerror(errno));
+    struct place p = {.path = NULL};
+    const char *wrong = find_place(name, &p);
+    int status;
+    if (wrong == NULL)
+        wrong = find_folder(&p);
+    signal(SIGXFSZ, SIG_IGN);
+    status = wrong == NULL ? put(name, &p, bytes, count) : trouble(name, wrong);
+    free(p.path);
+    return status;
 }

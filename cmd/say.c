@@ -69,13 +69,18 @@ void clear_progress(void)
     progress.shown = false;
 }
 
-int trouble(const char *name, const char *what)
+void tell(const char *name, const char *what, int error)
 {
     clear_progress();
     fflush(stdout);
     fputs("uff: ", stderr);
     print_name(stderr, name);
-    fprintf(stderr, ": %s\n", what);
+    fprintf(stderr, ": %s%s%s\n", what, error ? ": " : "", error ? strerror(error) : "");
+}
+
+int trouble(const char *name, const char *what)
+{
+    tell(name, what, 0);
     return TROUBLE;
 }
 

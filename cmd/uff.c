@@ -2,6 +2,8 @@
 #include "command.h"
 
 #include <errno.h>
+#include <fcntl.h>
+#include <signal.h>
 #include <stdlib.h>
 #include <string.h>
 #include <unistd.h>
@@ -33,11 +35,22 @@ static int print_verdict(FILE *to, uint64_t reply, const struct text *t)
 /* The option -H: `judge` prints name and count for one file too. */
 static bool always_named;
 
+/* Whether standard input is named more than once. */
+static bool is_read_twice(int count, char **words)
+{
+    int times = 0;
+    for (int i = 0; i < count; i++)
+        times += is_standard(words[i]);
+    return times > 1;
+}
+
 static int run_judge(int count, char **words)
 {
     struct text t = {NULL, 0, 0};
     int seen[3] = {0, 0, 0};
     bool named = always_named || count > 1;
+    if (is_read_twice(count, words))
+        return misused("standard input is read once only", "-");
     if (count > 1)
         start_progress();
     for (int i = 0; i < count; i++) {
@@ -190,6 +203,12 @@ static int run_values(int count, char **words)
     return status;
 }
 
+/*
+ * OUT was replaced. The exit status of `rewrite` says whether it was, so it stays 0 where the line about it cannot be
+ * printed.
+ */
+static bool out_stands;
+
 /* Writes a file in plain form, and says so; where it goes to standard output, on standard error. */
 static int put_rewritten(const char *name, const uint8_t *bytes, uint32_t count)
 {
@@ -200,8 +219,10 @@ static int put_rewritten(const char *name, const uint8_t *bytes, uint32_t count)
         fprintf(stderr, "accepted %u\n", count);
         return ACCEPTED;
     }
+    signal(SIGPIPE, SIG_IGN);
     status = save(name, bytes, count);
-    if (status == ACCEPTED) {
+    out_stands = status == ACCEPTED;
+    if (out_stands) {
         printf("accepted %u: ", count);
         print_name(stdout, name);
         fputs(" has that many bytes\n", stdout);
@@ -301,7 +322,7 @@ static int run_command(const struct command *c, int count, char **words)
 
 static int run(int count, char **words)
 {
-    if (count == 0) {
+    if (count <= 0) {
         fputs(usage, stderr);
         return TROUBLE;
     }
@@ -311,17 +332,35 @@ static int run(int count, char **words)
     return misused("no such command", words[0]);
 }
 
+/*
+ * Opens what is closed of the three standard descriptors, so that no file that is opened takes its place. Reading and
+ * writing them fails as before.
+ */
+static bool fill_standard(void)
+{
+    for (int fd = STDIN_FILENO; fd <= STDERR_FILENO; fd++)
+        if (fcntl(fd, F_GETFD) < 0 && open("/dev/null", fd == STDIN_FILENO ? O_WRONLY : O_RDONLY) != fd)
+            return false;
+    return true;
+}
+
+/* Whether all that was printed is written; says what is wrong where it is not. */
+static bool end_output(void)
+{
+    bool failed = ferror(stdout) != 0;
+    errno = 0;
+    if (fclose(stdout) == 0 && !failed)
+        return true;
+    fprintf(stderr, "uff: standard output: %s\n", errno ? strerror(errno) : "not wholly written");
+    return false;
+}
+
 int main(int count, char **words)
 {
     int status;
-    bool failed;
+    if (!fill_standard())
+        return trouble("/dev/null", strerror(errno));
     prepare_outputs();
     status = run(count - 1, words + 1);
-    failed = ferror(stdout) != 0;
-    errno = 0;
-    if (fclose(stdout) != 0 || failed) {
-        fprintf(stderr, "uff: standard output: %s\n", errno ? strerror(errno) : "not wholly written");
-        return TROUBLE;
-    }
-    return status;
+    return end_output() || out_stands ? status : TROUBLE;
 }
