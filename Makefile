@@ -30,6 +30,7 @@ check: target/uff target/canaries
 	target/canaries
 	$(if $(VALGRIND),$(VALGRIND) -q --error-exitcode=1 --leak-check=full target/canaries,@echo 'no valgrind: canaries were run without it')
 	bash tests/host/command target/uff
+	bash tests/host/watch target/uff
 	bash tests/host/faults target/uff
 	bash tests/host/install
 

@@ -78,6 +78,10 @@ int save(const char *name, const uint8_t *bytes, size_t count);
 
 /* watch.c: a capture judged while it arrives. */
 
+/* The options -t and -w. They say whether the word after them is right; -w has none. */
+bool take_quiet_time(const char *word);
+bool take_awaited(const char *word);
+
 int run_watch(int count, char **words);
 
 #endif

@@ -9,7 +9,7 @@
 #include <sys/stat.h>
 #include <unistd.h>
 
-/* Where a file is put: the path, with no link at its end; the folder, with its slash; the file there, unless it is new. */
+/* Where a file is put: its path, with no link at the end, its folder, with the slash, and the file there unless it is new. */
 struct place {
     char *path;
     char folder[4200];

@@ -9,15 +9,17 @@
 #include <unistd.h>
 
 static const char usage[] =
-    "usage: uff judge [-H] FILE...      say whether each file is a Universal File\n"
-    "       uff list FILE               list its sets\n"
-    "       uff number FILE SET INDEX   show a stored number of a set 58 (SET from 1, INDEX from 0)\n"
-    "       uff values FILE SET         show all values of a set 58, one a line (SET from 1)\n"
-    "       uff rewrite IN OUT          write IN to OUT in plain form\n"
-    "       uff watch FILE              judge FILE while it arrives\n"
-    "       uff help | --help | -h      show this\n"
-    "       uff --version               show the version\n"
+    "usage: uff judge [-H] FILE...             say whether each file is a Universal File\n"
+    "       uff list FILE                      list its sets\n"
+    "       uff number FILE SET INDEX          show a stored number of a set 58 (SET from 1, INDEX from 0)\n"
+    "       uff values FILE SET                show all values of a set 58, one a line (SET from 1)\n"
+    "       uff rewrite IN OUT                 write IN to OUT in plain form\n"
+    "       uff watch [-t SECONDS] [-w] FILE   judge FILE while it arrives\n"
+    "       uff help | --help | -h             show this\n"
+    "       uff --version                      show the version\n"
     "With -H judge prints name and count for one file too, as it does for several.\n"
+    "watch follows a file until nothing has come for SECONDS, 10 if not given, or with 0 to its present end;\n"
+    "with -w it waits for one that is not there yet. A pipe and standard input end at their end.\n"
     "After -- no word is an option.\n"
     "A FILE of - is standard input, an OUT of - standard output.\n"
     "Exit status: 0 accepted, 1 refused (the file, or what was asked of it),\n"
@@ -34,6 +36,13 @@ static int print_verdict(FILE *to, uint64_t reply, const struct text *t)
 
 /* The option -H: `judge` prints name and count for one file too. */
 static bool always_named;
+
+static bool take_named(const char *word)
+{
+    (void)word;
+    always_named = true;
+    return true;
+}
 
 /* Whether standard input is named more than once. */
 static bool is_read_twice(int count, char **words)
@@ -270,30 +279,79 @@ static int run_version(int count, char **words)
     return ACCEPTED;
 }
 
+/*
+ * An option of a command. `wrong` is said where the word after it is not right, and NULL where no word comes after it.
+ */
+struct option {
+    const char *name;
+    const char *wrong;
+    bool (*take)(const char *word);
+};
+
+static const struct option judge_options[] = {{"-H", NULL, take_named}, {NULL, NULL, NULL}};
+
+static const struct option watch_options[] = {
+    {"-t", "SECONDS is not a number from 0 to 4294967295, such as 10 or 0.5", take_quiet_time},
+    {"-w", NULL, take_awaited},
+    {NULL, NULL, NULL},
+};
+
+static const struct option no_options[] = {{NULL, NULL, NULL}};
+
 struct command {
     const char *name;
+    const struct option *options;
     int least;
     int most;
     int (*run)(int count, char **words);
 };
 
 static const struct command commands[] = {
-    {"judge", 1, 1 << 30, run_judge}, {"list", 1, 1, run_list},       {"number", 3, 3, run_number},
-    {"values", 2, 2, run_values},     {"rewrite", 2, 2, run_rewrite}, {"watch", 1, 1, run_watch},
-    {"help", 0, 0, run_help},         {"--help", 0, 0, run_help},     {"-h", 0, 0, run_help},
-    {"--version", 0, 0, run_version},
+    {"judge", judge_options, 1, 1 << 30, run_judge}, {"list", no_options, 1, 1, run_list},
+    {"number", no_options, 3, 3, run_number},        {"values", no_options, 2, 2, run_values},
+    {"rewrite", no_options, 2, 2, run_rewrite},      {"watch", watch_options, 1, 1, run_watch},
+    {"help", no_options, 0, 0, run_help},            {"--help", no_options, 0, 0, run_help},
+    {"-h", no_options, 0, 0, run_help},              {"--version", no_options, 0, 0, run_version},
 };
 
-/* Is it the option -H of judge, or the end of options? */
-static bool stands_first(const struct command *c, const char *word)
+static const struct option *find_option(const struct command *c, const char *word)
 {
-    return strcmp(word, "--") == 0 || (c->run == run_judge && strcmp(word, "-H") == 0);
+    for (const struct option *o = c->options; o->name != NULL; o++)
+        if (strcmp(word, o->name) == 0)
+            return o;
+    return NULL;
+}
+
+static bool ends_options(const char *word)
+{
+    return strcmp(word, "--") == 0;
+}
+
+/* Takes the options that stand first. Gives how many words they are, or -1 after saying what is wrong with one. */
+static int take_options(const struct command *c, int count, char **words)
+{
+    const struct option *o;
+    int i = 0;
+    while (i < count && (o = find_option(c, words[i])) != NULL) {
+        i++;
+        if (o->wrong != NULL && i == count) {
+            misused("too few words after", o->name);
+            return -1;
+        }
+        if (!o->take(words[i])) {
+            misused(o->wrong, words[i]);
+            return -1;
+        }
+        i += o->wrong != NULL;
+    }
+    return i;
 }
 
 /* Says what is wrong with a word that begins with a minus. */
 static int refuse_option(const struct command *c, const char *word)
 {
-    return misused(stands_first(c, word) ? "options stand before the other words" : "no such option", word);
+    bool late = ends_options(word) || find_option(c, word) != NULL;
+    return misused(late ? "options stand before the other words" : "no such option", word);
 }
 
 /*
@@ -302,11 +360,13 @@ static int refuse_option(const struct command *c, const char *word)
  */
 static int run_command(const struct command *c, int count, char **words)
 {
-    bool ended = false;
-    for (; count > 0 && !ended && stands_first(c, words[0]); count--, words++) {
-        ended = strcmp(words[0], "--") == 0;
-        always_named |= !ended;
-    }
+    int first = take_options(c, count, words);
+    bool ended = first >= 0 && first < count && ends_options(words[first]);
+    if (first < 0)
+        return TROUBLE;
+    first += ended;
+    count -= first;
+    words += first;
     for (int i = 0; !ended && i < count; i++) {
         if (strcmp(words[i], "--help") == 0)
             return run_help(0, NULL);
