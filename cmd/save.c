@@ -8,8 +8,11 @@
 #include <string.h>
 #include <sys/stat.h>
 #include <unistd.h>
+#ifdef __linux__
+#include <sys/xattr.h>
+#endif
 
-/* Where a file is put: its path, with no link at the end, its folder, with the slash, and the file there unless it is new. */
+/* Where a file is put: the path, with no link at its end, the folder, with its slash, and the file there, if any. */
 struct place {
     char *path;
     char folder[4200];
@@ -21,6 +24,7 @@ struct place {
 struct lost {
     int owner;
     int group;
+    int list;
     int mode;
 };
 
@@ -41,22 +45,43 @@ bool write_all(int fd, const uint8_t *bytes, size_t count)
     return true;
 }
 
+/* Gives the new file the access list of the old one, where the system keeps such beside the mode. Gives the error, or 0. */
+static int keep_list(int fd, const char *path)
+{
+#ifdef __linux__
+    static const char name[] = "system.posix_acl_access";
+    char list[8192];
+    ssize_t size = getxattr(path, name, list, sizeof list);
+    if (size >= 0)
+        return fsetxattr(fd, name, list, (size_t)size, 0) == 0 ? 0 : errno;
+    if (errno == ENODATA)
+        return fremovexattr(fd, name) == 0 || errno == ENODATA ? 0 : errno;
+    return errno == EOPNOTSUPP || errno == ENOSYS ? 0 : errno;
+#else
+    (void)fd;
+    (void)path;
+    return 0;
+#endif
+}
+
 /*
- * Gives the new file the owner, the group and the mode of the old one, as far as it may. Without the group the bits for
- * it and for others would let in people whom they shut out before: they go.
+ * Gives the new file the owner, the group, the access list and the mode of the old one, as far as it may. Without the
+ * group or the list the mode's bits for group and others would let in people whom they shut out before: they go.
  */
-static bool keep_access(int fd, const struct stat *old, struct lost *lost)
+static bool keep_access(int fd, const struct place *p, struct lost *lost)
 {
     struct stat made;
-    mode_t mode = old->st_mode & 0777;
+    mode_t mode = p->old.st_mode & 0777;
     if (fstat(fd, &made) != 0)
         return false;
-    if (made.st_uid != old->st_uid && fchown(fd, old->st_uid, (gid_t)-1) != 0)
+    if (made.st_uid != p->old.st_uid && fchown(fd, p->old.st_uid, (gid_t)-1) != 0)
         lost->owner = errno;
-    if (made.st_gid != old->st_gid && fchown(fd, (uid_t)-1, old->st_gid) != 0) {
+    if (made.st_gid != p->old.st_gid && fchown(fd, (uid_t)-1, p->old.st_gid) != 0)
         lost->group = errno;
+    else
+        lost->list = keep_list(fd, p->path);
+    if (lost->group != 0 || lost->list != 0)
         mode &= 0700;
-    }
     if (fchmod(fd, mode) != 0)
         lost->mode = errno;
     return true;
@@ -81,7 +106,7 @@ static bool is_synced(int fd)
 /* Fills the temporary file, which its maker alone may use until then, and closes it. */
 static bool fill(int fd, const struct place *p, const uint8_t *bytes, size_t count, struct lost *lost)
 {
-    bool good = write_all(fd, bytes, count) && (p->is_new ? set_mode(fd, lost) : keep_access(fd, &p->old, lost)) &&
+    bool good = write_all(fd, bytes, count) && (p->is_new ? set_mode(fd, lost) : keep_access(fd, p, lost)) &&
                 is_synced(fd);
     int error = errno;
     if (close(fd) != 0 && good)
@@ -188,7 +213,7 @@ static const char *find_folder(struct place *p)
 /* Puts the bytes at a place that was found, and says what went wrong. Gives the exit status. */
 static int put(const char *name, const struct place *p, const uint8_t *bytes, size_t count)
 {
-    struct lost lost = {0, 0, 0};
+    struct lost lost = {0, 0, 0, 0};
     enum outcome outcome = replace(p, bytes, count, &lost);
     if (outcome == FILE_FAILED)
         return trouble(name, strerror(errno));
@@ -201,6 +226,8 @@ static int put(const char *name, const struct place *p, const uint8_t *bytes, si
         tell(name, "the owner is not kept", lost.owner);
     if (lost.group != 0)
         tell(name, "the group is not kept, and group and others may not use the file", lost.group);
+    if (lost.list != 0)
+        tell(name, "the access list is not kept, and group and others may not use the file", lost.list);
     if (lost.mode != 0)
         tell(name, "the mode is not set", lost.mode);
     return ACCEPTED;
