@@ -24,8 +24,10 @@ int64_t now(void);
 /* Gives both outputs room for a line, so that a line is one write, and several processes may share a file or a pipe. */
 void prepare_outputs(void);
 
-/* Prints a name or a word typed so that it cannot end the line or command a terminal: a byte below 32, 127 and the
-   backslash as \n, \x1b, \\ and the like. */
+/*
+ * Prints a name or a typed word so that it can neither end the line nor command a terminal: a byte below 32, 127 and
+ * the backslash as \n, \x1b, \\ and the like.
+ */
 void print_name(FILE *to, const char *name);
 
 /* Progress over many files, on standard error where that is a terminal. */

@@ -45,7 +45,7 @@ bool write_all(int fd, const uint8_t *bytes, size_t count)
     return true;
 }
 
-/* Gives the new file the access list of the old one, where the system keeps such beside the mode. Gives the error, or 0. */
+/* Gives the new file the access list of the old one, where there are such beside the mode. Gives the error, or 0. */
 static int keep_list(int fd, const char *path)
 {
 #ifdef __linux__

@@ -18,8 +18,9 @@ static const char usage[] =
     "       uff help | --help | -h             show this\n"
     "       uff --version                      show the version\n"
     "With -H judge prints name and count for one file too, as it does for several.\n"
-    "watch follows a file until nothing has come for SECONDS, 10 if not given, or with 0 to its present end;\n"
-    "with -w it waits for one that is not there yet. A pipe and standard input end at their end.\n"
+    "watch follows a file until nothing has come for SECONDS, 10 if not given; with 0 its present\n"
+    "end is its end. With -w it waits for a file that is not there yet. A pipe and standard input\n"
+    "end at their end, whatever SECONDS are.\n"
     "After -- no word is an option.\n"
     "A FILE of - is standard input, an OUT of - standard output.\n"
     "Exit status: 0 accepted, 1 refused (the file, or what was asked of it),\n"
@@ -279,9 +280,7 @@ static int run_version(int count, char **words)
     return ACCEPTED;
 }
 
-/*
- * An option of a command. `wrong` is said where the word after it is not right, and NULL where no word comes after it.
- */
+/* An option of a command. `wrong` is said where the word after it is not right, and NULL where it has no word. */
 struct option {
     const char *name;
     const char *wrong;
