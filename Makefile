@@ -21,8 +21,10 @@ all: target/uff
 $(ARCHIVE): crates.txt $(wildcard crates/*/src/*.rt crates/*/specs/*.antt crates/*/proofs/*/Proof.antt)
 	bash tools/archive
 
-target/uff: cmd/uff.c include/uff.h $(ARCHIVE)
-	$(CC) $(WARN) $(CFLAGS) $(CPPFLAGS) -Iinclude -o $@ cmd/uff.c $(ARCHIVE) $(LDFLAGS)
+COMMAND = $(wildcard cmd/*.c)
+
+target/uff: $(COMMAND) cmd/command.h include/uff.h $(ARCHIVE)
+	$(CC) $(WARN) $(CFLAGS) $(CPPFLAGS) -Iinclude -o $@ $(COMMAND) $(ARCHIVE) $(LDFLAGS)
 
 target/canaries: tests/host/canaries.c include/uff.h $(ARCHIVE)
 	$(CC) $(WARN) $(CFLAGS) $(CPPFLAGS) -g -Iinclude -o $@ tests/host/canaries.c $(ARCHIVE) $(LDFLAGS)
@@ -32,6 +34,8 @@ check: target/uff target/canaries
 	target/canaries
 	$(if $(VALGRIND),$(VALGRIND) -q --error-exitcode=1 --leak-check=full target/canaries,@echo 'no valgrind: canaries were run without it')
 	bash tests/host/command target/uff
+	bash tests/host/watch target/uff
+	bash tests/host/faults target/uff
 	bash tests/host/install
 
 install: target/uff

@@ -1,206 +1,30 @@
 /* The command `uff`: the calls of uff.h for people at a terminal. It holds no rule of the format. */
-#define _POSIX_C_SOURCE 200809L
-#define _XOPEN_SOURCE 700
+#include "command.h"
 
 #include <errno.h>
 #include <fcntl.h>
-#include <poll.h>
 #include <signal.h>
-#include <stdbool.h>
-#include <stdio.h>
 #include <stdlib.h>
 #include <string.h>
-#include <sys/stat.h>
-#include <time.h>
 #include <unistd.h>
 
-#include "uff.h"
-
-enum { ACCEPTED = 0, REFUSED = 1, TROUBLE = 2 };
-
-/* One byte more than a file may have is enough to see that it is too long. */
-#define MOST ((size_t)UFF_LONGEST + 1)
-#define BURST 65536
-
 static const char usage[] =
-    "usage: uff judge [-H] FILE...      say whether each file is a Universal File\n"
-    "       uff list FILE               list its sets\n"
-    "       uff number FILE SET INDEX   show a stored number of a set 58 (SET from 1, INDEX from 0)\n"
-    "       uff values FILE SET         show all values of a set 58, one a line (SET from 1)\n"
-    "       uff rewrite IN OUT          write IN to OUT in plain form\n"
-    "       uff watch FILE              judge FILE while it arrives\n"
-    "       uff help | --help | -h      show this\n"
-    "       uff --version               show the version\n"
+    "usage: uff judge [-H] FILE...             say whether each file is a Universal File\n"
+    "       uff list FILE                      list its sets\n"
+    "       uff number FILE SET INDEX          show a stored number of a set 58 (SET from 1, INDEX from 0)\n"
+    "       uff values FILE SET                show all values of a set 58, one a line (SET from 1)\n"
+    "       uff rewrite IN OUT                 write IN to OUT in plain form\n"
+    "       uff watch [-t SECONDS] [-w] FILE   judge FILE while it arrives\n"
+    "       uff help | --help | -h             show this\n"
+    "       uff --version                      show the version\n"
     "With -H judge prints name and count for one file too, as it does for several.\n"
+    "watch follows a file until nothing has come for SECONDS, 10 if not given; with 0 its present\n"
+    "end is its end. With -w it waits for a file that is not there yet. A pipe and standard input\n"
+    "end at their end, whatever SECONDS are.\n"
     "After -- no word is an option.\n"
     "A FILE of - is standard input, an OUT of - standard output.\n"
     "Exit status: 0 accepted, 1 refused (the file, or what was asked of it),\n"
     "2 wrong usage or trouble with a file.\n";
-
-/* Milliseconds on a clock that never goes back. */
-static int64_t now(void)
-{
-    struct timespec t;
-    clock_gettime(CLOCK_MONOTONIC, &t);
-    return (int64_t)t.tv_sec * 1000 + t.tv_nsec / 1000000;
-}
-
-/* Progress over many files, on standard error where that is a terminal. */
-static struct {
-    bool on;
-    bool shown;
-    int64_t next;
-} progress;
-
-static void show_progress(int done, int all)
-{
-    if (!progress.on || now() < progress.next)
-        return;
-    fprintf(stderr, "\r%d of %d files", done, all);
-    progress.shown = true;
-    progress.next = now() + 100;
-}
-
-static void clear_progress(void)
-{
-    if (progress.shown)
-        fputs("\r\033[K", stderr);
-    progress.shown = false;
-}
-
-/* Says what is wrong with a file. */
-static int trouble(const char *name, const char *what)
-{
-    clear_progress();
-    fflush(stdout);
-    fprintf(stderr, "uff: %s: %s\n", name, what);
-    return TROUBLE;
-}
-
-/* Says what is wrong with the words typed. */
-static int misused(const char *what, const char *word)
-{
-    fprintf(stderr, "uff: %s%s%s\nTry 'uff help'.\n", what, *word ? ": " : "", word);
-    return TROUBLE;
-}
-
-/* Input. */
-
-static bool is_standard(const char *name)
-{
-    return strcmp(name, "-") == 0;
-}
-
-static const char *shown_name(const char *name)
-{
-    return is_standard(name) ? "standard input" : name;
-}
-
-static int open_input(const char *name)
-{
-    return is_standard(name) ? STDIN_FILENO : open(name, O_RDONLY | O_CLOEXEC);
-}
-
-static void close_input(const char *name, int fd)
-{
-    if (!is_standard(name))
-        close(fd);
-}
-
-static ssize_t read_some(int fd, uint8_t *to, size_t room)
-{
-    ssize_t n;
-    do
-        n = read(fd, to, room);
-    while (n < 0 && errno == EINTR);
-    return n;
-}
-
-/* The bytes of a file; the room is kept for the next one. */
-struct text {
-    uint8_t *bytes;
-    size_t count;
-    size_t room;
-};
-
-static bool grow(struct text *t)
-{
-    size_t room = t->room == 0 ? BURST : t->room * 2;
-    uint8_t *bytes;
-    if (room > MOST)
-        room = MOST;
-    bytes = realloc(t->bytes, room);
-    if (bytes == NULL)
-        return false;
-    t->bytes = bytes;
-    t->room = room;
-    return true;
-}
-
-/* Reads to the end, or up to MOST bytes. */
-static bool read_from(int fd, struct text *t)
-{
-    t->count = 0;
-    while (t->count < MOST) {
-        ssize_t n;
-        if (t->count == t->room && !grow(t))
-            return false;
-        n = read_some(fd, t->bytes + t->count, t->room - t->count);
-        if (n < 0)
-            return false;
-        if (n == 0)
-            return true;
-        t->count += (size_t)n;
-    }
-    return true;
-}
-
-/* Reads a file, or says what is wrong with it and keeps no room. */
-static bool read_file(const char *name, struct text *t)
-{
-    int fd = open_input(name);
-    bool good = fd >= 0 && read_from(fd, t);
-    int error = errno;
-    if (fd >= 0)
-        close_input(name, fd);
-    if (good)
-        return true;
-    free(t->bytes);
-    *t = (struct text){NULL, 0, 0};
-    trouble(shown_name(name), strerror(error));
-    return false;
-}
-
-/* Replies. */
-
-/* The lines in some bytes; one that is open at their end counts if `open`. */
-static uint64_t count_lines(const uint8_t *bytes, size_t count, bool open)
-{
-    uint64_t lines = 0;
-    const uint8_t *at = bytes, *past = bytes + count;
-    while (at < past) {
-        const uint8_t *end = memchr(at, '\n', (size_t)(past - at));
-        if (end == NULL)
-            return lines + (open ? 1 : 0);
-        lines++;
-        at = end + 1;
-    }
-    return lines;
-}
-
-/* Prints a reply in the paper's form, and a refusal's text; `lines` are the lines that came. */
-static void print_reply(FILE *to, uint64_t reply, uint64_t lines)
-{
-    unsigned number = UFF_NUMBER(reply);
-    uint32_t place = UFF_PLACE(reply);
-    if (number == UFF_ACCEPTED)
-        fprintf(to, "accepted %u\n", place);
-    else if (number == UFF_SO_FAR)
-        fprintf(to, "so far %u\n", place);
-    else
-        fprintf(to, "refused %u at line %u: %s%s\n", number, place, uff_text(number),
-                place > lines ? " (the file ends before that line)" : "");
-}
 
 /* Prints the reply for a whole file, and gives the exit status that it calls for. */
 static int print_verdict(FILE *to, uint64_t reply, const struct text *t)
@@ -209,29 +33,36 @@ static int print_verdict(FILE *to, uint64_t reply, const struct text *t)
     return UFF_NUMBER(reply) == UFF_ACCEPTED ? ACCEPTED : REFUSED;
 }
 
-/* Writes what was printed in one piece; where that fails there is nothing left to do. */
-static void flush_output(void)
-{
-    if (fflush(stdout) != 0)
-        exit(trouble("standard output", strerror(errno)));
-}
-
 /* Commands. Each takes its words and gives the exit status. */
 
 /* The option -H: `judge` prints name and count for one file too. */
 static bool always_named;
 
-/* Room for a line of `judge`: the longest name that opens, and a reply. */
-static char judge_line[16384];
+static bool take_named(const char *word)
+{
+    (void)word;
+    always_named = true;
+    return true;
+}
 
-/* Each line is one write, so that several processes may share a file or a pipe. */
+/* Whether standard input is named more than once. */
+static bool is_read_twice(int count, char **words)
+{
+    int times = 0;
+    for (int i = 0; i < count; i++)
+        times += is_standard(words[i]);
+    return times > 1;
+}
+
 static int run_judge(int count, char **words)
 {
     struct text t = {NULL, 0, 0};
     int seen[3] = {0, 0, 0};
     bool named = always_named || count > 1;
-    setvbuf(stdout, judge_line, _IOFBF, sizeof judge_line);
-    progress.on = count > 1 && isatty(STDERR_FILENO);
+    if (is_read_twice(count, words))
+        return misused("standard input is read once only", "-");
+    if (count > 1)
+        start_progress();
     for (int i = 0; i < count; i++) {
         uint64_t reply;
         show_progress(i, count);
@@ -241,8 +72,10 @@ static int run_judge(int count, char **words)
         }
         reply = uff_judge(t.bytes, t.count);
         clear_progress();
-        if (named)
-            printf("%s: ", words[i]);
+        if (named) {
+            print_name(stdout, words[i]);
+            fputs(": ", stdout);
+        }
         seen[print_verdict(stdout, reply, &t)]++;
         flush_output();
     }
@@ -380,141 +213,11 @@ static int run_values(int count, char **words)
     return status;
 }
 
-/* Output: a new file beside the old one, which takes its name once it is wholly written. */
-
-static char temporary[4200];
-static volatile sig_atomic_t has_temporary = 0;
-
-static void remove_temporary(void)
-{
-    if (has_temporary)
-        unlink(temporary);
-    has_temporary = 0;
-}
-
-static void on_signal(int number)
-{
-    remove_temporary();
-    raise(number);
-}
-
-static void catch_signals(void)
-{
-    static const int numbers[] = {SIGHUP, SIGINT, SIGTERM};
-    struct sigaction action, old;
-    memset(&action, 0, sizeof action);
-    action.sa_handler = on_signal;
-    action.sa_flags = (int)SA_RESETHAND;
-    for (size_t i = 0; i < sizeof numbers / sizeof *numbers; i++)
-        if (sigaction(numbers[i], NULL, &old) == 0 && old.sa_handler != SIG_IGN)
-            sigaction(numbers[i], &action, NULL);
-    signal(SIGXFSZ, SIG_IGN);
-}
-
-static bool write_all(int fd, const uint8_t *bytes, size_t count)
-{
-    while (count > 0) {
-        ssize_t n = write(fd, bytes, count);
-        if (n < 0 && errno == EINTR)
-            continue;
-        if (n < 0)
-            return false;
-        bytes += n;
-        count -= (size_t)n;
-    }
-    return true;
-}
-
-/* Gives the new file the mode and, where it may, the owner of the old one; a wholly new one what the mask leaves. */
-static bool set_mode(int fd, const struct stat *old)
-{
-    mode_t mask;
-    if (old != NULL) {
-        if (fchown(fd, old->st_uid, old->st_gid) != 0)
-            errno = 0;
-        return fchmod(fd, old->st_mode & 0777) == 0;
-    }
-    mask = umask(0);
-    umask(mask);
-    return fchmod(fd, 0666 & ~mask) == 0;
-}
-
-/* Fills the temporary file and closes it. */
-static bool fill(int fd, const struct stat *old, const uint8_t *bytes, size_t count)
-{
-    bool good = write_all(fd, bytes, count) && set_mode(fd, old) && (fsync(fd) == 0 || errno == EINVAL);
-    int error = errno;
-    if (close(fd) != 0 && good)
-        return false;
-    errno = error;
-    return good;
-}
-
-/* Makes sure that the new name lasts; where a folder cannot be synced the file stands all the same. */
-static void sync_folder(const char *path, size_t length)
-{
-    char folder[sizeof temporary];
-    int fd;
-    snprintf(folder, sizeof folder, "%.*s", (int)length, path);
-    fd = open(folder, O_RDONLY | O_DIRECTORY | O_CLOEXEC);
-    if (fd < 0)
-        return;
-    fsync(fd);
-    close(fd);
-}
-
-/* Puts the bytes at the path, which has no link at its end; `old` is the file there, if any. */
-static bool replace(const char *path, const struct stat *old, const uint8_t *bytes, size_t count)
-{
-    const char *slash = strrchr(path, '/');
-    const char *folder = slash == NULL ? "./" : path;
-    size_t length = slash == NULL ? 2 : (size_t)(slash - path) + 1;
-    int fd, error;
-    if (length + sizeof ".uff-XXXXXX" > sizeof temporary) {
-        errno = ENAMETOOLONG;
-        return false;
-    }
-    snprintf(temporary, sizeof temporary, "%.*s.uff-XXXXXX", (int)length, folder);
-    fd = mkstemp(temporary);
-    if (fd < 0)
-        return false;
-    has_temporary = 1;
-    if (fill(fd, old, bytes, count) && rename(temporary, path) == 0) {
-        has_temporary = 0;
-        sync_folder(folder, length);
-        return true;
-    }
-    error = errno;
-    remove_temporary();
-    errno = error;
-    return false;
-}
-
-/* Puts the bytes in a file, or says what is wrong with it and leaves what stands there. */
-static int save(const char *name, const uint8_t *bytes, size_t count)
-{
-    struct stat link, old;
-    char *path;
-    bool good;
-    if (lstat(name, &link) != 0) {
-        if (errno != ENOENT)
-            return trouble(name, strerror(errno));
-        return replace(name, NULL, bytes, count) ? ACCEPTED : trouble(name, strerror(errno));
-    }
-    path = realpath(name, NULL);
-    if (path == NULL || stat(path, &old) != 0) {
-        int error = errno;
-        free(path);
-        return trouble(name, strerror(error));
-    }
-    if (!S_ISREG(old.st_mode)) {
-        free(path);
-        return trouble(name, S_ISDIR(old.st_mode) ? strerror(EISDIR) : "Not a regular file");
-    }
-    good = access(path, W_OK) == 0 && replace(path, &old, bytes, count);
-    free(path);
-    return good ? ACCEPTED : trouble(name, strerror(errno));
-}
+/*
+ * OUT was replaced. The exit status of `rewrite` says whether it was, so it stays 0 where the line about it cannot be
+ * printed.
+ */
+static bool out_stands;
 
 /* Writes a file in plain form, and says so; where it goes to standard output, on standard error. */
 static int put_rewritten(const char *name, const uint8_t *bytes, uint32_t count)
@@ -526,10 +229,14 @@ static int put_rewritten(const char *name, const uint8_t *bytes, uint32_t count)
         fprintf(stderr, "accepted %u\n", count);
         return ACCEPTED;
     }
-    catch_signals();
+    signal(SIGPIPE, SIG_IGN);
     status = save(name, bytes, count);
-    if (status == ACCEPTED)
-        printf("accepted %u: %s has that many bytes\n", count, name);
+    out_stands = status == ACCEPTED;
+    if (out_stands) {
+        printf("accepted %u: ", count);
+        print_name(stdout, name);
+        fputs(" has that many bytes\n", stdout);
+    }
     return status;
 }
 
@@ -557,80 +264,6 @@ static int run_rewrite(int count, char **words)
     return status;
 }
 
-/* A file that is watched: the replies so far, and what was shown of them. */
-struct watch {
-    struct uff_stream record;
-    size_t total;
-    uint64_t lines;
-    bool open;
-    uint64_t reply;
-    uint64_t shown;
-    int64_t next;
-};
-
-static void show(struct watch *w)
-{
-    print_reply(stdout, w->reply, w->lines + (w->open ? 1 : 0));
-    flush_output();
-    w->shown = w->reply;
-    w->next = now() + 1000;
-}
-
-/* Shows a refusal at once, and other news if a second has gone by or does so before more bytes come. */
-static void show_news(struct watch *w, int fd)
-{
-    struct pollfd input = {fd, POLLIN, 0};
-    int64_t left;
-    if (w->reply == w->shown)
-        return;
-    left = w->next - now();
-    if (UFF_NUMBER(w->reply) != UFF_SO_FAR || left <= 0 || poll(&input, 1, (int)left) == 0)
-        show(w);
-}
-
-/* Takes in burst after burst until the input ends, or is too long whatever follows. */
-static bool take_in(struct watch *w, int fd)
-{
-    static uint8_t burst[BURST];
-    while (w->total < MOST) {
-        size_t room = MOST - w->total < BURST ? MOST - w->total : BURST;
-        ssize_t n = read_some(fd, burst, room);
-        if (n < 0)
-            return false;
-        if (n == 0)
-            return true;
-        w->reply = uff_stream_burst(&w->record, burst, (size_t)n);
-        w->total += (size_t)n;
-        w->lines += count_lines(burst, (size_t)n, false);
-        w->open = burst[n - 1] != '\n';
-        show_news(w, fd);
-    }
-    return true;
-}
-
-static int run_watch(int count, char **words)
-{
-    static struct watch w;
-    int fd = open_input(words[0]);
-    bool good;
-    int error;
-    (void)count;
-    if (fd < 0)
-        return trouble(words[0], strerror(errno));
-    uff_stream_start(&w.record);
-    w.shown = uff_stream_burst(&w.record, NULL, 0);
-    w.next = now() + 1000;
-    good = take_in(&w, fd);
-    error = errno;
-    close_input(words[0], fd);
-    if (!good)
-        return trouble(shown_name(words[0]), strerror(error));
-    w.reply = uff_stream_end(&w.record);
-    if (w.reply != w.shown)
-        show(&w);
-    return UFF_NUMBER(w.reply) == UFF_ACCEPTED ? ACCEPTED : REFUSED;
-}
-
 static int run_help(int count, char **words)
 {
     (void)count;
@@ -647,30 +280,77 @@ static int run_version(int count, char **words)
     return ACCEPTED;
 }
 
+/* An option of a command. `wrong` is said where the word after it is not right, and NULL where it has no word. */
+struct option {
+    const char *name;
+    const char *wrong;
+    bool (*take)(const char *word);
+};
+
+static const struct option judge_options[] = {{"-H", NULL, take_named}, {NULL, NULL, NULL}};
+
+static const struct option watch_options[] = {
+    {"-t", "SECONDS is not a number from 0 to 4294967295, such as 10 or 0.5", take_quiet_time},
+    {"-w", NULL, take_awaited},
+    {NULL, NULL, NULL},
+};
+
+static const struct option no_options[] = {{NULL, NULL, NULL}};
+
 struct command {
     const char *name;
+    const struct option *options;
     int least;
     int most;
     int (*run)(int count, char **words);
 };
 
 static const struct command commands[] = {
-    {"judge", 1, 1 << 30, run_judge}, {"list", 1, 1, run_list},       {"number", 3, 3, run_number},
-    {"values", 2, 2, run_values},     {"rewrite", 2, 2, run_rewrite}, {"watch", 1, 1, run_watch},
-    {"help", 0, 0, run_help},         {"--help", 0, 0, run_help},     {"-h", 0, 0, run_help},
-    {"--version", 0, 0, run_version},
+    {"judge", judge_options, 1, 1 << 30, run_judge}, {"list", no_options, 1, 1, run_list},
+    {"number", no_options, 3, 3, run_number},        {"values", no_options, 2, 2, run_values},
+    {"rewrite", no_options, 2, 2, run_rewrite},      {"watch", watch_options, 1, 1, run_watch},
+    {"help", no_options, 0, 0, run_help},            {"--help", no_options, 0, 0, run_help},
+    {"-h", no_options, 0, 0, run_help},              {"--version", no_options, 0, 0, run_version},
 };
 
-/* Is it the option -H of judge, or the end of options? */
-static bool stands_first(const struct command *c, const char *word)
+static const struct option *find_option(const struct command *c, const char *word)
 {
-    return strcmp(word, "--") == 0 || (c->run == run_judge && strcmp(word, "-H") == 0);
+    for (const struct option *o = c->options; o->name != NULL; o++)
+        if (strcmp(word, o->name) == 0)
+            return o;
+    return NULL;
+}
+
+static bool ends_options(const char *word)
+{
+    return strcmp(word, "--") == 0;
+}
+
+/* Takes the options that stand first. Gives how many words they are, or -1 after saying what is wrong with one. */
+static int take_options(const struct command *c, int count, char **words)
+{
+    const struct option *o;
+    int i = 0;
+    while (i < count && (o = find_option(c, words[i])) != NULL) {
+        i++;
+        if (o->wrong != NULL && i == count) {
+            misused("too few words after", o->name);
+            return -1;
+        }
+        if (!o->take(words[i])) {
+            misused(o->wrong, words[i]);
+            return -1;
+        }
+        i += o->wrong != NULL;
+    }
+    return i;
 }
 
 /* Says what is wrong with a word that begins with a minus. */
 static int refuse_option(const struct command *c, const char *word)
 {
-    return misused(stands_first(c, word) ? "options stand before the other words" : "no such option", word);
+    bool late = ends_options(word) || find_option(c, word) != NULL;
+    return misused(late ? "options stand before the other words" : "no such option", word);
 }
 
 /*
@@ -679,11 +359,13 @@ static int refuse_option(const struct command *c, const char *word)
  */
 static int run_command(const struct command *c, int count, char **words)
 {
-    bool ended = false;
-    for (; count > 0 && !ended && stands_first(c, words[0]); count--, words++) {
-        ended = strcmp(words[0], "--") == 0;
-        always_named |= !ended;
-    }
+    int first = take_options(c, count, words);
+    bool ended = first >= 0 && first < count && ends_options(words[first]);
+    if (first < 0)
+        return TROUBLE;
+    first += ended;
+    count -= first;
+    words += first;
     for (int i = 0; !ended && i < count; i++) {
         if (strcmp(words[i], "--help") == 0)
             return run_help(0, NULL);
@@ -699,7 +381,7 @@ static int run_command(const struct command *c, int count, char **words)
 
 static int run(int count, char **words)
 {
-    if (count == 0) {
+    if (count <= 0) {
         fputs(usage, stderr);
         return TROUBLE;
     }
@@ -709,14 +391,35 @@ static int run(int count, char **words)
     return misused("no such command", words[0]);
 }
 
-int main(int count, char **words)
+/*
+ * Opens what is closed of the three standard descriptors, so that no file that is opened takes its place. Reading and
+ * writing them fails as before.
+ */
+static bool fill_standard(void)
 {
-    int status = run(count - 1, words + 1);
+    for (int fd = STDIN_FILENO; fd <= STDERR_FILENO; fd++)
+        if (fcntl(fd, F_GETFD) < 0 && open("/dev/null", fd == STDIN_FILENO ? O_WRONLY : O_RDONLY) != fd)
+            return false;
+    return true;
+}
+
+/* Whether all that was printed is written; says what is wrong where it is not. */
+static bool end_output(void)
+{
     bool failed = ferror(stdout) != 0;
     errno = 0;
-    if (fclose(stdout) != 0 || failed) {
-        fprintf(stderr, "uff: standard output: %s\n", errno ? strerror(errno) : "not wholly written");
-        return TROUBLE;
-    }
-    return status;
+    if (fclose(stdout) == 0 && !failed)
+        return true;
+    fprintf(stderr, "uff: standard output: %s\n", errno ? strerror(errno) : "not wholly written");
+    return false;
+}
+
+int main(int count, char **words)
+{
+    int status;
+    if (!fill_standard())
+        return trouble("/dev/null", strerror(errno));
+    prepare_outputs();
+    status = run(count - 1, words + 1);
+    return end_output() || out_stands ? status : TROUBLE;
 }
