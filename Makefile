@@ -1,6 +1,5 @@
 # The command, the library for C and their installation. The library is the proved crate `host`.
 CC ?= cc
-CXX ?= c++
 CFLAGS ?= -O2
 PREFIX ?= /usr/local
 DESTDIR ?=
@@ -11,9 +10,12 @@ VERSION = $(shell sed -n 's/^.define UFF_VERSION "\(.*\)"/\1/p' include/uff.h)
 VALGRIND = $(shell command -v valgrind)
 FOUND_CXX = $(shell command -v $(CXX))
 
-# What is missing on this machine is only named.
-MISSING := $(shell bash .ci/missing build)
-$(if $(MISSING),$(error missing on this machine: $(MISSING) (.ci/packages has the list)))
+# What is missing on this machine is only named: for what is asked, and not where nothing is built.
+PURPOSE = $(if $(filter check bench target/bench,$(MAKECMDGOALS)),tests,build)
+ifneq ($(filter-out clean install,$(or $(MAKECMDGOALS),all)),)
+MISSING := $(shell bash .ci/missing $(PURPOSE) | sed 's/^only //' | paste -s -d ';' | sed 's/;/; /g')
+$(if $(MISSING),$(error missing on this machine: $(MISSING) (.ci/packages has the Debian packages)))
+endif
 
 all: target/uff
 
@@ -37,6 +39,7 @@ check: target/uff target/canaries
 	bash tests/host/watch target/uff
 	bash tests/host/faults target/uff
 	bash tests/host/install
+	bash tests/host/powers $(ARCHIVE)
 
 install: target/uff
 	install -d '$(DESTDIR)$(PREFIX)/bin' '$(DESTDIR)$(PREFIX)/include' '$(DESTDIR)$(PREFIX)/lib/pkgconfig' '$(DESTDIR)$(PREFIX)/share/man/man1'

@@ -10,10 +10,17 @@ use Rattle.rows.specs.Row.{Row}
 use Rattle.theory.specs.Sets.{Set}
 use Rattle.theory.specs.Proper.{Inside, TypedLines, PlainLines, SetLines, Proper}
 
--- "A file has 1 to 4,096 sets", "A file has at most 16,777,216 bytes"
-pub proper-limits : {sets : List Set} {bytes : List ℕ} → Proper sets bytes
-    → (1 ≤ length sets) × ((length sets ≤ 4096) × (length bytes ≤ 16777216))
-proper-limits p = (p .some, (p .most, p .short))
+module _ {sets : List Set} {bytes : List ℕ} (p : Proper sets bytes) where
+  -- "A file has 1 to 4,096 sets"
+  pub proper-some : 1 ≤ length sets
+  proper-some = p .some
+
+  pub proper-most : length sets ≤ 4096
+  proper-most = p .most
+
+  -- "A file has at most 16,777,216 bytes"
+  pub proper-short : length bytes ≤ 16777216
+  proper-short = p .short
 
 typed-inside : {rs : List Row} {iss : List (List Item)} {css : List (List ℕ)} → TypedLines rs iss css → (k : ℕ) → k < length css
     → Inside (getD css k [])
