@@ -16,7 +16,9 @@ returns c = sym (in-range (λ v. keeps acquisitionResults (pos v)) true 2 2 (c .
 
 returns-2 : tie.Need-returns-2
 unfolding keeps
-returns-2 c = sym (in-range (λ v. keeps acquisitionResults (pos v)) true 5 10 (c .before .before .before .before .args .code) refl (omega arith) (omega arith))
+returns-2 c =
+    let at-start = c .before .before .before .before in
+    sym (in-range (λ v. keeps acquisitionResults (pos v)) true 5 10 (at-start .args .code) refl (omega arith) (omega arith))
 
 returns-3 : tie.Need-returns-3
 unfolding keeps

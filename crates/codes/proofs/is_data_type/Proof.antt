@@ -20,11 +20,15 @@ returns c = sym (in-range listed true 0 4 (c .before .before .args .code) refl (
 
 returns-2 : tie.Need-returns-2
 unfolding keeps
-returns-2 c = sym (in-range listed true 5 2 (c .before .before .before .before .args .code) refl (omega arith) (omega arith))
+returns-2 c =
+    let at-start = c .before .before .before .before in
+    sym (in-range listed true 5 2 (at-start .args .code) refl (omega arith) (omega arith))
 
 returns-3 : tie.Need-returns-3
 unfolding keeps
-returns-3 c = sym (in-range listed true 8 2 (c .before .before .before .before .before .args .code) refl (omega arith) (omega arith))
+returns-3 c =
+    let at-start = c .before .before .before .before .before in
+    sym (in-range listed true 8 2 (at-start .args .code) refl (omega arith) (omega arith))
 
 returns-4 : tie.Need-returns-4
 unfolding keeps
@@ -32,7 +36,9 @@ returns-4 c = sym (in-range listed true 11 3 (c .before .before .before .args .c
 
 returns-5 : tie.Need-returns-5
 unfolding keeps
-returns-5 c = sym (in-range listed true 15 5 (c .before .before .before .before .before .args .code) refl (omega arith) (omega arith))
+returns-5 c =
+    let at-start = c .before .before .before .before .before in
+    sym (in-range listed true 15 5 (at-start .args .code) refl (omega arith) (omega arith))
 
 returns-6 : tie.Need-returns-6
 unfolding keeps
@@ -40,7 +46,9 @@ returns-6 c = sym (in-range listed false 4 1 (c .before .before .before .args .c
 
 returns-7 : tie.Need-returns-7
 unfolding keeps
-returns-7 c = sym (in-range listed false 7 1 (c .before .before .before .before .before .args .code) refl (omega arith) (omega arith))
+returns-7 c =
+    let at-start = c .before .before .before .before .before in
+    sym (in-range listed false 7 1 (at-start .args .code) refl (omega arith) (omega arith))
 
 returns-8 : tie.Need-returns-8
 unfolding keeps
@@ -48,7 +56,9 @@ returns-8 c = sym (in-range listed false 10 1 (c .before .before .args .code) re
 
 returns-9 : tie.Need-returns-9
 unfolding keeps
-returns-9 c = sym (in-range listed false 14 1 (c .before .before .before .before .args .code) refl (omega arith) (omega arith))
+returns-9 c =
+    let at-start = c .before .before .before .before in
+    sym (in-range listed false 14 1 (at-start .args .code) refl (omega arith) (omega arith))
 
 returns-10 : tie.Need-returns-10
 returns-10 c = sym (keeps-past dataType 20 _ refl (omega arith))

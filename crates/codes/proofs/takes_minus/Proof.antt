@@ -19,15 +19,21 @@ returns c = sym (in-range minus false 5 3 (c .before .before .args .form) refl (
 
 returns-2 : tie.Need-returns-2
 unfolding takesMinus formOf forms
-returns-2 c = sym (in-range minus false 9 5 (c .before .before .before .before .args .form) refl (omega arith) (omega arith))
+returns-2 c =
+    let at-start = c .before .before .before .before in
+    sym (in-range minus false 9 5 (at-start .args .form) refl (omega arith) (omega arith))
 
 returns-3 : tie.Need-returns-3
 unfolding takesMinus formOf forms
-returns-3 c = sym (in-range minus false 15 6 (c .before .before .before .before .before .before .args .form) refl (omega arith) (omega arith))
+returns-3 c =
+    let at-start = c .before .before .before .before .before .before in
+    sym (in-range minus false 15 6 (at-start .args .form) refl (omega arith) (omega arith))
 
 returns-4 : tie.Need-returns-4
 unfolding takesMinus formOf forms
-returns-4 c = sym (in-range minus false 22 9 (c .before .before .before .before .before .before .before .before .args .form) refl (omega arith) (omega arith))
+returns-4 c =
+    let at-start = c .before .before .before .before .before .before .before .before in
+    sym (in-range minus false 22 9 (at-start .args .form) refl (omega arith) (omega arith))
 
 returns-5 : tie.Need-returns-5
 unfolding takesMinus formOf forms
@@ -39,15 +45,21 @@ returns-6 c = sym (in-range minus true 8 1 (c .before .before .before .args .for
 
 returns-7 : tie.Need-returns-7
 unfolding takesMinus formOf forms
-returns-7 c = sym (in-range minus true 14 1 (c .before .before .before .before .before .args .form) refl (omega arith) (omega arith))
+returns-7 c =
+    let at-start = c .before .before .before .before .before in
+    sym (in-range minus true 14 1 (at-start .args .form) refl (omega arith) (omega arith))
 
 returns-8 : tie.Need-returns-8
 unfolding takesMinus formOf forms
-returns-8 c = sym (in-range minus true 21 1 (c .before .before .before .before .before .before .before .args .form) refl (omega arith) (omega arith))
+returns-8 c =
+    let at-start = c .before .before .before .before .before .before .before in
+    sym (in-range minus true 21 1 (at-start .args .form) refl (omega arith) (omega arith))
 
 returns-9 : tie.Need-returns-9
 unfolding takesMinus formOf forms
-returns-9 c = rw (formOf-past (c .before .before .before .before .before .before .before .before .args .form) (omega arith)) refl
+returns-9 c =
+    let at-start = c .before .before .before .before .before .before .before .before in
+    rw (formOf-past (at-start .args .form) (omega arith)) refl
 
 pub takes-minus-spec : {M : Type 1} → statement M
 takes-minus-spec =

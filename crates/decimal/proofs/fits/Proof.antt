@@ -24,7 +24,9 @@ sub-if1 : tie.Need-sub-if1
 sub-if1 c = omega (arith, c .count .ensures, countIn-least 19 (c .before .short .result))
 
 returns : tie.Need-returns
-returns c = fits-not _ (c .before .before .before .before .args .coefficient) _ _ _ _ (c .before .before .before .size-of .ensures ∙ ap natAbs (toZ-ofZ w64 _ (c .before .before .before .before .fits .coefficient))) (c .before .before .short .ensures) (c .before .count .ensures) (c .if1 .taken)
+returns c =
+    let at-start = c .before .before .before .before in
+    fits-not _ (at-start .args .coefficient) _ _ _ _ (c .before .before .before .size-of .ensures ∙ ap natAbs (toZ-ofZ w64 _ (at-start .fits .coefficient))) (c .before .before .short .ensures) (c .before .count .ensures) (c .if1 .taken)
 
 exponent-requires : tie.Need-exponent-requires
 exponent-requires c κs = search needs
@@ -33,7 +35,11 @@ size-of-requires-2 : tie.Need-size-of-requires-2
 size-of-requires-2 c κs = search needs
 
 returns-2 : tie.Need-returns-2
-returns-2 c = fits-rest _ (c .before .before .before .before .before .before .args .coefficient) (c .before .before .before .before .before .before .args .scale) (c .before .before .before .before .before .size-of .result) _ _ _ (c .before .before .before .before .before .size-of .ensures ∙ ap natAbs (toZ-ofZ w64 (c .before .before .before .before .before .before .args .coefficient) (c .before .before .before .before .before .before .fits .coefficient))) (c .before .before .before .before .short .ensures) (c .before .before .before .count .ensures) (c .before .before .if1 .left) (c .size-of2 .ensures ∙ ap natAbs (exponent-back (c .before .before .before .before .before .size-of .result) (c .before .before .before .before .before .before .args .scale) (c .before .exponent .result) (c .before .before .before .before .before .before .fits .scale) (c .before .exponent .ensures)))
+returns-2 c =
+    let at-short = c .before .before .before .before in
+    let at-size-of = at-short .before in
+    let at-start = at-size-of .before in
+    fits-rest _ (at-start .args .coefficient) (at-start .args .scale) (at-size-of .size-of .result) _ _ _ (at-size-of .size-of .ensures ∙ ap natAbs (toZ-ofZ w64 (at-start .args .coefficient) (at-start .fits .coefficient))) (at-short .short .ensures) (c .before .before .before .count .ensures) (c .before .before .if1 .left) (c .size-of2 .ensures ∙ ap natAbs (exponent-back (at-size-of .size-of .result) (at-start .args .scale) (c .before .exponent .result) (at-start .fits .scale) (c .before .exponent .ensures)))
 
 pub fits-spec : {M : Type 1} → statement M
 fits-spec =

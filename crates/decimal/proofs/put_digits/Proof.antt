@@ -32,7 +32,9 @@ loop-less : tie.Need-loop-less Inv-loop μ-loop
 loop-less c = search needs
 
 loop-again : tie.Need-loop-again Inv-loop μ-loop
-loop-again c = (simp length-set (omega arith), (simp length-set (c .before .before .loop .inv .1 .0), digitsOf-zero _ _ _ _ (c .before .before .loop .inv .0) (c .before .loop-test .taken) (c .if1 .taken) ∙ c .before .before .loop .inv .1 .1))
+loop-again c =
+    let at-loop = c .before .before in
+    (simp length-set (omega arith), (simp length-set (at-loop .loop .inv .1 .0), digitsOf-zero _ _ _ _ (at-loop .loop .inv .0) (c .before .loop-test .taken) (c .if1 .taken) ∙ at-loop .loop .inv .1 .1))
 
 cast-out : tie.Need-cast-out Inv-loop μ-loop
 cast-out c = search needs
@@ -47,7 +49,9 @@ loop-less-2 : tie.Need-loop-less-2 Inv-loop μ-loop
 loop-less-2 c = search needs
 
 loop-again-2 : tie.Need-loop-again-2 Inv-loop μ-loop
-loop-again-2 c = (simp length-set (omega arith), (simp length-set (c .before .before .loop .inv .1 .0), digitsOf-plain _ _ _ _ (c .before .before .loop .inv .0) (c .before .loop-test .taken) (c .if1 .left) ∙ c .before .before .loop .inv .1 .1))
+loop-again-2 c =
+    let at-loop = c .before .before in
+    (simp length-set (omega arith), (simp length-set (at-loop .loop .inv .1 .0), digitsOf-plain _ _ _ _ (at-loop .loop .inv .0) (c .before .loop-test .taken) (c .if1 .left) ∙ at-loop .loop .inv .1 .1))
 
 same-length : tie.Need-same-length Inv-loop μ-loop
 same-length c = c .before .loop .inv .1 .0

@@ -14,7 +14,9 @@ same-length : tie.Need-same-length
 same-length c = search needs
 
 returns : tie.Need-returns
-returns c = c .before .before .put-blanks .ensures ∙ field-blank _ _ _ _ (omega (arith, c .before .before .before .before .if1 .taken))
+returns c =
+    let at-if1 = c .before .before .before .before in
+    c .before .before .put-blanks .ensures ∙ field-blank _ _ _ _ (omega (arith, at-if1 .if1 .taken))
 
 sub-if2 : tie.Need-sub-if2
 sub-if2 c = search needs
@@ -26,7 +28,10 @@ same-length-2 : tie.Need-same-length-2
 same-length-2 c = search needs
 
 returns-2 : tie.Need-returns-2
-returns-2 c = c .before .before .put-blanks2 .ensures ∙ field-blank _ _ _ _ (omega (arith, c .before .before .before .before .if2 .taken, c .before .before .before .before .before .if1 .left))
+returns-2 c =
+    let at-if2 = c .before .before .before .before in
+    let at-if1 = at-if2 .before in
+    c .before .before .put-blanks2 .ensures ∙ field-blank _ _ _ _ (omega (arith, at-if2 .if2 .taken, at-if1 .if1 .left))
 
 size-of-requires : tie.Need-size-of-requires
 size-of-requires c κs = search needs
@@ -53,7 +58,17 @@ same-length-3 : tie.Need-same-length-3
 same-length-3 c = search needs
 
 returns-3 : tie.Need-returns-3
-returns-3 c = c .before .before .put-parts .ensures ∙ field-laid _ _ (c .before .before .before .before .before .before .before .before .before .before .before .before .before .args .coefficient) (c .before .before .before .before .before .before .before .before .before .before .before .before .before .args .scale) (c .before .before .before .before .is-below .result) (c .before .before .before .before .before .before .before .before .before .size-of .result) (c .before .before .before .before .before .before .before .before .short .result) (c .before .before .before .before .before .before .before .count .result) (c .before .before .before .before .before .before .spare .result) (c .before .before .before .exponent .result) (omega (arith, c .before .before .before .before .before .before .before .before .before .before .if2 .left, c .before .before .before .before .before .before .before .before .before .before .before .if1 .left)) (c .before .before .before .before .before .before .before .before .before .before .before .before .before .fits .coefficient) (c .before .before .before .before .before .before .before .before .before .before .before .before .before .fits .scale) (c .before .before .before .before .is-below .ensures) (c .before .before .before .before .before .before .before .before .before .size-of .ensures) (c .before .before .before .before .before .before .before .before .short .ensures) (c .before .before .before .before .before .before .before .count .ensures) (c .before .before .before .before .before .before .spare .ensures) (c .before .before .before .exponent .ensures)
+returns-3 c =
+    let at-exponent = c .before .before .before in
+    let at-is-below = at-exponent .before in
+    let at-spare = at-is-below .before .before in
+    let at-count = at-spare .before in
+    let at-short = at-count .before in
+    let at-size-of = at-short .before in
+    let at-if2 = at-size-of .before in
+    let at-if1 = at-if2 .before in
+    let at-start = at-if1 .before .before in
+    c .before .before .put-parts .ensures ∙ field-laid _ _ (at-start .args .coefficient) (at-start .args .scale) (at-is-below .is-below .result) (at-size-of .size-of .result) (at-short .short .result) (at-count .count .result) (at-spare .spare .result) (at-exponent .exponent .result) (omega (arith, at-if2 .if2 .left, at-if1 .if1 .left)) (at-start .fits .coefficient) (at-start .fits .scale) (at-is-below .is-below .ensures) (at-size-of .size-of .ensures) (at-short .short .ensures) (at-count .count .ensures) (at-spare .spare .ensures) (at-exponent .exponent .ensures)
 
 pub put-number-spec : {M : Type 1} → statement M
 put-number-spec =

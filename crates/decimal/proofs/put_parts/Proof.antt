@@ -22,10 +22,14 @@ slice-relend-prefix-put-lead : tie.Need-slice-relend-prefix-put-lead
 slice-relend-prefix-put-lead c = search needs
 
 slice-aggregate-put-lead : tie.Need-slice-aggregate-put-lead
-slice-aggregate-put-lead c = lead-room (c .before .before .args .out .now) (c .before .before .args .decimals) (c .before .before .pre)
+slice-aggregate-put-lead c =
+    let at-start = c .before .before in
+    lead-room (at-start .args .out .now) (at-start .args .decimals) (at-start .pre)
 
 put-lead-requires : tie.Need-put-lead-requires
-put-lead-requires c κs = lead-some (c .before .before .args .out .now) (c .before .before .args .decimals) (c .before .before .pre)
+put-lead-requires c κs =
+    let at-start = c .before .before in
+    lead-some (at-start .args .out .now) (at-start .args .decimals) (at-start .pre)
 
 sub-put-coefficient : tie.Need-sub-put-coefficient
 sub-put-coefficient c = search needs
@@ -55,7 +59,12 @@ same-length : tie.Need-same-length
 same-length c = search needs
 
 returns : tie.Need-returns
-returns c = parts-laid (c .before .before .before .before .before .before .before .before .before .before .before .before .before .args .out .now) (c .before .before .before .before .before .before .before .before .before .before .before .before .before .args .decimals) (c .before .before .before .before .before .before .before .before .before .before .before .before .before .pre) (c .before .before .before .before .before .before .before .before .before .before .put-lead .last .0) (c .before .before .before .before .before .before .put-coefficient .last .0) (c .before .before .put-exponent .last .0) (c .before .before .before .before .before .before .before .before .before .before .before .before .before .args .number * 10 ^ c .before .before .before .before .before .before .before .before .before .before .before .before .before .args .zeros) (c .before .before .before .before .before .before .before .before .before .before .before .before .before .args .minus) (c .before .before .before .before .before .before .before .before .before .before .before .before .before .args .x) (c .before .before .before .before .before .before .before .before .before .before .put-lead .ensures) (c .before .before .before .before .before .before .put-coefficient .ensures) (c .before .before .put-exponent .ensures ∙ ap exponentText (toZ-ofZ w64 (c .before .before .before .before .before .before .before .before .before .before .before .before .before .args .x) (c .before .before .before .before .before .before .before .before .before .before .before .before .before .fits .x)))
+returns c =
+    let at-put-exponent = c .before .before in
+    let at-put-coefficient = at-put-exponent .before .before .before .before in
+    let at-put-lead = at-put-coefficient .before .before .before .before in
+    let at-start = at-put-lead .before .before .before in
+    parts-laid (at-start .args .out .now) (at-start .args .decimals) (at-start .pre) (at-put-lead .put-lead .last .0) (at-put-coefficient .put-coefficient .last .0) (at-put-exponent .put-exponent .last .0) (at-start .args .number * 10 ^ at-start .args .zeros) (at-start .args .minus) (at-start .args .x) (at-put-lead .put-lead .ensures) (at-put-coefficient .put-coefficient .ensures) (at-put-exponent .put-exponent .ensures ∙ ap exponentText (toZ-ofZ w64 (at-start .args .x) (at-start .fits .x)))
 
 pub put-parts-spec : {M : Type 1} → statement M
 put-parts-spec =

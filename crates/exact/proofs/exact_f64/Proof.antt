@@ -13,7 +13,8 @@ returns c = simp (lt-leb (c .before .args .coefficient) 9007199254740992 (omega 
 returns-2 : tie.Need-returns-2
 unfolding exactOf
 returns-2 c =
-    simp (lt-leb (c .before .before .args .scale) 22 (omega arith), le-leb (c .before .before .args .coefficient) 9007199254740992 (omega arith))
+    let at-start = c .before .before in
+    simp (lt-leb (at-start .args .scale) 22 (omega arith), le-leb (at-start .args .coefficient) 9007199254740992 (omega arith))
 
 magnitude-requires : tie.Need-magnitude-requires
 magnitude-requires c κs = search needs
@@ -21,21 +22,23 @@ magnitude-requires c κs = search needs
 returns-3 : tie.Need-returns-3
 unfolding exactOf
 returns-3 c =
+    let at-start = c .before .before .before .before in
     simp (
       c .if3 .taken,
       c .before .magnitude .ensures,
-      le-leb (c .before .before .before .before .args .scale) 22 (omega arith),
-      le-leb (c .before .before .before .before .args .coefficient) 9007199254740992 (omega arith),
+      le-leb (at-start .args .scale) 22 (omega arith),
+      le-leb (at-start .args .coefficient) 9007199254740992 (omega arith),
     )
 
 returns-4 : tie.Need-returns-4
 unfolding exactOf
 returns-4 c =
+    let at-start = c .before .before .before .before in
     simp (
       c .if3 .left,
       c .before .magnitude .ensures,
-      le-leb (c .before .before .before .before .args .scale) 22 (omega arith),
-      le-leb (c .before .before .before .before .args .coefficient) 9007199254740992 (omega arith),
+      le-leb (at-start .args .scale) 22 (omega arith),
+      le-leb (at-start .args .coefficient) 9007199254740992 (omega arith),
     )
 
 pub exact-f64-spec : {M : Type 1} → statement M

@@ -28,7 +28,10 @@ allowed-requires : tie.Need-allowed-requires
 allowed-requires c κs = search needs
 
 returns-2 : tie.Need-returns-2
-returns-2 c = sym (integerNumber-value _ _ _ (c .before .before .before .minus .given .0 .0) (c .before .before .before .minus .given .0 .1 .0) (sym (c .before .before .before .before .before .integer-field .ensures) ∙ c .before .before .before .minus .given .1) (sym (c .before .allowed .ensures) ∙ c .if2 .taken))
+returns-2 c =
+    let at-minus = c .before .before .before in
+    let at-integer-field = at-minus .before .before in
+    sym (integerNumber-value _ _ _ (at-minus .minus .given .0 .0) (at-minus .minus .given .0 .1 .0) (sym (at-integer-field .integer-field .ensures) ∙ at-minus .minus .given .1) (sym (c .before .allowed .ensures) ∙ c .if2 .taken))
 
 returns-3 : tie.Need-returns-3
 returns-3 c = sym (integerNumber-blank _ _ _ (sym (c .before .before .before .integer-field .ensures) ∙ c .before .enum-told .given .1) (c .if1 .left))
@@ -40,7 +43,10 @@ returns-5 : tie.Need-returns-5
 returns-5 c = sym (ap (integerNumber _ _) (sym (c .before .before .integer-field .ensures) ∙ c .enum-told3 .given .1))
 
 returns-6 : tie.Need-returns-6
-returns-6 c = sym (integerNumber-value _ _ _ (c .before .before .before .minus .given .0 .0) (c .before .before .before .minus .given .0 .1 .0) (sym (c .before .before .before .before .before .integer-field .ensures) ∙ c .before .before .before .minus .given .1) (sym (c .before .allowed .ensures) ∙ c .if2 .left))
+returns-6 c =
+    let at-minus = c .before .before .before in
+    let at-integer-field = at-minus .before .before in
+    sym (integerNumber-value _ _ _ (at-minus .minus .given .0 .0) (at-minus .minus .given .0 .1 .0) (sym (at-integer-field .integer-field .ensures) ∙ at-minus .minus .given .1) (sym (c .before .allowed .ensures) ∙ c .if2 .left))
 
 pub integer-number-spec : {M : Type 1} → statement M
 integer-number-spec =

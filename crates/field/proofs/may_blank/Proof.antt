@@ -20,13 +20,18 @@ part-is-blank-start : tie.Need-part-is-blank-start
 part-is-blank-start c = search needs
 
 part-is-blank-end : tie.Need-part-is-blank-end
-part-is-blank-end c = let z : c .before .before .blank-past .result ≤ 80 = rw (c .before .before .blank-past .ensures) (blankPast-inside _) in omega arith
+part-is-blank-end c =
+    let at-blank-past = c .before .before in
+    let z : at-blank-past .blank-past .result ≤ 80 = rw (at-blank-past .blank-past .ensures) (blankPast-inside _) in omega arith
 
 is-blank-requires : tie.Need-is-blank-requires
 is-blank-requires c κs = search needs
 
 returns : tie.Need-returns
-returns c = c .is-blank .ensures ∙ simp (c .before .before .before .before .blank-past .ensures, c .before .before .before .before .before .blank-from .ensures) (sym (mayBlank-some _ _ (rw (← c .before .before .before .before .blank-past .ensures, ← c .before .before .before .before .before .blank-from .ensures) (c .before .before .before .if1 .taken))))
+returns c =
+    let at-blank-past = c .before .before .before .before in
+    let at-blank-from = at-blank-past .before in
+    c .is-blank .ensures ∙ simp (at-blank-past .blank-past .ensures, at-blank-from .blank-from .ensures) (sym (mayBlank-some _ _ (rw (← at-blank-past .blank-past .ensures, ← at-blank-from .blank-from .ensures) (c .before .before .before .if1 .taken))))
 
 returns-2 : tie.Need-returns-2
 returns-2 c = sym (mayBlank-none _ _ (rw (← c .before .blank-past .ensures, ← c .before .before .blank-from .ensures) (c .if1 .left)))

@@ -15,7 +15,9 @@ refuse-requires : tie.Need-refuse-requires
 refuse-requires c κs = search needs
 
 returns : tie.Need-returns
-returns c = c .refuse .ensures ∙ rw (c .before .line-fault .ensures) (end-rest (c .before .before .before .before .args .s) (c .before .before .before .before .args .lines) (c .before .before .before .before .args .rest .now) (c .before .before .if1 .taken))
+returns c =
+    let at-start = c .before .before .before .before in
+    c .refuse .ensures ∙ rw (c .before .line-fault .ensures) (end-rest (at-start .args .s) (at-start .args .lines) (at-start .args .rest .now) (c .before .before .if1 .taken))
 
 add-refuse-2 : tie.Need-add-refuse-2
 add-refuse-2 c = search needs
@@ -24,7 +26,9 @@ refuse-requires-2 : tie.Need-refuse-requires-2
 refuse-requires-2 c κs = search needs
 
 returns-2 : tie.Need-returns-2
-returns-2 c = c .refuse2 .ensures ∙ end-few (c .before .before .before .before .args .s) (c .before .before .before .before .args .lines) (c .before .before .before .before .args .rest .now) (c .before .before .if1 .left) (c .before .if2 .taken)
+returns-2 c =
+    let at-start = c .before .before .before .before in
+    c .refuse2 .ensures ∙ end-few (at-start .args .s) (at-start .args .lines) (at-start .args .rest .now) (c .before .before .if1 .left) (c .before .if2 .taken)
 
 enum-told : tie.Need-enum-told
 enum-told c = search needs
@@ -48,16 +52,28 @@ enum-known-place : tie.Need-enum-known-place
 enum-known-place c = search needs
 
 returns-3 : tie.Need-returns-3
-returns-3 c = c .refuse3 .ensures ∙ end-place (c .before .before .before .before .before .before .args .s) (c .before .before .before .before .before .before .args .lines) (c .before .before .before .before .before .before .args .rest .now) _ (c .before .before .before .before .if1 .left) (c .before .before .before .if2 .left) (c .before .enum-told .given .1)
+returns-3 c =
+    let at-if1 = c .before .before .before .before in
+    let at-start = at-if1 .before .before in
+    c .refuse3 .ensures ∙ end-place (at-start .args .s) (at-start .args .lines) (at-start .args .rest .now) _ (at-if1 .if1 .left) (c .before .before .before .if2 .left) (c .before .enum-told .given .1)
 
 returns-4 : tie.Need-returns-4
-returns-4 c = c .refuse4 .ensures ∙ end-place (c .before .before .before .before .before .before .args .s) (c .before .before .before .before .before .before .args .lines) (c .before .before .before .before .before .before .args .rest .now) _ (c .before .before .before .before .if1 .left) (c .before .before .before .if2 .left) (c .before .enum-told2 .given .1)
+returns-4 c =
+    let at-if1 = c .before .before .before .before in
+    let at-start = at-if1 .before .before in
+    c .refuse4 .ensures ∙ end-place (at-start .args .s) (at-start .args .lines) (at-start .args .rest .now) _ (at-if1 .if1 .left) (c .before .before .before .if2 .left) (c .before .enum-told2 .given .1)
 
 returns-5 : tie.Need-returns-5
-returns-5 c = c .refuse5 .ensures ∙ end-place (c .before .before .before .before .before .before .args .s) (c .before .before .before .before .before .before .args .lines) (c .before .before .before .before .before .before .args .rest .now) _ (c .before .before .before .before .if1 .left) (c .before .before .before .if2 .left) (c .before .enum-told3 .given .1)
+returns-5 c =
+    let at-if1 = c .before .before .before .before in
+    let at-start = at-if1 .before .before in
+    c .refuse5 .ensures ∙ end-place (at-start .args .s) (at-start .args .lines) (at-start .args .rest .now) _ (at-if1 .if1 .left) (c .before .before .before .if2 .left) (c .before .enum-told3 .given .1)
 
 returns-6 : tie.Need-returns-6
-returns-6 c = end-place (c .before .before .before .before .before .before .args .s) (c .before .before .before .before .before .before .args .lines) (c .before .before .before .before .before .before .args .rest .now) _ (c .before .before .before .before .if1 .left) (c .before .before .before .if2 .left) (c .before .place .given .1)
+returns-6 c =
+    let at-if1 = c .before .before .before .before in
+    let at-start = at-if1 .before .before in
+    end-place (at-start .args .s) (at-start .args .lines) (at-start .args .rest .now) _ (at-if1 .if1 .left) (c .before .before .before .if2 .left) (c .before .place .given .1)
 
 pub finish-spec : {M : Type 1} → statement M
 finish-spec =

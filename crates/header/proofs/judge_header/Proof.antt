@@ -21,13 +21,20 @@ judge-lines-requires : tie.Need-judge-lines-requires
 judge-lines-requires c κs = (search needs, simp length-take (omega arith))
 
 add-refuse : tie.Need-add-refuse
-add-refuse c = omega (arith, refused-most (c .before .before .before .before .before .before .before .args .header .now) (c .before .before .before .before .before .past-eleven .result) (c .before .before .before .before .before .past-eleven .ensures) _ (c .before .before .before .judge-lines .ensures) (c .before .if1 .taken))
+add-refuse c =
+    let at-past-eleven = c .before .before .before .before .before in
+    let at-start = at-past-eleven .before .before in
+    omega (arith, refused-most (at-start .args .header .now) (at-past-eleven .past-eleven .result) (at-past-eleven .past-eleven .ensures) _ (c .before .before .before .judge-lines .ensures) (c .before .if1 .taken))
 
 refuse-requires : tie.Need-refuse-requires
 refuse-requires c κs = search needs
 
 returns : tie.Need-returns
-returns c = c .refuse .ensures ∙ header-refused (c .before .before .before .before .before .before .before .before .args .header .now) (c .before .before .before .before .before .before .past-eleven .result) (c .before .before .before .before .before .before .past-eleven .ensures) _ (c .before .before .before .before .judge-lines .ensures) (c .before .before .if1 .taken)
+returns c =
+    let at-judge-lines = c .before .before .before .before in
+    let at-past-eleven = at-judge-lines .before .before in
+    let at-start = at-past-eleven .before .before in
+    c .refuse .ensures ∙ header-refused (at-start .args .header .now) (at-past-eleven .past-eleven .result) (at-past-eleven .past-eleven .ensures) _ (at-judge-lines .judge-lines .ensures) (c .before .before .if1 .taken)
 
 find-end-requires : tie.Need-find-end-requires
 find-end-requires c κs = search needs
@@ -45,28 +52,57 @@ past-fault-requires : tie.Need-past-fault-requires
 past-fault-requires c κs = search needs
 
 add-refuse-2 : tie.Need-add-refuse-2
-add-refuse-2 c = omega (arith, eleven-most (c .before .before .before .before .before .before .before .before .before .before .before .args .header .now) (c .before .before .before .before .before .before .before .before .before .past-eleven .result) (c .before .before .before .before .before .before .before .before .before .past-eleven .ensures) _ (c .before .before .before .before .before .before .before .judge-lines .ensures) (c .before .before .before .before .before .if1 .left))
+add-refuse-2 c =
+    let at-if1 = c .before .before .before .before .before in
+    let at-judge-lines = at-if1 .before .before in
+    let at-past-eleven = at-judge-lines .before .before in
+    let at-start = at-past-eleven .before .before in
+    omega (arith, eleven-most (at-start .args .header .now) (at-past-eleven .past-eleven .result) (at-past-eleven .past-eleven .ensures) _ (at-judge-lines .judge-lines .ensures) (at-if1 .if1 .left))
 
 refuse-requires-2 : tie.Need-refuse-requires-2
 refuse-requires-2 c κs = search needs
 
 returns-2 : tie.Need-returns-2
-returns-2 c = c .refuse2 .ensures ∙ header-past (c .before .before .before .before .before .before .before .before .judge-lines .result .state) (c .before .before .before .before .before .before .before .before .judge-lines .result .lines) (c .before .before .before .before .before .before .before .before .before .before .before .before .args .header .now) _ _ (at-most (c .before .before .before .before .before .before .before .before .before .before .before .before .args .header .now) (c .before .before .before .before .before .before .before .before .before .before .past-eleven .result) (c .before .before .before .before .before .before .before .before .before .before .past-eleven .ensures) _ (c .before .before .before .before .before .before .before .before .judge-lines .ensures) (c .before .before .before .before .before .before .if1 .left)) (c .before .before .before .before .before .find-end .ensures) (c .before .before .before .before .if2 .taken) _ (c .before .before .past-fault .ensures) (eleven (c .before .before .before .before .before .before .before .before .before .before .before .before .args .header .now) (c .before .before .before .before .before .before .before .before .before .before .past-eleven .result) (c .before .before .before .before .before .before .before .before .before .before .past-eleven .ensures) _ (c .before .before .before .before .before .before .before .before .judge-lines .ensures) (c .before .before .before .before .before .before .if1 .left) _ (c .before .before .before .before .before .find-end .ensures) (c .before .before .before .before .if2 .taken)) ∙ header-going (c .before .before .before .before .before .before .before .before .before .before .before .before .args .header .now) (c .before .before .before .before .before .before .before .before .before .before .past-eleven .result) (c .before .before .before .before .before .before .before .before .before .before .past-eleven .ensures) _ (c .before .before .before .before .before .before .before .before .judge-lines .ensures) (c .before .before .before .before .before .before .if1 .left)
+returns-2 c =
+    let at-if2 = c .before .before .before .before in
+    let at-find-end = at-if2 .before in
+    let at-if1 = at-find-end .before in
+    let at-judge-lines = at-if1 .before .before in
+    let at-past-eleven = at-judge-lines .before .before in
+    let at-start = at-past-eleven .before .before in
+    c .refuse2 .ensures ∙ header-past (at-judge-lines .judge-lines .result .state) (at-judge-lines .judge-lines .result .lines) (at-start .args .header .now) _ _ (at-most (at-start .args .header .now) (at-past-eleven .past-eleven .result) (at-past-eleven .past-eleven .ensures) _ (at-judge-lines .judge-lines .ensures) (at-if1 .if1 .left)) (at-find-end .find-end .ensures) (at-if2 .if2 .taken) _ (c .before .before .past-fault .ensures) (eleven (at-start .args .header .now) (at-past-eleven .past-eleven .result) (at-past-eleven .past-eleven .ensures) _ (at-judge-lines .judge-lines .ensures) (at-if1 .if1 .left) _ (at-find-end .find-end .ensures) (at-if2 .if2 .taken)) ∙ header-going (at-start .args .header .now) (at-past-eleven .past-eleven .result) (at-past-eleven .past-eleven .ensures) _ (at-judge-lines .judge-lines .ensures) (at-if1 .if1 .left)
 
 sub-finish : tie.Need-sub-finish
-sub-finish c = omega (arith, at-most (c .before .before .before .before .before .before .before .before .args .header .now) (c .before .before .before .before .before .before .past-eleven .result) (c .before .before .before .before .before .before .past-eleven .ensures) _ (c .before .before .before .before .judge-lines .ensures) (c .before .before .if1 .left))
+sub-finish c =
+    let at-judge-lines = c .before .before .before .before in
+    let at-past-eleven = at-judge-lines .before .before in
+    let at-start = at-past-eleven .before .before in
+    omega (arith, at-most (at-start .args .header .now) (at-past-eleven .past-eleven .result) (at-past-eleven .past-eleven .ensures) _ (at-judge-lines .judge-lines .ensures) (c .before .before .if1 .left))
 
 part-finish-start : tie.Need-part-finish-start
-part-finish-start c = omega (arith, at-most (c .before .before .before .before .before .before .before .before .args .header .now) (c .before .before .before .before .before .before .past-eleven .result) (c .before .before .before .before .before .before .past-eleven .ensures) _ (c .before .before .before .before .judge-lines .ensures) (c .before .before .if1 .left))
+part-finish-start c =
+    let at-judge-lines = c .before .before .before .before in
+    let at-past-eleven = at-judge-lines .before .before in
+    let at-start = at-past-eleven .before .before in
+    omega (arith, at-most (at-start .args .header .now) (at-past-eleven .past-eleven .result) (at-past-eleven .past-eleven .ensures) _ (at-judge-lines .judge-lines .ensures) (c .before .before .if1 .left))
 
 part-finish-end : tie.Need-part-finish-end
 part-finish-end c = search needs
 
 finish-requires : tie.Need-finish-requires
-finish-requires c κs = eleven-most (c .before .before .before .before .before .before .before .before .before .args .header .now) (c .before .before .before .before .before .before .before .past-eleven .result) (c .before .before .before .before .before .before .before .past-eleven .ensures) _ (c .before .before .before .before .before .judge-lines .ensures) (c .before .before .before .if1 .left)
+finish-requires c κs =
+    let at-judge-lines = c .before .before .before .before .before in
+    let at-past-eleven = at-judge-lines .before .before in
+    let at-start = at-past-eleven .before .before in
+    eleven-most (at-start .args .header .now) (at-past-eleven .past-eleven .result) (at-past-eleven .past-eleven .ensures) _ (at-judge-lines .judge-lines .ensures) (c .before .before .before .if1 .left)
 
 returns-3 : tie.Need-returns-3
-returns-3 c = c .finish .ensures ∙ ap (headerEnd (going (c .before .before .before .before .before .before .judge-lines .result .state) (c .before .before .before .before .before .before .judge-lines .result .lines))) (tail-part (c .before .before .before .before .before .before .before .before .before .before .args .header .now) (c .before .before .before .before .before .before .judge-lines .result .at)) ∙ sym (judge-last headerStep headerEnd _ _ _ _ (at-most (c .before .before .before .before .before .before .before .before .before .before .args .header .now) (c .before .before .before .before .before .before .before .before .past-eleven .result) (c .before .before .before .before .before .before .before .before .past-eleven .ensures) _ (c .before .before .before .before .before .before .judge-lines .ensures) (c .before .before .before .before .if1 .left)) (c .before .before .before .find-end .ensures) (c .before .before .if2 .left)) ∙ header-going (c .before .before .before .before .before .before .before .before .before .before .args .header .now) (c .before .before .before .before .before .before .before .before .past-eleven .result) (c .before .before .before .before .before .before .before .before .past-eleven .ensures) _ (c .before .before .before .before .before .before .judge-lines .ensures) (c .before .before .before .before .if1 .left)
+returns-3 c =
+    let at-if1 = c .before .before .before .before in
+    let at-judge-lines = at-if1 .before .before in
+    let at-past-eleven = at-judge-lines .before .before in
+    let at-start = at-past-eleven .before .before in
+    c .finish .ensures ∙ ap (headerEnd (going (at-judge-lines .judge-lines .result .state) (at-judge-lines .judge-lines .result .lines))) (tail-part (at-start .args .header .now) (at-judge-lines .judge-lines .result .at)) ∙ sym (judge-last headerStep headerEnd _ _ _ _ (at-most (at-start .args .header .now) (at-past-eleven .past-eleven .result) (at-past-eleven .past-eleven .ensures) _ (at-judge-lines .judge-lines .ensures) (at-if1 .if1 .left)) (c .before .before .before .find-end .ensures) (c .before .before .if2 .left)) ∙ header-going (at-start .args .header .now) (at-past-eleven .past-eleven .result) (at-past-eleven .past-eleven .ensures) _ (at-judge-lines .judge-lines .ensures) (at-if1 .if1 .left)
 
 pub judge-header-spec : {M : Type 1} → statement M
 judge-header-spec =

@@ -24,7 +24,10 @@ find-end-requires : tie.Need-find-end-requires Inv-loop μ-loop
 find-end-requires c κs = search needs
 
 returns : tie.Need-returns Inv-loop μ-loop
-returns c = all-few (c .before .before .before .before .before .args .header .now) _ _ (c .before .before .before .loop .inv .0) (c .before .find-end .ensures) (c .before .before .before .loop .inv .1 .1 .1) (c .if1 .taken) (omega arith)
+returns c =
+    let at-loop = c .before .before .before in
+    let at-start = at-loop .before .before in
+    all-few (at-start .args .header .now) _ _ (at-loop .loop .inv .0) (c .before .find-end .ensures) (at-loop .loop .inv .1 .1 .1) (c .if1 .taken) (omega arith)
 
 add-lines : tie.Need-add-lines Inv-loop μ-loop
 add-lines c = search needs
@@ -36,7 +39,10 @@ loop-less : tie.Need-loop-less Inv-loop μ-loop
 loop-less c = search needs
 
 loop-again : tie.Need-loop-again Inv-loop μ-loop
-loop-again c = (search needs, (search needs, (omega (arith, lines-to (c .before .before .before .before .before .args .header .now) _ _ (c .before .before .before .loop .inv .0) (c .before .find-end .ensures) (c .before .before .before .loop .inv .1 .1 .1) (c .if1 .left)), rest-to (c .before .before .before .before .before .args .header .now) _ _ (c .before .before .before .loop .inv .0) (c .before .find-end .ensures) (c .before .before .before .loop .inv .1 .1 .1) (c .if1 .left))))
+loop-again c =
+    let at-loop = c .before .before .before in
+    let at-start = at-loop .before .before in
+    (search needs, (search needs, (omega (arith, lines-to (at-start .args .header .now) _ _ (at-loop .loop .inv .0) (c .before .find-end .ensures) (at-loop .loop .inv .1 .1 .1) (c .if1 .left)), rest-to (at-start .args .header .now) _ _ (at-loop .loop .inv .0) (c .before .find-end .ensures) (at-loop .loop .inv .1 .1 .1) (c .if1 .left))))
 
 returns-2 : tie.Need-returns-2 Inv-loop μ-loop
 returns-2 c = record { within = c .before .loop .inv .0; few = omega arith; full = λ l. omega arith }

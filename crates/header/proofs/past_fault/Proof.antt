@@ -17,10 +17,14 @@ line-fault-requires : tie.Need-line-fault-requires
 line-fault-requires c κs = search needs
 
 returns : tie.Need-returns
-returns c = past-fault _ _ (c .before .before .before .before .columns-len .ensures) _ (c .before .before .line-fault .ensures) (c .if1 .taken)
+returns c =
+    let at-columns-len = c .before .before .before .before in
+    past-fault _ _ (at-columns-len .columns-len .ensures) _ (c .before .before .line-fault .ensures) (c .if1 .taken)
 
 returns-2 : tie.Need-returns-2
-returns-2 c = past-eight _ _ (c .before .before .before .before .columns-len .ensures) _ (c .before .before .line-fault .ensures) (c .if1 .left)
+returns-2 c =
+    let at-columns-len = c .before .before .before .before in
+    past-eight _ _ (at-columns-len .columns-len .ensures) _ (c .before .before .line-fault .ensures) (c .if1 .left)
 
 pub past-fault-spec : {M : Type 1} → statement M
 past-fault-spec =

@@ -35,7 +35,9 @@ same-length c = search needs
 
 returns-2 : tie.Need-returns-2
 unfolding numberShown numberBytes bytesOf
-returns-2 c = rw (c .before .before .before .before .before .before .before .a .given .1) (answered _ _ _ _ (omega arith) (c .pack2 .ensures) (c .before .before .before .put-number .ensures))
+returns-2 c =
+    let at-a = c .before .before .before .before .before .before .before in
+    rw (at-a .a .given .1) (answered _ _ _ _ (omega arith) (c .pack2 .ensures) (c .before .before .before .put-number .ensures))
 
 returns-3 : tie.Need-returns-3
 unfolding numberShown

@@ -28,7 +28,9 @@ same-length c = search needs
 
 returns-2 : tie.Need-returns-2
 unfolding valueBytes bytesOf
-returns-2 c = answered _ _ _ _ (omega arith) (c .pack2 .ensures) (laid-one _ _ _ _ (c .before .before .before .before .bits .ensures) (c .before .before .before .lay .ensures))
+returns-2 c =
+    let at-bits = c .before .before .before .before in
+    answered _ _ _ _ (omega arith) (c .pack2 .ensures) (laid-one _ _ _ _ (at-bits .bits .ensures) (c .before .before .before .lay .ensures))
 
 pub answer-one-spec : {M : Type 1} → statement M
 answer-one-spec =

@@ -40,7 +40,13 @@ same-length c = search needs
 
 returns-2 : tie.Need-returns-2
 unfolding valueBytes bytesOf
-returns-2 c = answered _ _ _ _ (omega arith) (c .pack2 .ensures) (laid-three _ _ _ _ (c .before .before .before .before .before .before .before .before .before .before .before .before .before .before .bits .ensures) (c .before .before .before .before .before .before .before .before .before .before .before .before .before .lay .ensures) _ _ _ (c .before .before .before .before .before .before .before .before .before .bits2 .ensures) (c .before .before .before .before .before .before .before .before .lay2 .ensures) _ _ _ (c .before .before .before .before .bits3 .ensures) (c .before .before .before .lay3 .ensures))
+returns-2 c =
+    let at-bits3 = c .before .before .before .before in
+    let at-lay2 = at-bits3 .before .before .before .before in
+    let at-bits2 = at-lay2 .before in
+    let at-lay = at-bits2 .before .before .before .before in
+    let at-bits = at-lay .before in
+    answered _ _ _ _ (omega arith) (c .pack2 .ensures) (laid-three _ _ _ _ (at-bits .bits .ensures) (at-lay .lay .ensures) _ _ _ (at-bits2 .bits2 .ensures) (at-lay2 .lay2 .ensures) _ _ _ (at-bits3 .bits3 .ensures) (c .before .before .before .lay3 .ensures))
 
 pub answer-three-spec : {M : Type 1} → statement M
 answer-three-spec =

@@ -34,7 +34,11 @@ same-length c = search needs
 
 returns-2 : tie.Need-returns-2
 unfolding valueBytes bytesOf
-returns-2 c = answered _ _ _ _ (omega arith) (c .pack2 .ensures) (laid-two _ _ _ _ (c .before .before .before .before .before .before .before .before .before .bits .ensures) (c .before .before .before .before .before .before .before .before .lay .ensures) _ _ _ (c .before .before .before .before .bits2 .ensures) (c .before .before .before .lay2 .ensures))
+returns-2 c =
+    let at-bits2 = c .before .before .before .before in
+    let at-lay = at-bits2 .before .before .before .before in
+    let at-bits = at-lay .before in
+    answered _ _ _ _ (omega arith) (c .pack2 .ensures) (laid-two _ _ _ _ (at-bits .bits .ensures) (at-lay .lay .ensures) _ _ _ (at-bits2 .bits2 .ensures) (c .before .before .before .lay2 .ensures))
 
 pub answer-two-spec : {M : Type 1} → statement M
 answer-two-spec =

@@ -41,25 +41,33 @@ same-length : tie.Need-same-length
 same-length c = search needs
 
 returns : tie.Need-returns
-returns c = rw (c .before .before .before .before .before .a .given .1) (c .before .before .answer-one .ensures)
+returns c =
+    let at-a = c .before .before .before .before .before in
+    rw (at-a .a .given .1) (c .before .before .answer-one .ensures)
 
 same-length-2 : tie.Need-same-length-2
 same-length-2 c = search needs
 
 returns-2 : tie.Need-returns-2
-returns-2 c = rw (c .before .before .before .before .before .a2 .given .1) (c .before .before .answer-two .ensures)
+returns-2 c =
+    let at-a2 = c .before .before .before .before .before in
+    rw (at-a2 .a2 .given .1) (c .before .before .answer-two .ensures)
 
 same-length-3 : tie.Need-same-length-3
 same-length-3 c = search needs
 
 returns-3 : tie.Need-returns-3
-returns-3 c = rw (c .before .before .before .before .before .a3 .given .1) (c .before .before .answer-two2 .ensures)
+returns-3 c =
+    let at-a3 = c .before .before .before .before .before in
+    rw (at-a3 .a3 .given .1) (c .before .before .answer-two2 .ensures)
 
 same-length-4 : tie.Need-same-length-4
 same-length-4 c = search needs
 
 returns-4 : tie.Need-returns-4
-returns-4 c = rw (c .before .before .before .before .before .a4 .given .1) (c .before .before .answer-three .ensures)
+returns-4 c =
+    let at-a4 = c .before .before .before .before .before in
+    rw (at-a4 .a4 .given .1) (c .before .before .answer-three .ensures)
 
 returns-5 : tie.Need-returns-5
 unfolding valueBytes

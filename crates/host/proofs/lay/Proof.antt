@@ -20,7 +20,9 @@ same-length : tie.Need-same-length
 same-length c = search needs
 
 returns : tie.Need-returns
-returns c = laid-part _ _ _ _ _ (c .before .before .before .before .before .pre .0) (c .before .before .before .before .before .pre .1) (c .before .before .put-bytes .ensures)
+returns c =
+    let at-pre = c .before .before .before .before .before in
+    laid-part _ _ _ _ _ (at-pre .pre .0) (at-pre .pre .1) (c .before .before .put-bytes .ensures)
 
 pub lay-spec : {M : Type 1} → statement M
 lay-spec =

@@ -30,7 +30,13 @@ same-length : tie.Need-same-length
 same-length c = search needs
 
 returns : tie.Need-returns
-returns c = laid-number _ _ _ _ _ _ _ _ _ _ _ _ (c .before .before .before .before .before .before .before .before .before .before .before .before .before .before .before .before .before .before .before .before .lay .ensures) (c .before .before .before .before .before .before .before .before .before .before .before .before .before .before .before .before .lay2 .ensures) (c .before .before .before .before .before .before .before .before .before .before .before .before .lay3 .ensures) (c .before .before .before .before .before .before .before .lay4 .ensures ∙ rw (c .before .before .before .before .before .before .before .before .scale-bits .ensures) refl) (c .before .before .lay5 .ensures ∙ rw (c .before .before .before .sign-byte .ensures) refl)
+returns c =
+    let at-lay4 = c .before .before .before .before .before .before .before in
+    let at-scale-bits = at-lay4 .before in
+    let at-lay3 = at-scale-bits .before .before .before .before in
+    let at-lay2 = at-lay3 .before .before .before .before in
+    let at-lay = at-lay2 .before .before .before .before in
+    laid-number _ _ _ _ _ _ _ _ _ _ _ _ (at-lay .lay .ensures) (at-lay2 .lay2 .ensures) (at-lay3 .lay3 .ensures) (at-lay4 .lay4 .ensures ∙ rw (at-scale-bits .scale-bits .ensures) refl) (c .before .before .lay5 .ensures ∙ rw (c .before .before .before .sign-byte .ensures) refl)
 
 pub put-number-spec : {M : Type 1} → statement M
 put-number-spec =

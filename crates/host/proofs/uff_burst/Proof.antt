@@ -18,7 +18,9 @@ same-length-2 : tie.Need-same-length-2
 same-length-2 c = search needs
 
 returns : tie.Need-returns
-returns c = rw (c .pack .ensures) (burst-in word _ _ _ _ _ _ (c .before .before .before .before .before .burst .ensures))
+returns c =
+    let at-burst = c .before .before .before .before .before in
+    rw (c .pack .ensures) (burst-in word _ _ _ _ _ _ (at-burst .burst .ensures))
 
 pub uff-burst-spec : {M : Type 1} → statement M
 uff-burst-spec = tie.close (tie.spec burst-requires pack-requires same-length same-length-2 returns)

@@ -14,7 +14,9 @@ same-length : tie.Need-same-length
 same-length c = search needs
 
 returns : tie.Need-returns
-returns c = (c .pack .ensures ∙ rw (c .before .before .before .end .ensures .0) refl, c .before .before .before .end .ensures .1)
+returns c =
+    let at-end = c .before .before .before in
+    (c .pack .ensures ∙ rw (at-end .end .ensures .0) refl, at-end .end .ensures .1)
 
 pub uff-end-spec : {M : Type 1} → statement M
 uff-end-spec = tie.close (tie.spec end-requires pack-requires same-length returns)

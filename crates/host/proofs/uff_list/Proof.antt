@@ -14,7 +14,9 @@ same-length : tie.Need-same-length
 same-length c = search needs
 
 returns : tie.Need-returns
-returns c = (c .pack .ensures ∙ rw (c .before .before .before .list .ensures .0) refl, c .before .before .before .list .ensures .1)
+returns c =
+    let at-list = c .before .before .before in
+    (c .pack .ensures ∙ rw (at-list .list .ensures .0) refl, at-list .list .ensures .1)
 
 pub uff-list-spec : {M : Type 1} → statement M
 uff-list-spec = tie.close (tie.spec list-requires pack-requires same-length returns)

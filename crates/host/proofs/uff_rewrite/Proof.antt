@@ -14,7 +14,9 @@ same-length : tie.Need-same-length
 same-length c = search needs
 
 returns : tie.Need-returns
-returns c = (c .pack .ensures ∙ rw (c .before .before .before .rewrite .ensures .0) refl, c .before .before .before .rewrite .ensures .1)
+returns c =
+    let at-rewrite = c .before .before .before in
+    (c .pack .ensures ∙ rw (at-rewrite .rewrite .ensures .0) refl, at-rewrite .rewrite .ensures .1)
 
 pub uff-rewrite-spec : {M : Type 1} → statement M
 uff-rewrite-spec = tie.close (tie.spec rewrite-requires pack-requires same-length returns)

@@ -17,7 +17,9 @@ same-length-2 : tie.Need-same-length-2
 same-length-2 c = search needs
 
 returns : tie.Need-returns
-returns c = (c .pack .ensures ∙ rw (c .before .before .before .before .before .start .ensures .0) refl, c .before .before .before .before .before .start .ensures .1, c .before .before .before .before .before .start .ensures .2)
+returns c =
+    let at-start = c .before .before .before .before .before in
+    (c .pack .ensures ∙ rw (at-start .start .ensures .0) refl, at-start .start .ensures .1, at-start .start .ensures .2)
 
 pub uff-start-spec : {M : Type 1} → statement M
 uff-start-spec = tie.close (tie.spec start-requires pack-requires same-length same-length-2 returns)

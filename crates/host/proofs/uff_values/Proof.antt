@@ -14,7 +14,9 @@ same-length : tie.Need-same-length
 same-length c = search needs
 
 returns : tie.Need-returns
-returns c = (c .pack .ensures ∙ rw (c .before .before .before .values .ensures .0) refl, c .before .before .before .values .ensures .1)
+returns c =
+    let at-values = c .before .before .before in
+    (c .pack .ensures ∙ rw (at-values .values .ensures .0) refl, at-values .values .ensures .1)
 
 pub uff-values-spec : {M : Type 1} → statement M
 uff-values-spec = tie.close (tie.spec values-requires pack-requires same-length returns)

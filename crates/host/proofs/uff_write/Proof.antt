@@ -14,7 +14,9 @@ same-length : tie.Need-same-length
 same-length c = search needs
 
 returns : tie.Need-returns
-returns c = (c .pack .ensures ∙ rw (c .before .before .before .write .ensures .0) refl, c .before .before .before .write .ensures .1)
+returns c =
+    let at-write = c .before .before .before in
+    (c .pack .ensures ∙ rw (at-write .write .ensures .0) refl, at-write .write .ensures .1)
 
 pub uff-write-spec : {M : Type 1} → statement M
 uff-write-spec = tie.close (tie.spec write-requires pack-requires same-length returns)

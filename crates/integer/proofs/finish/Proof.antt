@@ -17,8 +17,9 @@ cast-t5 c = search needs
 
 returns-2 : tie.Need-returns-2
 returns-2 c =
+    let at-if2 = c .before .before .before .before in
     sym
-    (endInteger-number _ true true (c .before .before .before .before .if2 .taken) (c .before .before .before .if3 .taken)
+    (endInteger-number _ true true (at-if2 .if2 .taken) (c .before .before .before .if3 .taken)
     (le-leb _ _ (c .before .if4 .taken)))
 
 returns-3 : tie.Need-returns-3
@@ -32,8 +33,9 @@ cast-t6 c = search needs
 
 returns-4 : tie.Need-returns-4
 returns-4 c =
+    let at-if2 = c .before .before .before .before in
     sym
-    (endInteger-number _ false true (c .before .before .before .before .if2 .taken) (c .before .before .before .if3 .left)
+    (endInteger-number _ false true (at-if2 .if2 .taken) (c .before .before .before .if3 .left)
     (le-leb _ _ (c .before .if5 .taken)))
 
 returns-5 : tie.Need-returns-5

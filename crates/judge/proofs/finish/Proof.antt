@@ -12,13 +12,18 @@ add-t8 : tie.Need-add-t8
 add-t8 c = search needs
 
 returns : tie.Need-returns
-returns c = rw (c .line-fault .ensures) (runEnd-rest (c .before .before .before .args .s) (c .before .before .before .args .lines) (c .before .before .before .args .rest .now) (c .before .if1 .taken))
+returns c =
+    let at-start = c .before .before .before in
+    rw (c .line-fault .ensures) (runEnd-rest (at-start .args .s) (at-start .args .lines) (at-start .args .rest .now) (c .before .if1 .taken))
 
 enum-told : tie.Need-enum-told
 enum-told c = search needs
 
 returns-2 : tie.Need-returns-2
-returns-2 c = runEnd-no-set (c .before .before .before .before .before .before .args .s) (c .before .before .before .before .before .before .args .lines) (c .before .before .before .before .before .before .args .rest .now) (c .before .before .before .before .if1 .left) (c .before .before .enum-told .given .1) (c .if2 .taken)
+returns-2 c =
+    let at-if1 = c .before .before .before .before in
+    let at-start = at-if1 .before .before in
+    runEnd-no-set (at-start .args .s) (at-start .args .lines) (at-start .args .rest .now) (at-if1 .if1 .left) (c .before .before .enum-told .given .1) (c .if2 .taken)
 
 enum-told-2 : tie.Need-enum-told-2
 enum-told-2 c = search needs
@@ -39,16 +44,25 @@ ends-inside-requires-3 : tie.Need-ends-inside-requires-3
 ends-inside-requires-3 c κs = search needs
 
 returns-3 : tie.Need-returns-3
-returns-3 c = runEnd-accepted (c .before .before .before .before .before .before .args .s) (c .before .before .before .before .before .before .args .lines) (c .before .before .before .before .before .before .args .rest .now) (c .before .before .before .before .if1 .left) (c .before .before .enum-told .given .1) (c .if2 .left)
+returns-3 c =
+    let at-if1 = c .before .before .before .before in
+    let at-start = at-if1 .before .before in
+    runEnd-accepted (at-start .args .s) (at-start .args .lines) (at-start .args .rest .now) (at-if1 .if1 .left) (c .before .before .enum-told .given .1) (c .if2 .left)
 
 returns-4 : tie.Need-returns-4
-returns-4 c = c .ends-inside .ensures ∙ runEnd-end (c .before .before .before .before .before .args .s) (c .before .before .before .before .before .args .lines) (c .before .before .before .before .before .args .rest .now) _ (c .before .before .before .if1 .left) (c .before .enum-told2 .given .1)
+returns-4 c =
+    let at-start = c .before .before .before .before .before in
+    c .ends-inside .ensures ∙ runEnd-end (at-start .args .s) (at-start .args .lines) (at-start .args .rest .now) _ (c .before .before .before .if1 .left) (c .before .enum-told2 .given .1)
 
 returns-5 : tie.Need-returns-5
-returns-5 c = c .ends-inside2 .ensures ∙ runEnd-end (c .before .before .before .before .before .args .s) (c .before .before .before .before .before .args .lines) (c .before .before .before .before .before .args .rest .now) _ (c .before .before .before .if1 .left) (c .before .enum-told3 .given .1)
+returns-5 c =
+    let at-start = c .before .before .before .before .before in
+    c .ends-inside2 .ensures ∙ runEnd-end (at-start .args .s) (at-start .args .lines) (at-start .args .rest .now) _ (c .before .before .before .if1 .left) (c .before .enum-told3 .given .1)
 
 returns-6 : tie.Need-returns-6
-returns-6 c = c .ends-inside3 .ensures ∙ runEnd-end (c .before .before .before .before .before .args .s) (c .before .before .before .before .before .args .lines) (c .before .before .before .before .before .args .rest .now) _ (c .before .before .before .if1 .left) (c .before .enum-told4 .given .1)
+returns-6 c =
+    let at-start = c .before .before .before .before .before in
+    c .ends-inside3 .ensures ∙ runEnd-end (at-start .args .s) (at-start .args .lines) (at-start .args .rest .now) _ (c .before .before .before .if1 .left) (c .before .enum-told4 .given .1)
 
 pub finish-spec : {M : Type 1} → statement M
 finish-spec =

@@ -20,7 +20,9 @@ add-t8 c = search needs
 
 returns-2 : tie.Need-returns-2
 unfolding judged
-returns-2 c = simp (le-ltb _ _ (c .before .before .before .before .if1 .left)) (whole-refused _ _ _ _ (c .before .before .before .judge-lines .ensures) (c .before .if2 .taken))
+returns-2 c =
+    let at-if1 = c .before .before .before .before in
+    simp (le-ltb _ _ (at-if1 .if1 .left)) (whole-refused _ _ _ _ (c .before .before .before .judge-lines .ensures) (c .before .if2 .taken))
 
 sub-finish : tie.Need-sub-finish
 sub-finish c = search needs
@@ -36,7 +38,11 @@ finish-requires c κs = search needs
 
 returns-3 : tie.Need-returns-3
 unfolding judged
-returns-3 c = c .finish .ensures ∙ simp (le-ltb _ _ (c .before .before .before .before .before .if1 .left)) (ap (runEnd (going (c .before .before .before .before .judge-lines .result .state) (c .before .before .before .before .judge-lines .result .lines))) (tail-part (c .before .before .before .before .before .before .before .args .file .now) (c .before .before .before .before .judge-lines .result .at)) ∙ whole-going _ _ _ _ (c .before .before .before .before .judge-lines .ensures) (c .before .before .if2 .left))
+returns-3 c =
+    let at-judge-lines = c .before .before .before .before in
+    let at-if1 = at-judge-lines .before in
+    let at-start = at-if1 .before .before in
+    c .finish .ensures ∙ simp (le-ltb _ _ (at-if1 .if1 .left)) (ap (runEnd (going (at-judge-lines .judge-lines .result .state) (at-judge-lines .judge-lines .result .lines))) (tail-part (at-start .args .file .now) (at-judge-lines .judge-lines .result .at)) ∙ whole-going _ _ _ _ (at-judge-lines .judge-lines .ensures) (c .before .before .if2 .left))
 
 pub judge-spec : {M : Type 1} → statement M
 judge-spec =

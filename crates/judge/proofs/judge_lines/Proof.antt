@@ -20,7 +20,9 @@ find-end-requires : tie.Need-find-end-requires Inv-loop μ-loop
 find-end-requires c κs = search needs
 
 loop-holds : tie.Need-loop-holds Inv-loop μ-loop
-loop-holds c = (c .before .before .pre .0, (c .find-end .ensures, (rw (c .find-end .ensures) (lineLen-within _ _ (c .before .before .pre .0)), (search needs, (refl, refl)))))
+loop-holds c =
+    let at-pre = c .before .before in
+    (at-pre .pre .0, (c .find-end .ensures, (rw (c .find-end .ensures) (lineLen-within _ _ (at-pre .pre .0)), (search needs, (refl, refl)))))
 
 sub-line-step : tie.Need-sub-line-step Inv-loop μ-loop
 sub-line-step c = search needs
@@ -41,7 +43,11 @@ enum-known-fault : tie.Need-enum-known-fault Inv-loop μ-loop
 enum-known-fault c = search needs
 
 returns : tie.Need-returns Inv-loop μ-loop
-returns c = judged-to-stop _ _ _ (c .before .before .before .before .before .before .loop .inv .0) (c .before .before .before .before .before .before .loop .inv .1 .0) _ _ _ (c .before .before .before .before .before .before .before .before .before .pre .0) _ _ (c .before .before .before .before .before .before .loop .inv .1 .1 .1 .0) (c .before .before .before .before .before .before .loop .inv .1 .1 .1 .1 .0) (c .before .before .before .before .before .loop-test .taken) _ (c .before .before .before .line-step .ensures) _ (c .before .fault .given .1)
+returns c =
+    let at-loop-test = c .before .before .before .before .before in
+    let at-loop = at-loop-test .before in
+    let at-pre = at-loop .before .before .before in
+    judged-to-stop _ _ _ (at-loop .loop .inv .0) (at-loop .loop .inv .1 .0) _ _ _ (at-pre .pre .0) _ _ (at-loop .loop .inv .1 .1 .1 .0) (at-loop .loop .inv .1 .1 .1 .1 .0) (at-loop-test .loop-test .taken) _ (c .before .before .before .line-step .ensures) _ (c .before .fault .given .1)
 
 add-n : tie.Need-add-n Inv-loop μ-loop
 add-n c = search needs
@@ -56,10 +62,16 @@ loop-less : tie.Need-loop-less Inv-loop μ-loop
 loop-less c = search needs
 
 loop-again : tie.Need-loop-again Inv-loop μ-loop
-loop-again c = (search needs, (c .find-end2 .ensures, (rw (c .find-end2 .ensures) (lineLen-within _ _ (search needs)), (search needs, (lines-next _ _ _ (c .before .before .before .before .before .before .before .loop .inv .0) (c .before .before .before .before .before .before .before .loop .inv .1 .0) (c .before .before .before .before .before .before .loop-test .taken) _ _ _ (c .before .before .before .before .line-step .ensures) _ (c .before .before .next .given .1) ∙ c .before .before .before .before .before .before .before .loop .inv .1 .1 .1 .1 .0, rest-next _ _ _ (c .before .before .before .before .before .before .before .loop .inv .0) (c .before .before .before .before .before .before .before .loop .inv .1 .0) (c .before .before .before .before .before .before .loop-test .taken) ∙ c .before .before .before .before .before .before .before .loop .inv .1 .1 .1 .1 .1)))))
+loop-again c =
+    let at-line-step = c .before .before .before .before in
+    let at-loop-test = at-line-step .before .before in
+    let at-loop = at-loop-test .before in
+    (search needs, (c .find-end2 .ensures, (rw (c .find-end2 .ensures) (lineLen-within _ _ (search needs)), (search needs, (lines-next _ _ _ (at-loop .loop .inv .0) (at-loop .loop .inv .1 .0) (at-loop-test .loop-test .taken) _ _ _ (at-line-step .line-step .ensures) _ (c .before .before .next .given .1) ∙ at-loop .loop .inv .1 .1 .1 .1 .0, rest-next _ _ _ (at-loop .loop .inv .0) (at-loop .loop .inv .1 .0) (at-loop-test .loop-test .taken) ∙ at-loop .loop .inv .1 .1 .1 .1 .1)))))
 
 returns-2 : tie.Need-returns-2 Inv-loop μ-loop
-returns-2 c = judged-to-end _ _ _ (c .before .loop .inv .0) (c .before .loop .inv .1 .0) _ _ _ (c .before .before .before .before .pre .0) _ _ (c .before .loop .inv .1 .1 .1 .0) (c .before .loop .inv .1 .1 .1 .1 .0) (c .loop-test .left) (c .before .loop .inv .1 .1 .1 .1 .1)
+returns-2 c =
+    let at-pre = c .before .before .before .before in
+    judged-to-end _ _ _ (c .before .loop .inv .0) (c .before .loop .inv .1 .0) _ _ _ (at-pre .pre .0) _ _ (c .before .loop .inv .1 .1 .1 .0) (c .before .loop .inv .1 .1 .1 .1 .0) (c .loop-test .left) (c .before .loop .inv .1 .1 .1 .1 .1)
 
 pub judge-lines-spec : {M : Type 1} → statement M
 judge-lines-spec =

@@ -17,7 +17,9 @@ line-fault-requires : tie.Need-line-fault-requires
 line-fault-requires c κs = search needs
 
 returns : tie.Need-returns
-returns c = lineStep-own _ _ _ (c .before .before .before .before .columns-len .ensures) _ (c .before .before .line-fault .ensures) (c .if1 .taken)
+returns c =
+    let at-columns-len = c .before .before .before .before in
+    lineStep-own _ _ _ (at-columns-len .columns-len .ensures) _ (c .before .before .line-fault .ensures) (c .if1 .taken)
 
 fill-line-requires : tie.Need-fill-line-requires
 fill-line-requires c κs = search needs
@@ -26,7 +28,11 @@ step-requires : tie.Need-step-requires
 step-requires c κs = search needs
 
 returns-2 : tie.Need-returns-2
-returns-2 c = c .step .ensures ∙ rw (c .before .before .fill-line .ensures) (lineStep-place _ _ _ (c .before .before .before .before .before .before .before .before .columns-len .ensures) _ (c .before .before .before .before .before .before .line-fault .ensures) (c .before .before .before .before .if1 .left))
+returns-2 c =
+    let at-if1 = c .before .before .before .before in
+    let at-line-fault = at-if1 .before .before in
+    let at-columns-len = at-line-fault .before .before in
+    c .step .ensures ∙ rw (c .before .before .fill-line .ensures) (lineStep-place _ _ _ (at-columns-len .columns-len .ensures) _ (at-line-fault .line-fault .ensures) (at-if1 .if1 .left))
 
 pub line-step-spec : {M : Type 1} → statement M
 line-step-spec =

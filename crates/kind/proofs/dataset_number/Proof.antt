@@ -41,10 +41,11 @@ positive-requires c κs = search needs
 returns-2 : tie.Need-returns-2
 unfolding datasetNumber
 returns-2 c =
+    let at-is-blank = c .before .before .before .before in
     c .positive .ensures
     ∙ simp (
       c .before .integer-field .ensures,
-      sym (simp tail-part at (c .before .before .before .before .is-blank .ensures)) ∙ not-false _ (c .before .before .before .if1 .left),
+      sym (simp tail-part at (at-is-blank .is-blank .ensures)) ∙ not-false _ (c .before .before .before .if1 .left),
     )
 
 pub dataset-number-spec : {M : Type 1} → statement M

@@ -38,9 +38,11 @@ shared-slice-read-if3 c = search needs
 
 returns-3 : tie.Need-returns-3
 returns-3 c =
+    let at-if1 = c .before .before .before .before in
+    let at-is-blank = at-if1 .before in
     simp (
       isDelimiter-columns,
-      sym (c .before .before .before .before .before .is-blank .ensures) ∙ not-false _ (c .before .before .before .before .if1 .left),
+      sym (at-is-blank .is-blank .ensures) ∙ not-false _ (at-if1 .if1 .left),
       eq-eqb _ _ (c .before .before .if2 .left),
       ne-eqb _ _ (c .if3 .taken),
     )
@@ -59,10 +61,13 @@ is-blank-requires-2 c κs = search needs
 
 returns-4 : tie.Need-returns-4
 returns-4 c =
+    let at-if2 = c .before .before .before .before in
+    let at-if1 = at-if2 .before .before in
+    let at-is-blank = at-if1 .before in
     simp (
       isDelimiter-columns,
-      sym (c .before .before .before .before .before .before .before .is-blank .ensures) ∙ not-false _ (c .before .before .before .before .before .before .if1 .left),
-      eq-eqb _ _ (c .before .before .before .before .if2 .left),
+      sym (at-is-blank .is-blank .ensures) ∙ not-false _ (at-if1 .if1 .left),
+      eq-eqb _ _ (at-if2 .if2 .left),
       eq-eqb _ _ (c .before .before .if3 .left),
     )
     (simp tail-part at (c .is-blank2 .ensures))

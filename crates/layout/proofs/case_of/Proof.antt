@@ -34,23 +34,35 @@ returns-7 c = simp (eq-eqb _ _ (c .if8 .taken), eq-eqb _ _ (c .before .if7 .take
 
 returns-8 : tie.Need-returns-8
 unfolding caseOf layouts
-returns-8 c = simp (eq-eqb _ _ (c .if9 .taken), ne-eqb _ _ (c .before .if8 .left), eq-eqb _ _ (c .before .before .if7 .taken), ne-eqb _ _ (c .before .before .before .if4 .left), ne-eqb _ _ (c .before .before .before .before .if1 .left))
+returns-8 c =
+    let at-if1 = c .before .before .before .before in
+    simp (eq-eqb _ _ (c .if9 .taken), ne-eqb _ _ (c .before .if8 .left), eq-eqb _ _ (c .before .before .if7 .taken), ne-eqb _ _ (c .before .before .before .if4 .left), ne-eqb _ _ (at-if1 .if1 .left))
 
 returns-9 : tie.Need-returns-9
 unfolding caseOf layouts
-returns-9 c = simp (ne-eqb _ _ (c .if9 .left), ne-eqb _ _ (c .before .if8 .left), c .before .before .if7 .taken, ne-eqb _ _ (c .before .before .before .if4 .left), ne-eqb _ _ (c .before .before .before .before .if1 .left))
+returns-9 c =
+    let at-if1 = c .before .before .before .before in
+    simp (ne-eqb _ _ (c .if9 .left), ne-eqb _ _ (c .before .if8 .left), c .before .before .if7 .taken, ne-eqb _ _ (c .before .before .before .if4 .left), ne-eqb _ _ (at-if1 .if1 .left))
 
 returns-10 : tie.Need-returns-10
 unfolding caseOf layouts
-returns-10 c = simp (eq-eqb _ _ (c .if11 .taken), eq-eqb _ _ (c .before .if10 .taken), ne-eqb _ _ (c .before .before .if7 .left), ne-eqb _ _ (c .before .before .before .if4 .left), ne-eqb _ _ (c .before .before .before .before .if1 .left))
+returns-10 c =
+    let at-if1 = c .before .before .before .before in
+    simp (eq-eqb _ _ (c .if11 .taken), eq-eqb _ _ (c .before .if10 .taken), ne-eqb _ _ (c .before .before .if7 .left), ne-eqb _ _ (c .before .before .before .if4 .left), ne-eqb _ _ (at-if1 .if1 .left))
 
 returns-11 : tie.Need-returns-11
 unfolding caseOf layouts
-returns-11 c = simp (eq-eqb _ _ (c .if12 .taken), ne-eqb _ _ (c .before .if11 .left), eq-eqb _ _ (c .before .before .if10 .taken), ne-eqb _ _ (c .before .before .before .if7 .left), ne-eqb _ _ (c .before .before .before .before .if4 .left), ne-eqb _ _ (c .before .before .before .before .before .if1 .left))
+returns-11 c =
+    let at-if4 = c .before .before .before .before in
+    let at-if1 = at-if4 .before in
+    simp (eq-eqb _ _ (c .if12 .taken), ne-eqb _ _ (c .before .if11 .left), eq-eqb _ _ (c .before .before .if10 .taken), ne-eqb _ _ (c .before .before .before .if7 .left), ne-eqb _ _ (at-if4 .if4 .left), ne-eqb _ _ (at-if1 .if1 .left))
 
 returns-12 : tie.Need-returns-12
 unfolding caseOf layouts
-returns-12 c = simp (ne-eqb _ _ (c .if12 .left), ne-eqb _ _ (c .before .if11 .left), c .before .before .if10 .taken, ne-eqb _ _ (c .before .before .before .if7 .left), ne-eqb _ _ (c .before .before .before .before .if4 .left), ne-eqb _ _ (c .before .before .before .before .before .if1 .left))
+returns-12 c =
+    let at-if4 = c .before .before .before .before in
+    let at-if1 = at-if4 .before in
+    simp (ne-eqb _ _ (c .if12 .left), ne-eqb _ _ (c .before .if11 .left), c .before .before .if10 .taken, ne-eqb _ _ (c .before .before .before .if7 .left), ne-eqb _ _ (at-if4 .if4 .left), ne-eqb _ _ (at-if1 .if1 .left))
 
 returns-13 : tie.Need-returns-13
 unfolding caseOf layouts

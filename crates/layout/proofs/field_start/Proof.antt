@@ -22,14 +22,18 @@ unfolding fieldStart
 loop-holds c = (search needs, refl)
 
 returns : tie.Need-returns Inv-loop μ-loop
-returns c = c .before .before .loop .inv .1 ∙ fieldStart-past _ _ _ (c .if1 .taken) (c .before .before .loop .inv .0)
+returns c =
+    let at-loop = c .before .before in
+    at-loop .loop .inv .1 ∙ fieldStart-past _ _ _ (c .if1 .taken) (at-loop .loop .inv .0)
 
 field-width-requires : tie.Need-field-width-requires Inv-loop μ-loop
 field-width-requires c κs = search needs
 
 add-at : tie.Need-add-at Inv-loop μ-loop
 unfolding fieldPast
-add-at c = omega (arith, fieldPast-inside (c .before .before .before .before .args .case) (c .before .before .before .loop .k), c .field-width .ensures)
+add-at c =
+    let at-start = c .before .before .before .before in
+    omega (arith, fieldPast-inside (at-start .args .case) (c .before .before .before .loop .k), c .field-width .ensures)
 
 add-k : tie.Need-add-k Inv-loop μ-loop
 add-k c = search needs
@@ -42,7 +46,9 @@ unfolding fieldPast
 loop-again c = (search needs, rw (add-one, fieldStart-next) (rw (c .before .before .before .loop .inv .1, c .field-width .ensures) refl))
 
 returns-2 : tie.Need-returns-2 Inv-loop μ-loop
-returns-2 c = let e : c .before .loop .k ≡ c .before .before .args .field = omega arith in c .before .loop .inv .1 ∙ ap (fieldStart (layoutOf (c .before .before .args .case) .widths)) e
+returns-2 c =
+    let at-start = c .before .before in
+    let e : c .before .loop .k ≡ at-start .args .field = omega arith in c .before .loop .inv .1 ∙ ap (fieldStart (layoutOf (at-start .args .case) .widths)) e
 
 pub field-start-spec : {M : Type 1} → statement M
 field-start-spec =

@@ -18,7 +18,9 @@ div-result : tie.Need-div-result
 div-result c = search needs
 
 returns-2 : tie.Need-returns-2
-returns-2 c = rw (c .fields-of .ensures, c .before .before .values-of .ensures) (numbersOf-quotient _ (λ e. c .before .if1 .left (c .before .before .values-of .ensures ∙ e)))
+returns-2 c =
+    let at-values-of = c .before .before in
+    rw (c .fields-of .ensures, at-values-of .values-of .ensures) (numbersOf-quotient _ (λ e. c .before .if1 .left (at-values-of .values-of .ensures ∙ e)))
 
 pub numbers-of-spec : {M : Type 1} → statement M
 numbers-of-spec =

@@ -15,19 +15,29 @@ returns : tie.Need-returns
 returns c = burst-short _ _ _ (sym (c .before .is-short .ensures) ∙ c .if1 .taken)
 
 slice-read-if2 : tie.Need-slice-read-if2
-slice-read-if2 c = omega (arith, room (length (c .before .before .before .before .before .before .args .numbers .now)) (length (c .before .before .before .before .before .before .args .line .now)) (sym (c .before .before .is-short .ensures) ∙ c .before .if1 .left) .0)
+slice-read-if2 c =
+    let at-start = c .before .before .before .before .before .before in
+    omega (arith, room (length (at-start .args .numbers .now)) (length (at-start .args .line .now)) (sym (c .before .before .is-short .ensures) ∙ c .before .if1 .left) .0)
 
 returns-2 : tie.Need-returns-2
-returns-2 c = burst-ended (c .before .before .before .before .before .before .before .args .numbers .now) (c .before .before .before .before .before .before .before .args .line .now) _ (sym (c .before .before .before .is-short .ensures) ∙ c .before .before .if1 .left) (omega (arith, c .if2 .taken))
+returns-2 c =
+    let at-start = c .before .before .before .before .before .before .before in
+    burst-ended (at-start .args .numbers .now) (at-start .args .line .now) _ (sym (c .before .before .before .is-short .ensures) ∙ c .before .before .if1 .left) (omega (arith, c .if2 .taken))
 
 record-in-requires : tie.Need-record-in-requires
-record-in-requires c κs = room _ _ (sym (c .before .before .before .before .before .is-short .ensures) ∙ c .before .before .before .before .if1 .left)
+record-in-requires c κs =
+    let at-if1 = c .before .before .before .before in
+    let at-is-short = at-if1 .before in
+    room _ _ (sym (at-is-short .is-short .ensures) ∙ at-if1 .if1 .left)
 
 after-burst-requires : tie.Need-after-burst-requires
 after-burst-requires c κs = search needs
 
 put-record-requires : tie.Need-put-record-requires
-put-record-requires c κs = room _ _ (sym (c .before .before .before .before .before .before .before .before .before .before .is-short .ensures) ∙ c .before .before .before .before .before .before .before .before .before .if1 .left)
+put-record-requires c κs =
+    let at-if1 = c .before .before .before .before .before .before .before .before .before in
+    let at-is-short = at-if1 .before in
+    room _ _ (sym (at-is-short .is-short .ensures) ∙ at-if1 .if1 .left)
 
 reply-of-requires : tie.Need-reply-of-requires
 reply-of-requires c κs = search needs
@@ -39,7 +49,15 @@ same-length-2 : tie.Need-same-length-2
 same-length-2 c = search needs
 
 returns-3 : tie.Need-returns-3
-returns-3 c = burst-further (c .before .before .before .before .before .before .before .before .before .before .before .before .before .before .before .before .before .before .before .before .args .numbers .now) (c .before .before .before .before .before .before .before .before .before .before .before .before .before .before .before .before .before .before .before .before .args .line .now) _ (sym (c .before .before .before .before .before .before .before .before .before .before .before .before .before .before .before .before .is-short .ensures) ∙ c .before .before .before .before .before .before .before .before .before .before .before .before .before .before .before .if1 .left) (omega (arith, c .before .before .before .before .before .before .before .before .before .before .before .before .before .if2 .left)) _ (c .before .before .before .before .before .before .before .before .before .before .record-in .ensures) _ (c .before .before .before .before .before .before .before .before .before .after-burst .ensures .0) (c .before .before .before .before .before .put-record .ensures .2) _ _ (c .before .before .before .before .before .put-record .ensures .0) (c .before .before .before .before .before .put-record .ensures .1) _ (c .reply-of .ensures ∙ ap paper (c .before .before .before .before .before .before .before .before .before .after-burst .ensures .1))
+returns-3 c =
+    let at-put-record = c .before .before .before .before .before in
+    let at-after-burst = at-put-record .before .before .before .before in
+    let at-record-in = at-after-burst .before in
+    let at-if2 = at-record-in .before .before .before in
+    let at-if1 = at-if2 .before .before in
+    let at-is-short = at-if1 .before in
+    let at-start = at-is-short .before .before .before .before in
+    burst-further (at-start .args .numbers .now) (at-start .args .line .now) _ (sym (at-is-short .is-short .ensures) ∙ at-if1 .if1 .left) (omega (arith, at-if2 .if2 .left)) _ (at-record-in .record-in .ensures) _ (at-after-burst .after-burst .ensures .0) (at-put-record .put-record .ensures .2) _ _ (at-put-record .put-record .ensures .0) (at-put-record .put-record .ensures .1) _ (c .reply-of .ensures ∙ ap paper (at-after-burst .after-burst .ensures .1))
 
 pub burst-spec : {M : Type 1} → statement M
 burst-spec =

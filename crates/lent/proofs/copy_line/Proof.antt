@@ -31,7 +31,10 @@ loop-less : tie.Need-loop-less Inv-loop μ-loop
 loop-less c = omega arith
 
 loop-again : tie.Need-loop-again Inv-loop μ-loop
-loop-again c = (omega arith, (simp length-set (c .before .before .loop .inv .1 .0), rw (c .before .before .loop .inv .1 .1) (copied-next (c .before .before .before .args .out .now) (c .before .before .before .args .from .now) (c .before .before .loop .i) (omega arith) (omega arith))))
+loop-again c =
+    let at-loop = c .before .before in
+    let at-start = at-loop .before in
+    (omega arith, (simp length-set (at-loop .loop .inv .1 .0), rw (at-loop .loop .inv .1 .1) (copied-next (at-start .args .out .now) (at-start .args .from .now) (at-loop .loop .i) (omega arith) (omega arith))))
 
 same-length : tie.Need-same-length Inv-loop μ-loop
 same-length c = c .before .loop .inv .1 .0

@@ -20,13 +20,18 @@ reply-requires : tie.Need-reply-requires
 reply-requires c κs = search needs
 
 slice-write-numbers : tie.Need-slice-write-numbers
-slice-write-numbers c = omega (arith, room (length (c .before .before .before .before .before .before .before .args .numbers .now)) (length (c .before .before .before .before .before .before .before .args .line .now)) (sym (c .before .before .before .before .is-short .ensures) ∙ c .before .before .before .if1 .left) .0)
+slice-write-numbers c =
+    let at-is-short = c .before .before .before .before in
+    let at-start = at-is-short .before .before .before in
+    omega (arith, room (length (at-start .args .numbers .now)) (length (at-start .args .line .now)) (sym (at-is-short .is-short .ensures) ∙ c .before .before .before .if1 .left) .0)
 
 same-length : tie.Need-same-length
 same-length c = search needs
 
 returns-2 : tie.Need-returns-2
-returns-2 c = end-says _ _ (sym (c .before .before .before .before .is-short .ensures) ∙ c .before .before .before .if1 .left) _ (c .before .record-in .ensures) _ (c .reply .ensures)
+returns-2 c =
+    let at-is-short = c .before .before .before .before in
+    end-says _ _ (sym (at-is-short .is-short .ensures) ∙ c .before .before .before .if1 .left) _ (c .before .record-in .ensures) _ (c .reply .ensures)
 
 pub end-spec : {M : Type 1} → statement M
 end-spec =

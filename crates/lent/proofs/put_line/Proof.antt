@@ -12,7 +12,9 @@ same-length : tie.Need-same-length
 same-length c = search needs
 
 returns : tie.Need-returns
-returns c = (c .before .before .copy-line .ensures ∙ whole-line (c .before .before .before .before .before .before .args .pending .now) _ (search needs), search needs)
+returns c =
+    let at-start = c .before .before .before .before .before .before in
+    (c .before .before .copy-line .ensures ∙ whole-line (at-start .args .pending .now) _ (search needs), search needs)
 
 pub put-line-spec : {M : Type 1} → statement M
 put-line-spec = tie.close (tie.spec copy-line-requires same-length returns)

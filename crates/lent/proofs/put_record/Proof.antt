@@ -38,7 +38,13 @@ same-length-2 : tie.Need-same-length-2
 same-length-2 c = search needs
 
 returns : tie.Need-returns
-returns c = (laid-record (c .before .before .before .before .before .before .before .before .before .before .before .before .before .before .before .before .before .before .before .before .args .c) (c .before .before .before .before .before .before .before .before .before .before .before .before .before .before .before .before .before .before .before .before .args .numbers .now) _ _ _ (c .before .before .before .before .before .before .before .before .before .before .before .put-place .ensures) (c .before .before .before .before .before .before .before .put-six .ensures) (c .before .before .before .before .before .before .before .before .before .before .before .before .before .before .flag .ensures), c .before .before .put-line .ensures .0, record { sets = search needs; number = search needs; pending = c .before .before .put-line .ensures .1 })
+returns c =
+    let at-put-line = c .before .before in
+    let at-put-six = at-put-line .before .before .before .before .before in
+    let at-put-place = at-put-six .before .before .before .before in
+    let at-flag = at-put-place .before .before .before in
+    let at-start = at-flag .before .before .before .before .before .before in
+    (laid-record (at-start .args .c) (at-start .args .numbers .now) _ _ _ (at-put-place .put-place .ensures) (at-put-six .put-six .ensures) (at-flag .flag .ensures), at-put-line .put-line .ensures .0, record { sets = search needs; number = search needs; pending = at-put-line .put-line .ensures .1 })
 
 pub put-record-spec : {M : Type 1} → statement M
 put-record-spec =

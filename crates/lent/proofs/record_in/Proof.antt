@@ -41,7 +41,10 @@ shared-slice-read-t24 c = search needs
 
 returns : tie.Need-returns
 unfolding streamOf
-returns c = rw (c .before .before .before .before .before .before .before .before .before .place-in .ensures, c .before .before .before .before .before .copy-line .ensures, append-nil) refl
+returns c =
+    let at-copy-line = c .before .before .before .before .before in
+    let at-place-in = at-copy-line .before .before .before .before in
+    rw (at-place-in .place-in .ensures, at-copy-line .copy-line .ensures, append-nil) refl
 
 pub record-in-spec : {M : Type 1} → statement M
 record-in-spec =

@@ -15,7 +15,9 @@ fresh-requires : tie.Need-fresh-requires
 fresh-requires c κs = search needs
 
 put-record-requires : tie.Need-put-record-requires
-put-record-requires c κs = room _ _ (sym (c .before .before .before .before .is-short .ensures) ∙ c .before .before .before .if1 .left)
+put-record-requires c κs =
+    let at-is-short = c .before .before .before .before in
+    room _ _ (sym (at-is-short .is-short .ensures) ∙ c .before .before .before .if1 .left)
 
 same-length : tie.Need-same-length
 same-length c = search needs
@@ -24,7 +26,12 @@ same-length-2 : tie.Need-same-length-2
 same-length-2 c = search needs
 
 returns-2 : tie.Need-returns-2
-returns-2 c = start-lays _ _ (sym (c .before .before .before .before .before .before .before .before .before .is-short .ensures) ∙ c .before .before .before .before .before .before .before .before .if1 .left) _ (c .before .before .before .before .before .fresh .ensures) _ _ (c .before .before .before .before .put-record .ensures .0) (c .before .before .before .before .put-record .ensures .1)
+returns-2 c =
+    let at-put-record = c .before .before .before .before in
+    let at-fresh = at-put-record .before in
+    let at-if1 = at-fresh .before .before .before in
+    let at-is-short = at-if1 .before in
+    start-lays _ _ (sym (at-is-short .is-short .ensures) ∙ at-if1 .if1 .left) _ (at-fresh .fresh .ensures) _ _ (at-put-record .put-record .ensures .0) (at-put-record .put-record .ensures .1)
 
 pub start-spec : {M : Type 1} → statement M
 start-spec =

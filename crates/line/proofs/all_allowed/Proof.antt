@@ -32,7 +32,10 @@ loop-less c = search needs
 
 loop-again : tie.Need-loop-again Inv-loop μ-loop
 unfolding isAllowed
-loop-again c = (search needs, allAllowed-next (c .before .before .before .loop .fine) (c .before .before .before .before .args .s .now) (c .before .before .before .loop .i) (c .before .before .loop-test .taken) ∙ c .before .before .before .loop .inv .1)
+loop-again c =
+    let at-loop = c .before .before .before in
+    let at-start = at-loop .before in
+    (search needs, allAllowed-next (at-loop .loop .fine) (at-start .args .s .now) (at-loop .loop .i) (c .before .before .loop-test .taken) ∙ at-loop .loop .inv .1)
 
 returns : tie.Need-returns Inv-loop μ-loop
 returns c = sym (allAllowed-end (c .before .loop .fine) (c .before .before .args .s .now) (c .before .loop .i) (c .loop-test .left)) ∙ c .before .loop .inv .1

@@ -35,10 +35,17 @@ loop-less : tie.Need-loop-less Inv-loop μ-loop
 loop-less c = search needs
 
 loop-again : tie.Need-loop-again Inv-loop μ-loop
-loop-again c = (search needs, rw (c .before .before .loop .inv .1) (filled-next (c .before .before .before .before .before .before .args .s .now) (c .before .before .loop .i) (omega (arith, c .before .before .before .at-most-80 .ensures)) (omega (arith, c .before .before .before .at-most-80 .ensures))))
+loop-again c =
+    let at-loop = c .before .before in
+    let at-at-most-80 = at-loop .before in
+    let at-start = at-at-most-80 .before .before .before in
+    (search needs, rw (at-loop .loop .inv .1) (filled-next (at-start .args .s .now) (at-loop .loop .i) (omega (arith, at-at-most-80 .at-most-80 .ensures)) (omega (arith, at-at-most-80 .at-most-80 .ensures))))
 
 returns : tie.Need-returns Inv-loop μ-loop
-returns c = c .before .loop .inv .1 ∙ filled-most (c .before .before .before .before .before .args .s .now) (c .before .loop .i) (omega (arith, c .before .before .at-most-80 .ensures)) (omega (arith, c .before .before .at-most-80 .ensures))
+returns c =
+    let at-at-most-80 = c .before .before in
+    let at-start = at-at-most-80 .before .before .before in
+    c .before .loop .inv .1 ∙ filled-most (at-start .args .s .now) (c .before .loop .i) (omega (arith, at-at-most-80 .at-most-80 .ensures)) (omega (arith, at-at-most-80 .at-most-80 .ensures))
 
 pub fill-line-spec : {M : Type 1} → statement M
 fill-line-spec =

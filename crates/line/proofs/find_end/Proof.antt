@@ -24,7 +24,9 @@ shared-slice-read-if1 : tie.Need-shared-slice-read-if1 Inv-loop μ-loop
 shared-slice-read-if1 c = search needs
 
 returns : tie.Need-returns Inv-loop μ-loop
-returns c = omega (arith, len-here (c .before .before .before .before .before .before .args .file .now) (c .before .before .before .loop .i) (c .before .before .loop-test .taken) (c .if1 .taken))
+returns c =
+    let at-start = c .before .before .before .before .before .before in
+    omega (arith, len-here (at-start .args .file .now) (c .before .before .before .loop .i) (c .before .before .loop-test .taken) (c .if1 .taken))
 
 add-i : tie.Need-add-i Inv-loop μ-loop
 add-i c = search needs
@@ -33,10 +35,14 @@ loop-less : tie.Need-loop-less Inv-loop μ-loop
 loop-less c = search needs
 
 loop-again : tie.Need-loop-again Inv-loop μ-loop
-loop-again c = omega (arith, len-next (c .before .before .before .before .before .before .args .file .now) (c .before .before .before .loop .i) (c .before .before .loop-test .taken) (c .if1 .left))
+loop-again c =
+    let at-start = c .before .before .before .before .before .before in
+    omega (arith, len-next (at-start .args .file .now) (c .before .before .before .loop .i) (c .before .before .loop-test .taken) (c .if1 .left))
 
 returns-2 : tie.Need-returns-2 Inv-loop μ-loop
-returns-2 c = omega (arith, len-end (c .before .before .before .before .args .file .now) (c .before .loop .i) (c .loop-test .left))
+returns-2 c =
+    let at-start = c .before .before .before .before in
+    omega (arith, len-end (at-start .args .file .now) (c .before .loop .i) (c .loop-test .left))
 
 pub find-end-spec : {M : Type 1} → statement M
 find-end-spec =

@@ -34,7 +34,9 @@ add-result : tie.Need-add-result Inv-loop μ-loop
 add-result c = search needs
 
 returns-2 : tie.Need-returns-2 Inv-loop μ-loop
-returns-2 c = sym (sym (c .before .before .before .before .loop .inv) ∙ firstBad-here _ _ _ (c .before .before .before .loop-test .taken) (sym (c .before .is-allowed .ensures) ∙ not-true _ (c .if2 .taken)))
+returns-2 c =
+    let at-loop = c .before .before .before .before in
+    sym (sym (at-loop .loop .inv) ∙ firstBad-here _ _ _ (c .before .before .before .loop-test .taken) (sym (c .before .is-allowed .ensures) ∙ not-true _ (c .if2 .taken)))
 
 add-i : tie.Need-add-i Inv-loop μ-loop
 add-i c = search needs
@@ -43,7 +45,9 @@ loop-less : tie.Need-loop-less Inv-loop μ-loop
 loop-less c = search needs
 
 loop-again : tie.Need-loop-again Inv-loop μ-loop
-loop-again c = sym (firstBad-next _ _ _ (c .before .before .before .loop-test .taken) (sym (c .before .is-allowed .ensures) ∙ not-false _ (c .if2 .left))) ∙ c .before .before .before .before .loop .inv
+loop-again c =
+    let at-loop = c .before .before .before .before in
+    sym (firstBad-next _ _ _ (c .before .before .before .loop-test .taken) (sym (c .before .is-allowed .ensures) ∙ not-false _ (c .if2 .left))) ∙ at-loop .loop .inv
 
 returns-3 : tie.Need-returns-3 Inv-loop μ-loop
 returns-3 c = sym (sym (c .before .loop .inv) ∙ firstBad-end _ _ _ (c .loop-test .left))

@@ -53,9 +53,11 @@ loop-less c = search needs
 
 loop-again : tie.Need-loop-again Inv-loop μ-loop
 loop-again c =
-    let n : (c .before .before .before .before .loop .i + 16) - c .before .before .before .before .loop .i ≡ 16 = omega arith in
-    let h : allAllowed (take 16 (drop (c .before .before .before .before .loop .i) (c .before .before .before .before .before .before .before .args .file .now))) ≡ true = rw n at (sym (c .before .all-allowed .ensures) ∙ not-false _ (c .if2 .left)) in
-    sym (lineLen-blocks 16 (c .before .before .before .before .before .before .before .args .file .now) (c .before .before .before .before .loop .i) (omega (arith, c .before .before .before .loop-test .taken)) h) ∙ c .before .before .before .before .loop .inv
+    let at-loop = c .before .before .before .before in
+    let at-start = at-loop .before .before .before in
+    let n : (at-loop .loop .i + 16) - at-loop .loop .i ≡ 16 = omega arith in
+    let h : allAllowed (take 16 (drop (at-loop .loop .i) (at-start .args .file .now))) ≡ true = rw n at (sym (c .before .all-allowed .ensures) ∙ not-false _ (c .if2 .left)) in
+    sym (lineLen-blocks 16 (at-start .args .file .now) (at-loop .loop .i) (omega (arith, c .before .before .before .loop-test .taken)) h) ∙ at-loop .loop .inv
 
 returns-3 : tie.Need-returns-3 Inv-loop μ-loop
 returns-3 c = search needs

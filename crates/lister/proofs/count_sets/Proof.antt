@@ -33,12 +33,15 @@ next-set-requires-2 : tie.Need-next-set-requires-2 Inv-loop μ-loop
 next-set-requires-2 c κs = let t = turn _ _ _ _ (c .before .loop .inv .0) (c .before .loop .inv .1 .0) (c .before .loop .inv .1 .1 .1 .0) (c .loop-test .taken) in (t .within, t .lines)
 
 loop-less : tie.Need-loop-less Inv-loop μ-loop
-loop-less c = let t = turn _ _ _ _ (c .before .before .loop .inv .0) (c .before .before .loop .inv .1 .0) (c .before .before .loop .inv .1 .1 .1 .0) (c .before .loop-test .taken) in omega (arith, t .onward, t .within)
+loop-less c =
+    let at-loop = c .before .before in
+    let t = turn _ _ _ _ (at-loop .loop .inv .0) (at-loop .loop .inv .1 .0) (at-loop .loop .inv .1 .1 .1 .0) (c .before .loop-test .taken) in omega (arith, t .onward, t .within)
 
 loop-again : tie.Need-loop-again Inv-loop μ-loop
 loop-again c =
-    let t = turn _ _ _ _ (c .before .before .loop .inv .0) (c .before .before .loop .inv .1 .0) (c .before .before .loop .inv .1 .1 .1 .0) (c .before .loop-test .taken) in
-    (t .within, (t .lines, (omega (arith, t .onward, c .before .before .loop .inv .1 .1 .0), (c .next-set2 .ensures, count-turn _ _ _ _ _ t ∙ c .before .before .loop .inv .1 .1 .1 .1))))
+    let at-loop = c .before .before in
+    let t = turn _ _ _ _ (at-loop .loop .inv .0) (at-loop .loop .inv .1 .0) (at-loop .loop .inv .1 .1 .1 .0) (c .before .loop-test .taken) in
+    (t .within, (t .lines, (omega (arith, t .onward, at-loop .loop .inv .1 .1 .0), (c .next-set2 .ensures, count-turn _ _ _ _ _ t ∙ at-loop .loop .inv .1 .1 .1 .1))))
 
 returns : tie.Need-returns Inv-loop μ-loop
 returns c = (count-done _ _ _ _ _ (c .before .loop .inv .1 .1 .1 .0) (c .loop-test .left) ∙ c .before .loop .inv .1 .1 .1 .1, omega (arith, c .before .loop .inv .0, c .before .loop .inv .1 .1 .0))

@@ -17,19 +17,31 @@ count-sets-requires : tie.Need-count-sets-requires
 count-sets-requires c κs = search needs
 
 mul-if2 : tie.Need-mul-if2
-mul-if2 c = omega (arith, c .count-sets .ensures .1, judged-short (c .before .before .before .before .before .before .args .file .now) (rw (c .before .before .before .judge .ensures) at (c .before .if1 .left)))
+mul-if2 c =
+    let at-start = c .before .before .before .before .before .before in
+    omega (arith, c .count-sets .ensures .1, judged-short (at-start .args .file .now) (rw (c .before .before .before .judge .ensures) at (c .before .if1 .left)))
 
 returns-2 : tie.Need-returns-2
-returns-2 c = list-short _ _ _ (c .before .before .before .before .judge .ensures) (c .before .before .if1 .left) _ (c .before .count-sets .ensures .0) (c .if2 .taken)
+returns-2 c =
+    let at-judge = c .before .before .before .before in
+    list-short _ _ _ (at-judge .judge .ensures) (c .before .before .if1 .left) _ (c .before .count-sets .ensures .0) (c .if2 .taken)
 
 put-rows-requires : tie.Need-put-rows-requires
-put-rows-requires c κs = (judged-short (c .before .before .before .before .before .before .before .before .args .file .now) (rw (c .before .before .before .before .before .judge .ensures) at (c .before .before .before .if1 .left)), rw (c .before .before .count-sets .ensures .0) at (c .before .if2 .left))
+put-rows-requires c κs =
+    let at-judge = c .before .before .before .before .before in
+    let at-start = at-judge .before .before .before in
+    (judged-short (at-start .args .file .now) (rw (at-judge .judge .ensures) at (c .before .before .before .if1 .left)), rw (c .before .before .count-sets .ensures .0) at (c .before .if2 .left))
 
 same-length : tie.Need-same-length
 same-length c = search needs
 
 returns-3 : tie.Need-returns-3
-returns-3 c = list-done _ _ _ (c .before .before .before .before .before .before .before .before .judge .ensures) (c .before .before .before .before .before .before .if1 .left) _ (c .before .before .before .before .before .count-sets .ensures .0) _ (c .before .before .before .before .if2 .left) (c .before .before .put-rows .ensures)
+returns-3 c =
+    let at-if2 = c .before .before .before .before in
+    let at-count-sets = at-if2 .before in
+    let at-if1 = at-count-sets .before in
+    let at-judge = at-if1 .before .before in
+    list-done _ _ _ (at-judge .judge .ensures) (at-if1 .if1 .left) _ (at-count-sets .count-sets .ensures .0) _ (at-if2 .if2 .left) (c .before .before .put-rows .ensures)
 
 pub list-spec : {M : Type 1} → statement M
 list-spec =

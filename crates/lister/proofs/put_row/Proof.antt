@@ -39,20 +39,27 @@ cast-row-3 : tie.Need-cast-row-3
 cast-row-3 c = search needs
 
 slice-write-row-5 : tie.Need-slice-write-row-5
-slice-write-row-5 c = simp length-set (omega (arith, c .before .before .before .before .before .before .before .pre .0))
+slice-write-row-5 c =
+    let at-pre = c .before .before .before .before .before .before .before in
+    simp length-set (omega (arith, at-pre .pre .0))
 
 cast-row-4 : tie.Need-cast-row-4
 cast-row-4 c = search needs
 
 slice-write-row-6 : tie.Need-slice-write-row-6
-slice-write-row-6 c = simp length-set (omega (arith, c .before .before .before .before .before .before .before .pre .0))
+slice-write-row-6 c =
+    let at-pre = c .before .before .before .before .before .before .before in
+    simp length-set (omega (arith, at-pre .pre .0))
 
 same-length : tie.Need-same-length
 same-length c = search needs
 
 returns : tie.Need-returns
 unfolding entryAt
-returns c = six (c .before .before .before .before .before .before .before .args .row .now) _ _ _ _ _ _ (c .before .before .before .before .before .before .before .pre .0) ∙ rw (c .before .before .before .before .declared-count .ensures, c .before .before .before .data-start .ensures .0) refl
+returns c =
+    let at-declared-count = c .before .before .before .before in
+    let at-start = at-declared-count .before .before .before in
+    six (at-start .args .row .now) _ _ _ _ _ _ (at-start .pre .0) ∙ rw (at-declared-count .declared-count .ensures, c .before .before .before .data-start .ensures .0) refl
 
 pub put-row-spec : {M : Type 1} → statement M
 put-row-spec =

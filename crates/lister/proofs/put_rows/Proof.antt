@@ -26,10 +26,14 @@ next-set-requires : tie.Need-next-set-requires Inv-loop μ-loop
 next-set-requires c κs = search needs
 
 loop-holds : tie.Need-loop-holds Inv-loop μ-loop
-loop-holds c = (search needs, (search needs, (c .next-set .ensures, (refl, (rows-count (c .before .before .before .args .file .now), (rows-start (c .before .before .before .args .file .now) (c .before .before .before .args .rows .now), refl))))))
+loop-holds c =
+    let at-start = c .before .before .before in
+    (search needs, (search needs, (c .next-set .ensures, (refl, (rows-count (at-start .args .file .now), (rows-start (at-start .args .file .now) (at-start .args .rows .now), refl))))))
 
 add-past : tie.Need-add-past Inv-loop μ-loop
-add-past c = omega (arith, rows-room _ _ _ _ _ _ (turn _ _ _ _ (c .before .loop .inv .0) (c .before .loop .inv .1 .0) (c .before .loop .inv .1 .1 .0) (c .loop-test .taken)) (c .before .loop .inv .1 .1 .1 .1 .0) (c .before .before .before .before .before .pre .1), c .before .loop .inv .1 .1 .1 .0)
+add-past c =
+    let at-pre = c .before .before .before .before .before in
+    omega (arith, rows-room _ _ _ _ _ _ (turn _ _ _ _ (c .before .loop .inv .0) (c .before .loop .inv .1 .0) (c .before .loop .inv .1 .1 .0) (c .loop-test .taken)) (c .before .loop .inv .1 .1 .1 .1 .0) (at-pre .pre .1), c .before .loop .inv .1 .1 .1 .0)
 
 mul-put-row : tie.Need-mul-put-row Inv-loop μ-loop
 mul-put-row c = search needs
@@ -41,36 +45,50 @@ part-put-row-start : tie.Need-part-put-row-start Inv-loop μ-loop
 part-put-row-start c = search needs
 
 part-put-row-end : tie.Need-part-put-row-end Inv-loop μ-loop
-part-put-row-end c = omega (arith, rows-room _ _ _ _ _ _ (turn _ _ _ _ (c .before .loop .inv .0) (c .before .loop .inv .1 .0) (c .before .loop .inv .1 .1 .0) (c .loop-test .taken)) (c .before .loop .inv .1 .1 .1 .1 .0) (c .before .before .before .before .before .pre .1), c .before .loop .inv .1 .1 .1 .0)
+part-put-row-end c =
+    let at-pre = c .before .before .before .before .before in
+    omega (arith, rows-room _ _ _ _ _ _ (turn _ _ _ _ (c .before .loop .inv .0) (c .before .loop .inv .1 .0) (c .before .loop .inv .1 .1 .0) (c .loop-test .taken)) (c .before .loop .inv .1 .1 .1 .1 .0) (at-pre .pre .1), c .before .loop .inv .1 .1 .1 .0)
 
 put-row-requires : tie.Need-put-row-requires Inv-loop μ-loop
 put-row-requires c κs =
-    let t = turn _ _ _ _ (c .before .before .loop .inv .0) (c .before .before .loop .inv .1 .0) (c .before .before .loop .inv .1 .1 .0) (c .before .loop-test .taken) in
+    let at-loop = c .before .before in
+    let at-pre = at-loop .before .before .before .before in
+    let t = turn _ _ _ _ (at-loop .loop .inv .0) (at-loop .loop .inv .1 .0) (at-loop .loop .inv .1 .1 .0) (c .before .loop-test .taken) in
     let p = rows-places _ _ _ _ t in
-    (row-length (c .before .before .loop .rows) (c .before .before .loop .i) (omega (arith, rows-room _ _ _ _ _ _ (turn _ _ _ _ (c .before .before .loop .inv .0) (c .before .before .loop .inv .1 .0) (c .before .before .loop .inv .1 .1 .0) (c .before .loop-test .taken)) (c .before .before .loop .inv .1 .1 .1 .1 .0) (c .before .before .before .before .before .before .pre .1), c .before .before .loop .inv .1 .1 .1 .0)), (c .before .before .before .before .before .before .pre .0, (p .body, (p .lines, (p .first, t .within)))))
+    (row-length (at-loop .loop .rows) (at-loop .loop .i) (omega (arith, rows-room _ _ _ _ _ _ (turn _ _ _ _ (at-loop .loop .inv .0) (at-loop .loop .inv .1 .0) (at-loop .loop .inv .1 .1 .0) (c .before .loop-test .taken)) (at-loop .loop .inv .1 .1 .1 .1 .0) (at-pre .pre .1), at-loop .loop .inv .1 .1 .1 .0)), (at-pre .pre .0, (p .body, (p .lines, (p .first, t .within)))))
 
 next-set-requires-2 : tie.Need-next-set-requires-2 Inv-loop μ-loop
-next-set-requires-2 c κs = let t = turn _ _ _ _ (c .before .before .before .before .before .loop .inv .0) (c .before .before .before .before .before .loop .inv .1 .0) (c .before .before .before .before .before .loop .inv .1 .1 .0) (c .before .before .before .before .loop-test .taken) in (t .within, t .lines)
+next-set-requires-2 c κs =
+    let at-loop-test = c .before .before .before .before in
+    let at-loop = at-loop-test .before in
+    let t = turn _ _ _ _ (at-loop .loop .inv .0) (at-loop .loop .inv .1 .0) (at-loop .loop .inv .1 .1 .0) (at-loop-test .loop-test .taken) in (t .within, t .lines)
 
 loop-less : tie.Need-loop-less Inv-loop μ-loop
-loop-less c = let t = turn _ _ _ _ (c .before .before .before .before .before .before .loop .inv .0) (c .before .before .before .before .before .before .loop .inv .1 .0) (c .before .before .before .before .before .before .loop .inv .1 .1 .0) (c .before .before .before .before .before .loop-test .taken) in omega (arith, t .onward, t .within)
+loop-less c =
+    let at-loop-test = c .before .before .before .before .before in
+    let at-loop = at-loop-test .before in
+    let t = turn _ _ _ _ (at-loop .loop .inv .0) (at-loop .loop .inv .1 .0) (at-loop .loop .inv .1 .1 .0) (at-loop-test .loop-test .taken) in omega (arith, t .onward, t .within)
 
 loop-again : tie.Need-loop-again Inv-loop μ-loop
 loop-again c =
-    let t = turn _ _ _ _ (c .before .before .before .before .before .before .loop .inv .0) (c .before .before .before .before .before .before .loop .inv .1 .0) (c .before .before .before .before .before .before .loop .inv .1 .1 .0) (c .before .before .before .before .before .loop-test .taken) in
-    let l : c .before .before .before .before .before .before .loop .i + 6 ≤ length (c .before .before .before .before .before .before .loop .rows) = omega (arith, rows-room _ _ _ _ _ _ t (c .before .before .before .before .before .before .loop .inv .1 .1 .1 .1 .0) (c .before .before .before .before .before .before .before .before .before .before .pre .1), c .before .before .before .before .before .before .loop .inv .1 .1 .1 .0) in (
+    let at-put-row = c .before .before .before in
+    let at-loop-test = at-put-row .before .before in
+    let at-loop = at-loop-test .before in
+    let at-pre = at-loop .before .before .before .before in
+    let t = turn _ _ _ _ (at-loop .loop .inv .0) (at-loop .loop .inv .1 .0) (at-loop .loop .inv .1 .1 .0) (at-loop-test .loop-test .taken) in
+    let l : at-loop .loop .i + 6 ≤ length (at-loop .loop .rows) = omega (arith, rows-room _ _ _ _ _ _ t (at-loop .loop .inv .1 .1 .1 .1 .0) (at-pre .pre .1), at-loop .loop .inv .1 .1 .1 .0) in (
       t .within,
       (
         t .lines,
         (
           c .next-set2 .ensures,
           (
-            same-len-mid {X = ℕ} (c .before .before .before .before .before .before .loop .i) (c .before .before .before .before .before .before .loop .i + 6 - c .before .before .before .before .before .before .loop .i) (c .before .before .before .before .before .before .loop .rows) (c .before .before .before .put-row .last .0) (c .before .before .before .put-row .kept .0) ∙ c .before .before .before .before .before .before .loop .inv .1 .1 .1 .0,
+            same-len-mid {X = ℕ} (at-loop .loop .i) (at-loop .loop .i + 6 - at-loop .loop .i) (at-loop .loop .rows) (at-put-row .put-row .last .0) (at-put-row .put-row .kept .0) ∙ at-loop .loop .inv .1 .1 .1 .0,
             (
-              rows-left _ _ _ _ _ t ∙ c .before .before .before .before .before .before .loop .inv .1 .1 .1 .1 .0,
+              rows-left _ _ _ _ _ t ∙ at-loop .loop .inv .1 .1 .1 .1 .0,
               (
-                rows-turn _ _ _ _ _ _ _ t l (c .before .before .before .put-row .ensures) ∙ c .before .before .before .before .before .before .loop .inv .1 .1 .1 .1 .1 .0,
-                rows-kept _ _ _ _ _ _ _ t l (c .before .before .before .put-row .ensures) _ (c .before .before .before .before .before .before .loop .inv .1 .1 .1 .1 .1 .1),
+                rows-turn _ _ _ _ _ _ _ t l (at-put-row .put-row .ensures) ∙ at-loop .loop .inv .1 .1 .1 .1 .1 .0,
+                rows-kept _ _ _ _ _ _ _ t l (at-put-row .put-row .ensures) _ (at-loop .loop .inv .1 .1 .1 .1 .1 .1),
               ),
             ),
           ),

@@ -50,7 +50,8 @@ slice-aggregate-show-sets c = search needs
 
 show-sets-requires : tie.Need-show-sets-requires
 show-sets-requires c κs =
-    let l = c .before .before .before .before .before .before .list in
+    let at-list = c .before .before .before .before .before .before in
+    let l = at-list .list in
     omega (arith, rows-fit _ _ _ (l .ensures .0) (c .before .before .before .if1 .left), l .kept .1 .0)
 
 slice-aggregate-put-2 : tie.Need-slice-aggregate-put-2

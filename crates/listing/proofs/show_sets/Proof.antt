@@ -37,7 +37,9 @@ part-show-set-end : tie.Need-part-show-set-end Inv-loop μ-loop
 part-show-set-end c = search needs
 
 show-set-requires : tie.Need-show-set-requires Inv-loop μ-loop
-show-set-requires c κs = row-length (c .before .before .before .before .args .rows .now) (6 * c .before .before .loop .set) (omega arith)
+show-set-requires c κs =
+    let at-start = c .before .before .before .before in
+    row-length (at-start .args .rows .now) (6 * c .before .before .loop .set) (omega arith)
 
 loop-less : tie.Need-loop-less Inv-loop μ-loop
 loop-less c = search needs

@@ -23,13 +23,18 @@ loop-holds c =
     (search needs, (search needs, rw z refl))
 
 returns : tie.Need-returns Inv-loop μ-loop
-returns c = (sym (skip-stops _ _ _ _ (c .if1 .taken)) ∙ c .before .before .loop .inv .1 .1, c .before .before .loop .inv .0)
+returns c =
+    let at-loop = c .before .before in
+    (sym (skip-stops _ _ _ _ (c .if1 .taken)) ∙ at-loop .loop .inv .1 .1, at-loop .loop .inv .0)
 
 find-end-requires : tie.Need-find-end-requires Inv-loop μ-loop
 find-end-requires c κs = search needs
 
 returns-2 : tie.Need-returns-2 Inv-loop μ-loop
-returns-2 c = (sym (skip-none _ _ _ _ (lines-end (c .before .before .before .before .before .before .args .file .now) _ _ (c .before .before .before .before .loop .inv .0) (c .before .find-end .ensures) (c .if2 .taken))) ∙ c .before .before .before .before .loop .inv .1 .1, c .before .before .before .before .loop .inv .0)
+returns-2 c =
+    let at-loop = c .before .before .before .before in
+    let at-start = at-loop .before .before in
+    (sym (skip-none _ _ _ _ (lines-end (at-start .args .file .now) _ _ (at-loop .loop .inv .0) (c .before .find-end .ensures) (c .if2 .taken))) ∙ at-loop .loop .inv .1 .1, at-loop .loop .inv .0)
 
 add-at : tie.Need-add-at Inv-loop μ-loop
 add-at c = search needs
@@ -42,8 +47,10 @@ loop-less c = search needs
 
 loop-again : tie.Need-loop-again Inv-loop μ-loop
 loop-again c =
-    let z : c .before .before .before .before .before .before .args .k - (c .before .before .before .before .loop .i + 1) ≡ c .before .before .before .before .before .before .args .k - c .before .before .before .before .loop .i - 1 = omega arith in
-    (search needs, (search needs, rw z (sym (skip-next (c .before .before .before .before .before .before .args .file .now) _ _ _ _ (omega (arith, c .before .before .before .loop-test .taken)) (c .before .before .if1 .left) (c .before .before .before .before .loop .inv .0) (c .before .find-end .ensures) (c .if2 .left)) ∙ c .before .before .before .before .loop .inv .1 .1)))
+    let at-loop = c .before .before .before .before in
+    let at-start = at-loop .before .before in
+    let z : at-start .args .k - (at-loop .loop .i + 1) ≡ at-start .args .k - at-loop .loop .i - 1 = omega arith in
+    (search needs, (search needs, rw z (sym (skip-next (at-start .args .file .now) _ _ _ _ (omega (arith, c .before .before .before .loop-test .taken)) (c .before .before .if1 .left) (at-loop .loop .inv .0) (c .before .find-end .ensures) (c .if2 .left)) ∙ at-loop .loop .inv .1 .1)))
 
 returns-3 : tie.Need-returns-3 Inv-loop μ-loop
 returns-3 c = (sym (skip-done _ _ _ _ (omega (arith, c .loop-test .left))) ∙ c .before .loop .inv .1 .1, c .before .loop .inv .0)

@@ -44,7 +44,10 @@ add-t15 : tie.Need-add-t15 Inv-loop μ-loop
 add-t15 c = search needs
 
 returns : tie.Need-returns Inv-loop μ-loop
-returns c = scan-closes _ _ (c .before .before .before .before .before .before .before .args .file .now) _ _ (c .before .before .before .before .loop .inv .0) (c .before .before .before .before .loop .inv .1 .0) _ (c .before .closes-set .ensures) (c .if1 .taken) (c .before .before .before .loop-test .taken) ∙ c .before .before .before .before .loop .inv .1 .1 .1 .1
+returns c =
+    let at-loop = c .before .before .before .before in
+    let at-start = at-loop .before .before .before in
+    scan-closes _ _ (at-start .args .file .now) _ _ (at-loop .loop .inv .0) (at-loop .loop .inv .1 .0) _ (c .before .closes-set .ensures) (c .if1 .taken) (c .before .before .before .loop-test .taken) ∙ at-loop .loop .inv .1 .1 .1 .1
 
 sub-seen-step : tie.Need-sub-seen-step Inv-loop μ-loop
 sub-seen-step c = search needs
@@ -71,10 +74,17 @@ loop-less : tie.Need-loop-less Inv-loop μ-loop
 loop-less c = search needs
 
 loop-again : tie.Need-loop-again Inv-loop μ-loop
-loop-again c = (search needs, (c .find-end2 .ensures, (rw (c .find-end2 .ensures) (lineLen-within _ _ (search needs)), (search needs, scan-next _ _ (c .before .before .before .before .before .before .before .before .before .before .args .file .now) _ _ (c .before .before .before .before .before .before .before .loop .inv .0) (c .before .before .before .before .before .before .before .loop .inv .1 .0) _ _ (c .before .before .before .before .closes-set .ensures) (c .before .before .before .if1 .left) (c .before .seen-step .ensures) (c .before .before .before .before .before .before .loop-test .taken) ∙ c .before .before .before .before .before .before .before .loop .inv .1 .1 .1 .1))))
+loop-again c =
+    let at-closes-set = c .before .before .before .before in
+    let at-loop-test = at-closes-set .before .before in
+    let at-loop = at-loop-test .before in
+    let at-start = at-loop .before .before .before in
+    (search needs, (c .find-end2 .ensures, (rw (c .find-end2 .ensures) (lineLen-within _ _ (search needs)), (search needs, scan-next _ _ (at-start .args .file .now) _ _ (at-loop .loop .inv .0) (at-loop .loop .inv .1 .0) _ _ (at-closes-set .closes-set .ensures) (c .before .before .before .if1 .left) (c .before .seen-step .ensures) (at-loop-test .loop-test .taken) ∙ at-loop .loop .inv .1 .1 .1 .1))))
 
 returns-2 : tie.Need-returns-2 Inv-loop μ-loop
-returns-2 c = scan-ends _ _ (c .before .before .before .before .args .file .now) _ _ (c .before .loop .inv .0) (c .before .loop .inv .1 .0) (c .loop-test .left) ∙ c .before .loop .inv .1 .1 .1 .1
+returns-2 c =
+    let at-start = c .before .before .before .before in
+    scan-ends _ _ (at-start .args .file .now) _ _ (c .before .loop .inv .0) (c .before .loop .inv .1 .0) (c .loop-test .left) ∙ c .before .loop .inv .1 .1 .1 .1
 
 pub next-set-spec : {M : Type 1} → statement M
 next-set-spec =

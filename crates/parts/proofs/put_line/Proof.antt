@@ -21,7 +21,9 @@ put-columns-requires : tie.Need-put-columns-requires
 put-columns-requires c κs = search needs
 
 returns : tie.Need-returns
-returns c = c .put-columns .ensures ∙ columnsAt-none (c .before .before .before .before .before .args .file .now) _ _ (c .before .before .before .if1 .taken)
+returns c =
+    let at-start = c .before .before .before .before .before in
+    c .put-columns .ensures ∙ columnsAt-none (at-start .args .file .now) _ _ (c .before .before .before .if1 .taken)
 
 find-end-requires : tie.Need-find-end-requires
 find-end-requires c κs = search needs
@@ -33,13 +35,18 @@ part-put-columns-start-2 : tie.Need-part-put-columns-start-2
 part-put-columns-start-2 c = search needs
 
 part-put-columns-end-2 : tie.Need-part-put-columns-end-2
-part-put-columns-end-2 c = omega (arith, c .before .find-end .ensures, lineLen-within (c .before .before .before .before .args .file .now) (c .before .before .before .before .args .at) (search needs))
+part-put-columns-end-2 c =
+    let at-start = c .before .before .before .before in
+    omega (arith, c .before .find-end .ensures, lineLen-within (at-start .args .file .now) (at-start .args .at) (search needs))
 
 put-columns-requires-2 : tie.Need-put-columns-requires-2
 put-columns-requires-2 c κs = search needs
 
 returns-2 : tie.Need-returns-2
-returns-2 c = c .put-columns2 .ensures ∙ columnsAt-line (c .before .before .before .before .before .before .args .file .now) _ _ _ (c .before .before .before .before .if1 .left) (c .before .before .before .find-end .ensures)
+returns-2 c =
+    let at-if1 = c .before .before .before .before in
+    let at-start = at-if1 .before .before in
+    c .put-columns2 .ensures ∙ columnsAt-line (at-start .args .file .now) _ _ _ (at-if1 .if1 .left) (c .before .before .before .find-end .ensures)
 
 pub put-line-spec : {M : Type 1} → statement M
 put-line-spec =

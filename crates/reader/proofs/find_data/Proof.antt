@@ -18,19 +18,37 @@ returns-2 : tie.Need-returns-2
 returns-2 c = data-none _ _ _ (c .before .before .before .if1 .left) (c .before .before .find-set .ensures) (not-true _ (c .if2 .taken))
 
 returns-3 : tie.Need-returns-3
-returns-3 c = data-other _ _ _ (c .before .before .before .before .before .if1 .left) (c .before .before .before .before .find-set .ensures) (not-false _ (c .before .before .if2 .left)) (c .if3 .taken)
+returns-3 c =
+    let at-find-set = c .before .before .before .before in
+    let at-if1 = at-find-set .before in
+    data-other _ _ _ (at-if1 .if1 .left) (at-find-set .find-set .ensures) (not-false _ (c .before .before .if2 .left)) (c .if3 .taken)
 
 case-in-requires : tie.Need-case-in-requires
-case-in-requires c κs = body-within _ _ _ (c .before .before .before .before .before .if1 .left) (c .before .before .before .before .find-set .ensures) (not-false _ (c .before .before .if2 .left))
+case-in-requires c κs =
+    let at-find-set = c .before .before .before .before in
+    let at-if1 = at-find-set .before in
+    body-within _ _ _ (at-if1 .if1 .left) (at-find-set .find-set .ensures) (not-false _ (c .before .before .if2 .left))
 
 returns-4 : tie.Need-returns-4
-returns-4 c = data-no-case _ _ _ (c .before .before .before .before .before .before .before .if1 .left) (c .before .before .before .before .before .before .find-set .ensures) (not-false _ (c .before .before .before .before .if2 .left)) (c .before .before .if3 .left) _ (c .before .case-in .ensures) (c .if4 .taken)
+returns-4 c =
+    let at-if2 = c .before .before .before .before in
+    let at-find-set = at-if2 .before .before in
+    let at-if1 = at-find-set .before in
+    data-no-case _ _ _ (at-if1 .if1 .left) (at-find-set .find-set .ensures) (not-false _ (at-if2 .if2 .left)) (c .before .before .if3 .left) _ (c .before .case-in .ensures) (c .if4 .taken)
 
 count-in-requires : tie.Need-count-in-requires
-count-in-requires c κs = body-within _ _ _ (c .before .before .before .before .before .before .before .if1 .left) (c .before .before .before .before .before .before .find-set .ensures) (not-false _ (c .before .before .before .before .if2 .left))
+count-in-requires c κs =
+    let at-if2 = c .before .before .before .before in
+    let at-find-set = at-if2 .before .before in
+    let at-if1 = at-find-set .before in
+    body-within _ _ _ (at-if1 .if1 .left) (at-find-set .find-set .ensures) (not-false _ (at-if2 .if2 .left))
 
 returns-5 : tie.Need-returns-5
-returns-5 c = data-found _ _ _ (c .before .before .before .before .before .before .before .before .if1 .left) (c .before .before .before .before .before .before .before .find-set .ensures) (not-false _ (c .before .before .before .before .before .if2 .left)) (c .before .before .before .if3 .left) _ (c .before .before .case-in .ensures) (c .before .if4 .left) _ (c .count-in .ensures)
+returns-5 c =
+    let at-if2 = c .before .before .before .before .before in
+    let at-find-set = at-if2 .before .before in
+    let at-if1 = at-find-set .before in
+    data-found _ _ _ (at-if1 .if1 .left) (at-find-set .find-set .ensures) (not-false _ (at-if2 .if2 .left)) (c .before .before .before .if3 .left) _ (c .before .before .case-in .ensures) (c .before .if4 .left) _ (c .count-in .ensures)
 
 pub find-data-spec : {M : Type 1} → statement M
 find-data-spec =

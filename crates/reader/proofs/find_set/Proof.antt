@@ -23,7 +23,10 @@ next-set-requires : tie.Need-next-set-requires Inv-loop μ-loop
 next-set-requires c κs = search needs
 
 returns : tie.Need-returns Inv-loop μ-loop
-returns c = no-set (c .before .before .before .before .before .before .args .file .now) (c .before .before .before .before .loop .i) _ _ _ (c .before .before .before .before .loop .inv .0) (c .before .before .before .before .loop .inv .1 .1 .1) (c .before .before .next-set .ensures) _ (c .before .before .before .before .loop .inv .1 .1 .0) (not-true _ (c .if1 .taken))
+returns c =
+    let at-loop = c .before .before .before .before in
+    let at-start = at-loop .before .before in
+    no-set (at-start .args .file .now) (at-loop .loop .i) _ _ _ (at-loop .loop .inv .0) (at-loop .loop .inv .1 .1 .1) (c .before .before .next-set .ensures) _ (at-loop .loop .inv .1 .1 .0) (not-true _ (c .if1 .taken))
 
 add-i : tie.Need-add-i Inv-loop μ-loop
 add-i c = search needs
@@ -32,13 +35,19 @@ loop-less : tie.Need-loop-less Inv-loop μ-loop
 loop-less c = search needs
 
 loop-again : tie.Need-loop-again Inv-loop μ-loop
-loop-again c = let t = turn (c .before .before .before .before .before .before .args .file .now) (c .before .before .before .before .loop .i) _ _ _ (c .before .before .before .before .loop .inv .0) (c .before .before .before .before .loop .inv .1 .1 .1) (c .before .before .next-set .ensures) (c .before .before .before .before .loop .inv .1 .0) (not-false _ (c .if1 .left)) in (t .within, (t .lines, (search needs, t .sets)))
+loop-again c =
+    let at-loop = c .before .before .before .before in
+    let at-start = at-loop .before .before in
+    let t = turn (at-start .args .file .now) (at-loop .loop .i) _ _ _ (at-loop .loop .inv .0) (at-loop .loop .inv .1 .1 .1) (c .before .before .next-set .ensures) (at-loop .loop .inv .1 .0) (not-false _ (c .if1 .left)) in (t .within, (t .lines, (search needs, t .sets)))
 
 next-set-requires-2 : tie.Need-next-set-requires-2 Inv-loop μ-loop
 next-set-requires-2 c κs = search needs
 
 returns-2 : tie.Need-returns-2 Inv-loop μ-loop
-returns-2 c = set-found (c .before .before .before .before .args .file .now) (c .before .before .loop .i) _ _ _ (c .before .before .loop .inv .0) (c .before .before .loop .inv .1 .1 .1) (c .next-set2 .ensures) _ (c .before .before .loop .inv .1 .1 .0) (c .before .loop-test .left)
+returns-2 c =
+    let at-loop = c .before .before in
+    let at-start = at-loop .before .before in
+    set-found (at-start .args .file .now) (at-loop .loop .i) _ _ _ (at-loop .loop .inv .0) (at-loop .loop .inv .1 .1 .1) (c .next-set2 .ensures) _ (at-loop .loop .inv .1 .1 .0) (c .before .loop-test .left)
 
 pub find-set-spec : {M : Type 1} → statement M
 find-set-spec =

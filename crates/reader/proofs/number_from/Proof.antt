@@ -18,13 +18,17 @@ numbers-of-requires : tie.Need-numbers-of-requires
 numbers-of-requires c κs = search needs
 
 mul-stored : tie.Need-mul-stored
-mul-stored c = let h : c .before .before .find-data .result .count * c .numbers-of .result ≤ c .before .before .find-data .result .count * 3 = start-most _ _ _ (data-inside _ _ _ (c .before .before .find-data .ensures) .1) (c .numbers-of .ensures) in search needs
+mul-stored c =
+    let at-find-data = c .before .before in
+    let h : at-find-data .find-data .result .count * c .numbers-of .result ≤ at-find-data .find-data .result .count * 3 = start-most _ _ _ (data-inside _ _ _ (at-find-data .find-data .ensures) .1) (c .numbers-of .ensures) in search needs
 
 no-number-requires : tie.Need-no-number-requires
 no-number-requires c κs = search needs
 
 returns : tie.Need-returns
-returns c = c .no-number .ensures ∙ number-none _ _ _ (c .before .before .before .before .find-data .ensures) _ _ (c .before .before .numbers-of .ensures) (c .before .if1 .taken)
+returns c =
+    let at-find-data = c .before .before .before .before in
+    c .no-number .ensures ∙ number-none _ _ _ (at-find-data .find-data .ensures) _ _ (c .before .before .numbers-of .ensures) (c .before .if1 .taken)
 
 span-of-requires : tie.Need-span-of-requires
 span-of-requires c κs = let h = data-inside _ _ _ (c .before .before .before .find-data .ensures) in (h .0, (h .1, search needs))
@@ -48,13 +52,28 @@ no-number-requires-3 : tie.Need-no-number-requires-3
 no-number-requires-3 c κs = search needs
 
 returns-2 : tie.Need-returns-2
-returns-2 c = ap (shownOf _ _) (sym (c .before .n .given .1)) ∙ number-shown _ _ _ (c .before .before .before .before .before .before .before .before .find-data .ensures) _ _ _ _ (c .before .before .before .before .before .before .numbers-of .ensures) (c .before .before .before .before .before .if1 .left) (c .before .before .before .before .span-of .ensures) (c .before .before .before .read-in .ensures)
+returns-2 c =
+    let at-span-of = c .before .before .before .before in
+    let at-if1 = at-span-of .before in
+    let at-numbers-of = at-if1 .before in
+    let at-find-data = at-numbers-of .before .before in
+    ap (shownOf _ _) (sym (c .before .n .given .1)) ∙ number-shown _ _ _ (at-find-data .find-data .ensures) _ _ _ _ (at-numbers-of .numbers-of .ensures) (at-if1 .if1 .left) (at-span-of .span-of .ensures) (c .before .before .before .read-in .ensures)
 
 returns-3 : tie.Need-returns-3
-returns-3 c = c .no-number2 .ensures ∙ ap (shownOf _ _) (sym (c .before .enum-told .given .1)) ∙ number-shown _ _ _ (c .before .before .before .before .before .before .before .before .find-data .ensures) _ _ _ _ (c .before .before .before .before .before .before .numbers-of .ensures) (c .before .before .before .before .before .if1 .left) (c .before .before .before .before .span-of .ensures) (c .before .before .before .read-in .ensures)
+returns-3 c =
+    let at-span-of = c .before .before .before .before in
+    let at-if1 = at-span-of .before in
+    let at-numbers-of = at-if1 .before in
+    let at-find-data = at-numbers-of .before .before in
+    c .no-number2 .ensures ∙ ap (shownOf _ _) (sym (c .before .enum-told .given .1)) ∙ number-shown _ _ _ (at-find-data .find-data .ensures) _ _ _ _ (at-numbers-of .numbers-of .ensures) (at-if1 .if1 .left) (at-span-of .span-of .ensures) (c .before .before .before .read-in .ensures)
 
 returns-4 : tie.Need-returns-4
-returns-4 c = c .no-number3 .ensures ∙ ap (shownOf _ _) (sym (c .before .enum-told2 .given .1)) ∙ number-shown _ _ _ (c .before .before .before .before .before .before .before .before .find-data .ensures) _ _ _ _ (c .before .before .before .before .before .before .numbers-of .ensures) (c .before .before .before .before .before .if1 .left) (c .before .before .before .before .span-of .ensures) (c .before .before .before .read-in .ensures)
+returns-4 c =
+    let at-span-of = c .before .before .before .before in
+    let at-if1 = at-span-of .before in
+    let at-numbers-of = at-if1 .before in
+    let at-find-data = at-numbers-of .before .before in
+    c .no-number3 .ensures ∙ ap (shownOf _ _) (sym (c .before .enum-told2 .given .1)) ∙ number-shown _ _ _ (at-find-data .find-data .ensures) _ _ _ _ (at-numbers-of .numbers-of .ensures) (at-if1 .if1 .left) (at-span-of .span-of .ensures) (c .before .before .before .read-in .ensures)
 
 pub number-from-spec : {M : Type 1} → statement M
 number-from-spec =

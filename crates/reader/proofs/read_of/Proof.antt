@@ -25,11 +25,15 @@ enum-told-3 c = search needs
 
 returns : tie.Need-returns
 unfolding readOf
-returns c = rw (c .before .before .before .before .before .x .given .1, sym (c .before .before .before .exact-f64 .ensures), c .before .v .given .1) refl
+returns c =
+    let at-x = c .before .before .before .before .before in
+    rw (at-x .x .given .1, sym (c .before .before .before .exact-f64 .ensures), c .before .v .given .1) refl
 
 returns-2 : tie.Need-returns-2
 unfolding readOf
-returns-2 c = rw (c .before .before .before .before .x .given .1, sym (c .before .before .exact-f64 .ensures), c .enum-told .given .1) refl
+returns-2 c =
+    let at-x = c .before .before .before .before in
+    rw (at-x .x .given .1, sym (c .before .before .exact-f64 .ensures), c .enum-told .given .1) refl
 
 returns-3 : tie.Need-returns-3
 unfolding readOf

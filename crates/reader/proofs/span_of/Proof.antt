@@ -16,7 +16,9 @@ div-line-start : tie.Need-div-line-start
 div-line-start c = rw (c .fields-of .ensures) (fieldsOf-some (c .before .before .args .d .case) (search needs))
 
 add-line-start : tie.Need-add-line-start
-add-line-start c = let h : c .before .before .args .j / c .fields-of .result ≤ c .before .before .args .j = div-le-self _ _ in search needs
+add-line-start c =
+    let at-start = c .before .before in
+    let h : at-start .args .j / c .fields-of .result ≤ at-start .args .j = div-le-self _ _ in search needs
 
 line-start-requires : tie.Need-line-start-requires
 line-start-requires c κs = search needs
@@ -28,7 +30,9 @@ field-start-requires : tie.Need-field-start-requires
 field-start-requires c κs = search needs
 
 add-first : tie.Need-add-first
-add-first c = let h : c .field-start .result + getD (layoutOf (c .before .before .before .before .args .d .case) .widths) (c .before .before .before .before .args .j % c .before .before .fields-of .result) 0 ≤ 80 = rw (c .field-start .ensures) (start-inside _ _) in search needs
+add-first c =
+    let at-start = c .before .before .before .before in
+    let h : c .field-start .result + getD (layoutOf (at-start .args .d .case) .widths) (at-start .args .j % c .before .before .fields-of .result) 0 ≤ 80 = rw (c .field-start .ensures) (start-inside _ _) in search needs
 
 field-width-requires : tie.Need-field-width-requires
 field-width-requires c κs = search needs

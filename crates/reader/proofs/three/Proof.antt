@@ -34,15 +34,23 @@ refuse-requires-3 c κs = search needs
 
 returns : tie.Need-returns
 unfolding whole
-returns c = rw (c .before .before .before .before .before .before .before .a .given .1, c .before .before .before .before .b .given .1, c .before .c .given .1) refl
+returns c =
+    let at-b = c .before .before .before .before in
+    let at-a = at-b .before .before .before in
+    rw (at-a .a .given .1, at-b .b .given .1, c .before .c .given .1) refl
 
 returns-2 : tie.Need-returns-2
 unfolding whole
-returns-2 c = c .refuse .ensures ∙ rw (c .before .before .before .before .before .before .before .before .a .given .1, c .before .before .before .before .before .b .given .1, c .before .before .c2 .given .1) refl
+returns-2 c =
+    let at-b = c .before .before .before .before .before in
+    let at-a = at-b .before .before .before in
+    c .refuse .ensures ∙ rw (at-a .a .given .1, at-b .b .given .1, c .before .before .c2 .given .1) refl
 
 returns-3 : tie.Need-returns-3
 unfolding whole
-returns-3 c = c .refuse2 .ensures ∙ rw (c .before .before .before .before .before .a .given .1, c .before .before .b2 .given .1) refl
+returns-3 c =
+    let at-a = c .before .before .before .before .before in
+    c .refuse2 .ensures ∙ rw (at-a .a .given .1, c .before .before .b2 .given .1) refl
 
 returns-4 : tie.Need-returns-4
 unfolding whole

@@ -13,7 +13,9 @@ enum-known-b c = search needs
 
 returns : tie.Need-returns
 unfolding whole
-returns c = rw (c .before .before .before .before .before .a .given .1, c .before .before .b .given .1, c .if1 .taken) refl
+returns c =
+    let at-a = c .before .before .before .before .before in
+    rw (at-a .a .given .1, c .before .before .b .given .1, c .if1 .taken) refl
 
 enum-known-b-2 : tie.Need-enum-known-b-2
 enum-known-b-2 c = search needs
@@ -29,11 +31,15 @@ refuse-requires-2 c κs = search needs
 
 returns-2 : tie.Need-returns-2
 unfolding whole
-returns-2 c = rw (c .before .before .before .before .before .a .given .1, c .before .before .b .given .1, c .if1 .left) refl
+returns-2 c =
+    let at-a = c .before .before .before .before .before in
+    rw (at-a .a .given .1, c .before .before .b .given .1, c .if1 .left) refl
 
 returns-3 : tie.Need-returns-3
 unfolding whole
-returns-3 c = c .refuse .ensures ∙ rw (c .before .before .before .before .before .a .given .1, c .before .before .b2 .given .1) refl
+returns-3 c =
+    let at-a = c .before .before .before .before .before in
+    c .refuse .ensures ∙ rw (at-a .a .given .1, c .before .before .b2 .given .1) refl
 
 returns-4 : tie.Need-returns-4
 unfolding whole

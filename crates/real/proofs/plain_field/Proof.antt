@@ -84,13 +84,17 @@ returns-4 : tie.Need-returns-4
 returns-4 c = inl refl
 
 cast-after : tie.Need-cast-after
-cast-after c = omega (arith, c .before .before .before .before .push-digits2 .ensures (c .before .if3 .left) .few)
+cast-after c =
+    let at-push-digits2 = c .before .before .before .before in
+    omega (arith, at-push-digits2 .push-digits2 .ensures (c .before .if3 .left) .few)
 
 shared-slice-read-t13 : tie.Need-shared-slice-read-t13
 shared-slice-read-t13 c = search needs
 
 add-t21 : tie.Need-add-t21
-add-t21 c = omega (arith, c .before .before .before .before .before .push-digits2 .ensures (c .before .before .if3 .left) .few)
+add-t21 c =
+    let at-push-digits2 = c .before .before .before .before .before in
+    omega (arith, at-push-digits2 .push-digits2 .ensures (c .before .before .if3 .left) .few)
 
 shared-slice-read-t19 : tie.Need-shared-slice-read-t19
 shared-slice-read-t19 c = search needs
@@ -103,8 +107,10 @@ finish-requires c κs = search needs
 
 returns-5 : tie.Need-returns-5
 returns-5 c =
-    let b = c .before .before .before .before .before in
-    let few = b .before .before .push-digits2 .ensures (c .before .before .before .before .if3 .left) in
+    let at-if3 = c .before .before .before .before in
+    let at-5-back = at-if3 .before in
+    let b = at-5-back in
+    let few = b .before .before .push-digits2 .ensures (at-if3 .if3 .left) in
     let plain = rw (b .before .before .before .before .before .before .before .is-plain .ensures) at (not-false (b .before .before .before .before .before .before .before .is-plain .result) (b .before .before .before .before .before .before .if2 .left)) in
     let small = c .before .before .before .if4 .left in
     inr

@@ -39,7 +39,9 @@ returns-3 : tie.Need-returns-3 Inv-loop μ-loop
 returns-3 c = λ h. absurd (omega arith)
 
 mul-c : tie.Need-mul-c Inv-loop μ-loop
-mul-c c = omega (arith, below-more _ _ 17 (omega arith) (c .before .before .before .before .loop .inv .1))
+mul-c c =
+    let at-loop = c .before .before .before .before in
+    omega (arith, below-more _ _ 17 (omega arith) (at-loop .loop .inv .1))
 
 sub-wide : tie.Need-sub-wide Inv-loop μ-loop
 sub-wide c = isDigit-low _ (sym (c .before .is-digit .ensures) ∙ not-false _ (c .if3 .left))
@@ -48,7 +50,9 @@ wide-requires : tie.Need-wide-requires Inv-loop μ-loop
 wide-requires c κs = search needs
 
 add-c : tie.Need-add-c Inv-loop μ-loop
-add-c c = omega (arith, c .wide .ensures, c .before .before .before .shared-slice-known2 .given (c .before .before .before .before .before .loop .i), below-more _ _ 17 (omega arith) (c .before .before .before .before .before .loop .inv .1))
+add-c c =
+    let at-loop = c .before .before .before .before .before in
+    omega (arith, c .wide .ensures, c .before .before .before .shared-slice-known2 .given (at-loop .loop .i), below-more _ _ 17 (omega arith) (at-loop .loop .inv .1))
 
 add-i : tie.Need-add-i Inv-loop μ-loop
 add-i c = search needs
@@ -58,12 +62,14 @@ loop-less c = search needs
 
 loop-again : tie.Need-loop-again Inv-loop μ-loop
 loop-again c =
+    let at-loop-test = c .before .before .before .before in
+    let at-loop = at-loop-test .before in
     let t = sym (c .before .before .is-digit .ensures) ∙ not-false _ (c .before .if3 .left) in
-    let inv = c .before .before .before .before .before .loop .inv in
+    let inv = at-loop .loop .inv in
     rw (c .wide .ensures) (
       search needs,
       digit-below _ _ _ (isDigit-high _ t) (inv .1),
-      digits-next _ _ (c .before .before .before .before .loop-test .taken) t (inv .2),
+      digits-next _ _ (at-loop-test .loop-test .taken) t (inv .2),
     )
 
 returns-4 : tie.Need-returns-4 Inv-loop μ-loop

@@ -20,10 +20,14 @@ slice-aggregate-check-columns-2 : tie.Need-slice-aggregate-check-columns-2
 slice-aggregate-check-columns-2 c = search needs
 
 check-columns-requires : tie.Need-check-columns-requires
-check-columns-requires c κs = (omega (arith, data-six _ _ (c .before .before .before .line-widths .ensures)), data-fits _ _ (c .before .before .before .line-widths .ensures))
+check-columns-requires c κs =
+    let at-line-widths = c .before .before .before in
+    (omega (arith, data-six _ _ (at-line-widths .line-widths .ensures)), data-fits _ _ (at-line-widths .line-widths .ensures))
 
 returns : tie.Need-returns
-returns c = c .check-columns .ensures ∙ rw (data-fields _ _ (c .before .before .before .before .line-widths .ensures), data-all _ _ (c .before .before .before .if1 .taken)) refl
+returns c =
+    let at-line-widths = c .before .before .before .before in
+    c .check-columns .ensures ∙ rw (data-fields _ _ (at-line-widths .line-widths .ensures), data-all _ _ (c .before .before .before .if1 .taken)) refl
 
 slice-aggregate-check-columns-3 : tie.Need-slice-aggregate-check-columns-3
 slice-aggregate-check-columns-3 c = search needs
@@ -35,10 +39,16 @@ slice-aggregate-check-columns-4 : tie.Need-slice-aggregate-check-columns-4
 slice-aggregate-check-columns-4 c = sym (length-take-le _ _ (omega (arith, data-six _ _ (c .before .before .before .line-widths .ensures))))
 
 check-columns-requires-2 : tie.Need-check-columns-requires-2
-check-columns-requires-2 c κs = (simp length-take (omega (arith, data-six _ _ (c .before .before .before .line-widths .ensures))), le-trans (total-take (c .before .before .before .line-widths .result) (c .before .before .before .before .args .fields)) (data-fits _ _ (c .before .before .before .line-widths .ensures)))
+check-columns-requires-2 c κs =
+    let at-line-widths = c .before .before .before in
+    let at-start = at-line-widths .before in
+    (simp length-take (omega (arith, data-six _ _ (at-line-widths .line-widths .ensures))), le-trans (total-take (at-line-widths .line-widths .result) (at-start .args .fields)) (data-fits _ _ (at-line-widths .line-widths .ensures)))
 
 returns-2 : tie.Need-returns-2
-returns-2 c = c .check-columns2 .ensures ∙ rw (fieldList-take _ (c .before .before .before .before .line-widths .result) (c .before .before .before .before .before .args .fields), data-fields _ _ (c .before .before .before .before .line-widths .ensures)) refl
+returns-2 c =
+    let at-line-widths = c .before .before .before .before in
+    let at-start = at-line-widths .before in
+    c .check-columns2 .ensures ∙ rw (fieldList-take _ (at-line-widths .line-widths .result) (at-start .args .fields), data-fields _ _ (at-line-widths .line-widths .ensures)) refl
 
 pub check-data-spec : {M : Type 1} → statement M
 check-data-spec =

@@ -42,13 +42,23 @@ is-zero-real-requires-2 : tie.Need-is-zero-real-requires-2
 is-zero-real-requires-2 c κs = search needs
 
 returns : tie.Need-returns
-returns c = sym (conditionFault-data-form _ ∙ simp (sym (c .before .before .before .before .before .before .before .is-zero-integer .ensures) ∙ c .before .before .before .before .before .before .if1 .taken, sym (c .before .before .before .before .is-zero-real .ensures) ∙ c .before .before .before .if2 .taken, sym (c .before .is-zero-real2 .ensures) ∙ c .if3 .taken))
+returns c =
+    let at-is-zero-real = c .before .before .before .before in
+    let at-if1 = at-is-zero-real .before .before in
+    let at-is-zero-integer = at-if1 .before in
+    sym (conditionFault-data-form _ ∙ simp (sym (at-is-zero-integer .is-zero-integer .ensures) ∙ at-if1 .if1 .taken, sym (at-is-zero-real .is-zero-real .ensures) ∙ c .before .before .before .if2 .taken, sym (c .before .is-zero-real2 .ensures) ∙ c .if3 .taken))
 
 returns-2 : tie.Need-returns-2
-returns-2 c = sym (conditionFault-data-form _ ∙ simp (sym (c .before .before .before .before .before .before .before .is-zero-integer .ensures) ∙ c .before .before .before .before .before .before .if1 .taken, sym (c .before .before .before .before .is-zero-real .ensures) ∙ c .before .before .before .if2 .taken, sym (c .before .is-zero-real2 .ensures) ∙ c .if3 .left))
+returns-2 c =
+    let at-is-zero-real = c .before .before .before .before in
+    let at-if1 = at-is-zero-real .before .before in
+    let at-is-zero-integer = at-if1 .before in
+    sym (conditionFault-data-form _ ∙ simp (sym (at-is-zero-integer .is-zero-integer .ensures) ∙ at-if1 .if1 .taken, sym (at-is-zero-real .is-zero-real .ensures) ∙ c .before .before .before .if2 .taken, sym (c .before .is-zero-real2 .ensures) ∙ c .if3 .left))
 
 returns-3 : tie.Need-returns-3
-returns-3 c = sym (conditionFault-data-form _ ∙ simp (sym (c .before .before .before .before .is-zero-integer .ensures) ∙ c .before .before .before .if1 .taken, sym (c .before .is-zero-real .ensures) ∙ c .if2 .left))
+returns-3 c =
+    let at-is-zero-integer = c .before .before .before .before in
+    sym (conditionFault-data-form _ ∙ simp (sym (at-is-zero-integer .is-zero-integer .ensures) ∙ c .before .before .before .if1 .taken, sym (c .before .is-zero-real .ensures) ∙ c .if2 .left))
 
 returns-4 : tie.Need-returns-4
 returns-4 c = sym (conditionFault-data-form _ ∙ simp (sym (c .before .is-zero-integer .ensures) ∙ c .if1 .left))

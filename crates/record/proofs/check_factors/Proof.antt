@@ -42,13 +42,23 @@ is-above-zero-requires-3 : tie.Need-is-above-zero-requires-3
 is-above-zero-requires-3 c κs = search needs
 
 returns : tie.Need-returns
-returns c = sym (conditionFault-factors _ ∙ simp (sym (c .before .before .before .before .before .before .before .is-above-zero .ensures) ∙ c .before .before .before .before .before .before .if1 .taken, sym (c .before .before .before .before .is-above-zero2 .ensures) ∙ c .before .before .before .if2 .taken, sym (c .before .is-above-zero3 .ensures) ∙ c .if3 .taken))
+returns c =
+    let at-is-above-zero2 = c .before .before .before .before in
+    let at-if1 = at-is-above-zero2 .before .before in
+    let at-is-above-zero = at-if1 .before in
+    sym (conditionFault-factors _ ∙ simp (sym (at-is-above-zero .is-above-zero .ensures) ∙ at-if1 .if1 .taken, sym (at-is-above-zero2 .is-above-zero2 .ensures) ∙ c .before .before .before .if2 .taken, sym (c .before .is-above-zero3 .ensures) ∙ c .if3 .taken))
 
 returns-2 : tie.Need-returns-2
-returns-2 c = sym (conditionFault-factors _ ∙ simp (sym (c .before .before .before .before .before .before .before .is-above-zero .ensures) ∙ c .before .before .before .before .before .before .if1 .taken, sym (c .before .before .before .before .is-above-zero2 .ensures) ∙ c .before .before .before .if2 .taken, sym (c .before .is-above-zero3 .ensures) ∙ c .if3 .left))
+returns-2 c =
+    let at-is-above-zero2 = c .before .before .before .before in
+    let at-if1 = at-is-above-zero2 .before .before in
+    let at-is-above-zero = at-if1 .before in
+    sym (conditionFault-factors _ ∙ simp (sym (at-is-above-zero .is-above-zero .ensures) ∙ at-if1 .if1 .taken, sym (at-is-above-zero2 .is-above-zero2 .ensures) ∙ c .before .before .before .if2 .taken, sym (c .before .is-above-zero3 .ensures) ∙ c .if3 .left))
 
 returns-3 : tie.Need-returns-3
-returns-3 c = sym (conditionFault-factors _ ∙ simp (sym (c .before .before .before .before .is-above-zero .ensures) ∙ c .before .before .before .if1 .taken, sym (c .before .is-above-zero2 .ensures) ∙ c .if2 .left))
+returns-3 c =
+    let at-is-above-zero = c .before .before .before .before in
+    sym (conditionFault-factors _ ∙ simp (sym (at-is-above-zero .is-above-zero .ensures) ∙ c .before .before .before .if1 .taken, sym (c .before .is-above-zero2 .ensures) ∙ c .if2 .left))
 
 returns-4 : tie.Need-returns-4
 returns-4 c = sym (conditionFault-factors _ ∙ simp (sym (c .before .is-above-zero .ensures) ∙ c .if1 .left))

@@ -27,22 +27,39 @@ index-requires : tie.Need-index-requires Inv-loop μ-loop
 index-requires c κs = search needs
 
 returns : tie.Need-returns Inv-loop μ-loop
-returns c = sym (sym (c .before .before .before .before .loop .inv .1 .1) ∙ fieldsFault-stop _ _ _ _ _ _ (c .before .before .before .loop-test .taken) (c .before .before .before .before .before .before .before .pre .0) (c .before .index .ensures) (c .if1 .taken))
+returns c =
+    let at-loop = c .before .before .before .before in
+    let at-pre = at-loop .before .before .before in
+    sym (sym (at-loop .loop .inv .1 .1) ∙ fieldsFault-stop _ _ _ _ _ _ (c .before .before .before .loop-test .taken) (at-pre .pre .0) (c .before .index .ensures) (c .if1 .taken))
 
 shared-slice-read-number-at : tie.Need-shared-slice-read-number-at Inv-loop μ-loop
 shared-slice-read-number-at c = search needs
 
 number-at-requires : tie.Need-number-at-requires Inv-loop μ-loop
-number-at-requires c κs = field-fits (c .before .before .before .before .before .before .before .before .args .forms .now) (c .before .before .before .before .before .before .before .before .args .widths .now) (c .before .before .before .before .before .before .before .before .args .line .now) _ _ _ (c .before .before .before .before .loop-test .taken) (c .before .before .before .before .before .before .before .before .pre .0) (c .before .before .index .ensures) (c .before .before .before .before .before .loop .inv .1 .0)
+number-at-requires c κs =
+    let at-loop-test = c .before .before .before .before in
+    let at-loop = at-loop-test .before in
+    let at-start = at-loop .before .before .before in
+    field-fits (at-start .args .forms .now) (at-start .args .widths .now) (at-start .args .line .now) _ _ _ (at-loop-test .loop-test .taken) (at-start .pre .0) (c .before .before .index .ensures) (at-loop .loop .inv .1 .0)
 
 add-t13 : tie.Need-add-t13 Inv-loop μ-loop
 add-t13 c = omega arith
 
 returns-2 : tie.Need-returns-2 Inv-loop μ-loop
-returns-2 c = sym (sym (c .before .before .before .before .before .before .before .loop .inv .1 .1) ∙ fieldsFault-here _ _ _ _ _ _ (c .before .before .before .before .before .before .loop-test .taken) (c .before .before .before .before .before .before .before .before .before .before .pre .0) (c .before .before .before .before .index .ensures) (c .before .before .before .if1 .left) _ (c .before .number-at .ensures) (c .if2 .taken))
+returns-2 c =
+    let at-index = c .before .before .before .before in
+    let at-loop-test = at-index .before .before in
+    let at-loop = at-loop-test .before in
+    let at-pre = at-loop .before .before .before in
+    sym (sym (at-loop .loop .inv .1 .1) ∙ fieldsFault-here _ _ _ _ _ _ (at-loop-test .loop-test .taken) (at-pre .pre .0) (at-index .index .ensures) (c .before .before .before .if1 .left) _ (c .before .number-at .ensures) (c .if2 .taken))
 
 add-at : tie.Need-add-at Inv-loop μ-loop
-add-at c = let f = field-fits (c .before .before .before .before .before .before .before .before .before .before .args .forms .now) (c .before .before .before .before .before .before .before .before .before .before .args .widths .now) (c .before .before .before .before .before .before .before .before .before .before .args .line .now) _ _ _ (c .before .before .before .before .before .before .loop-test .taken) (c .before .before .before .before .before .before .before .before .before .before .pre .0) (c .before .before .before .before .index .ensures) (c .before .before .before .before .before .before .before .loop .inv .1 .0) in omega arith
+add-at c =
+    let at-index = c .before .before .before .before in
+    let at-loop-test = at-index .before .before in
+    let at-loop = at-loop-test .before in
+    let at-start = at-loop .before .before .before in
+    let f = field-fits (at-start .args .forms .now) (at-start .args .widths .now) (at-start .args .line .now) _ _ _ (at-loop-test .loop-test .taken) (at-start .pre .0) (at-index .index .ensures) (at-loop .loop .inv .1 .0) in omega arith
 
 add-k : tie.Need-add-k Inv-loop μ-loop
 add-k c = search needs
@@ -51,7 +68,12 @@ loop-less : tie.Need-loop-less Inv-loop μ-loop
 loop-less c = search needs
 
 loop-again : tie.Need-loop-again Inv-loop μ-loop
-loop-again c = (search needs, (fields-fit (c .before .before .before .before .before .before .before .before .before .before .args .forms .now) (c .before .before .before .before .before .before .before .before .before .before .args .widths .now) (c .before .before .before .before .before .before .before .before .before .before .args .line .now) _ _ _ (c .before .before .before .before .before .before .loop-test .taken) (c .before .before .before .before .before .before .before .before .before .before .pre .0) (c .before .before .before .before .index .ensures) (c .before .before .before .before .before .before .before .loop .inv .1 .0), sym (fieldsFault-on _ _ _ _ _ _ (c .before .before .before .before .before .before .loop-test .taken) (c .before .before .before .before .before .before .before .before .before .before .pre .0) (c .before .before .before .before .index .ensures) (c .before .before .before .if1 .left) _ (c .before .number-at .ensures) (c .if2 .left)) ∙ c .before .before .before .before .before .before .before .loop .inv .1 .1))
+loop-again c =
+    let at-index = c .before .before .before .before in
+    let at-loop-test = at-index .before .before in
+    let at-loop = at-loop-test .before in
+    let at-start = at-loop .before .before .before in
+    (search needs, (fields-fit (at-start .args .forms .now) (at-start .args .widths .now) (at-start .args .line .now) _ _ _ (at-loop-test .loop-test .taken) (at-start .pre .0) (at-index .index .ensures) (at-loop .loop .inv .1 .0), sym (fieldsFault-on _ _ _ _ _ _ (at-loop-test .loop-test .taken) (at-start .pre .0) (at-index .index .ensures) (c .before .before .before .if1 .left) _ (c .before .number-at .ensures) (c .if2 .left)) ∙ at-loop .loop .inv .1 .1))
 
 returns-3 : tie.Need-returns-3 Inv-loop μ-loop
 returns-3 c = sym (sym (c .before .loop .inv .1 .1) ∙ fieldsFault-end _ _ _ _ _ (c .loop-test .left))

@@ -26,13 +26,20 @@ array-share-prefix-widths : tie.Need-array-share-prefix-widths
 array-share-prefix-widths c = omega (arith, c .before .before .before .row-numbers .ensures .widths-all)
 
 slice-aggregate-check-columns-2 : tie.Need-slice-aggregate-check-columns-2
-slice-aggregate-check-columns-2 c = sym (length-take-le _ _ (omega (arith, c .before .before .before .before .row-numbers .ensures .widths-all)))
+slice-aggregate-check-columns-2 c =
+    let at-row-numbers = c .before .before .before .before in
+    sym (length-take-le _ _ (omega (arith, at-row-numbers .row-numbers .ensures .widths-all)))
 
 check-columns-requires : tie.Need-check-columns-requires
-check-columns-requires c κs = (simp length-take (omega (arith, c .before .before .before .before .row-numbers .ensures .widths-all, c .before .before .before .before .row-numbers .ensures .forms-all)), le-trans (total-take (c .before .before .before .before .row-numbers .result .widths) (c .before .before .before .before .before .before .args .fields)) (c .before .before .before .before .row-numbers .ensures .fits))
+check-columns-requires c κs =
+    let at-row-numbers = c .before .before .before .before in
+    let at-start = at-row-numbers .before .before in
+    (simp length-take (omega (arith, at-row-numbers .row-numbers .ensures .widths-all, at-row-numbers .row-numbers .ensures .forms-all)), le-trans (total-take (at-row-numbers .row-numbers .result .widths) (at-start .args .fields)) (at-row-numbers .row-numbers .ensures .fits))
 
 returns-2 : tie.Need-returns-2
-returns-2 c = c .check-columns .ensures ∙ rw (fieldList-take, c .before .before .before .before .before .row-numbers .ensures .listed) refl
+returns-2 c =
+    let at-row-numbers = c .before .before .before .before .before in
+    c .check-columns .ensures ∙ rw (fieldList-take, at-row-numbers .row-numbers .ensures .listed) refl
 
 pub check-list-spec : {M : Type 1} → statement M
 check-list-spec =

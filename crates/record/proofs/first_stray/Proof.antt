@@ -30,19 +30,37 @@ first-byte-requires : tie.Need-first-byte-requires Inv-loop μ-loop
 first-byte-requires c κs = (search needs, search needs)
 
 returns : tie.Need-returns Inv-loop μ-loop
-returns c = c .first-byte .ensures ∙ sym (sym (c .before .before .before .before .before .loop .inv .1 .1) ∙ stray-stop _ _ _ _ _ _ (c .before .before .before .before .loop-test .taken) (c .before .before .before .before .before .before .before .before .pre .0) (c .before .before .index .ensures) (c .before .if1 .taken))
+returns c =
+    let at-loop-test = c .before .before .before .before in
+    let at-loop = at-loop-test .before in
+    let at-pre = at-loop .before .before .before in
+    c .first-byte .ensures ∙ sym (sym (at-loop .loop .inv .1 .1) ∙ stray-stop _ _ _ _ _ _ (at-loop-test .loop-test .taken) (at-pre .pre .0) (c .before .before .index .ensures) (c .before .if1 .taken))
 
 shared-slice-read-stray-at : tie.Need-shared-slice-read-stray-at Inv-loop μ-loop
 shared-slice-read-stray-at c = search needs
 
 stray-at-requires : tie.Need-stray-at-requires Inv-loop μ-loop
-stray-at-requires c κs = field-fits (c .before .before .before .before .before .before .before .before .args .forms .now) (c .before .before .before .before .before .before .before .before .args .widths .now) (c .before .before .before .before .before .before .before .before .args .line .now) _ _ _ (c .before .before .before .before .loop-test .taken) (c .before .before .before .before .before .before .before .before .pre .0) (c .before .before .index .ensures) (c .before .before .before .before .before .loop .inv .1 .0)
+stray-at-requires c κs =
+    let at-loop-test = c .before .before .before .before in
+    let at-loop = at-loop-test .before in
+    let at-start = at-loop .before .before .before in
+    field-fits (at-start .args .forms .now) (at-start .args .widths .now) (at-start .args .line .now) _ _ _ (at-loop-test .loop-test .taken) (at-start .pre .0) (c .before .before .index .ensures) (at-loop .loop .inv .1 .0)
 
 returns-2 : tie.Need-returns-2 Inv-loop μ-loop
-returns-2 c = sym (sym (c .before .before .before .before .before .before .before .loop .inv .1 .1) ∙ stray-here _ _ _ _ _ _ (c .before .before .before .before .before .before .loop-test .taken) (c .before .before .before .before .before .before .before .before .before .before .pre .0) (c .before .before .before .before .index .ensures) (c .before .before .before .if1 .left) _ (c .before .stray-at .ensures) (c .if2 .taken))
+returns-2 c =
+    let at-index = c .before .before .before .before in
+    let at-loop-test = at-index .before .before in
+    let at-loop = at-loop-test .before in
+    let at-pre = at-loop .before .before .before in
+    sym (sym (at-loop .loop .inv .1 .1) ∙ stray-here _ _ _ _ _ _ (at-loop-test .loop-test .taken) (at-pre .pre .0) (at-index .index .ensures) (c .before .before .before .if1 .left) _ (c .before .stray-at .ensures) (c .if2 .taken))
 
 add-at : tie.Need-add-at Inv-loop μ-loop
-add-at c = let f = field-fits (c .before .before .before .before .before .before .before .before .before .before .args .forms .now) (c .before .before .before .before .before .before .before .before .before .before .args .widths .now) (c .before .before .before .before .before .before .before .before .before .before .args .line .now) _ _ _ (c .before .before .before .before .before .before .loop-test .taken) (c .before .before .before .before .before .before .before .before .before .before .pre .0) (c .before .before .before .before .index .ensures) (c .before .before .before .before .before .before .before .loop .inv .1 .0) in omega arith
+add-at c =
+    let at-index = c .before .before .before .before in
+    let at-loop-test = at-index .before .before in
+    let at-loop = at-loop-test .before in
+    let at-start = at-loop .before .before .before in
+    let f = field-fits (at-start .args .forms .now) (at-start .args .widths .now) (at-start .args .line .now) _ _ _ (at-loop-test .loop-test .taken) (at-start .pre .0) (at-index .index .ensures) (at-loop .loop .inv .1 .0) in omega arith
 
 add-k : tie.Need-add-k Inv-loop μ-loop
 add-k c = search needs
@@ -51,7 +69,12 @@ loop-less : tie.Need-loop-less Inv-loop μ-loop
 loop-less c = search needs
 
 loop-again : tie.Need-loop-again Inv-loop μ-loop
-loop-again c = (search needs, (fields-fit (c .before .before .before .before .before .before .before .before .before .before .args .forms .now) (c .before .before .before .before .before .before .before .before .before .before .args .widths .now) (c .before .before .before .before .before .before .before .before .before .before .args .line .now) _ _ _ (c .before .before .before .before .before .before .loop-test .taken) (c .before .before .before .before .before .before .before .before .before .before .pre .0) (c .before .before .before .before .index .ensures) (c .before .before .before .before .before .before .before .loop .inv .1 .0), sym (stray-on _ _ _ _ _ _ (c .before .before .before .before .before .before .loop-test .taken) (c .before .before .before .before .before .before .before .before .before .before .pre .0) (c .before .before .before .before .index .ensures) (c .before .before .before .if1 .left) _ (c .before .stray-at .ensures) (c .if2 .left)) ∙ c .before .before .before .before .before .before .before .loop .inv .1 .1))
+loop-again c =
+    let at-index = c .before .before .before .before in
+    let at-loop-test = at-index .before .before in
+    let at-loop = at-loop-test .before in
+    let at-start = at-loop .before .before .before in
+    (search needs, (fields-fit (at-start .args .forms .now) (at-start .args .widths .now) (at-start .args .line .now) _ _ _ (at-loop-test .loop-test .taken) (at-start .pre .0) (at-index .index .ensures) (at-loop .loop .inv .1 .0), sym (stray-on _ _ _ _ _ _ (at-loop-test .loop-test .taken) (at-start .pre .0) (at-index .index .ensures) (c .before .before .before .if1 .left) _ (c .before .stray-at .ensures) (c .if2 .left)) ∙ at-loop .loop .inv .1 .1))
 
 first-byte-requires-2 : tie.Need-first-byte-requires-2 Inv-loop μ-loop
 first-byte-requires-2 c κs = (search needs, search needs)

@@ -22,7 +22,10 @@ find-end-requires : tie.Need-find-end-requires Inv-loop μ-loop
 find-end-requires c κs = search needs
 
 returns : tie.Need-returns Inv-loop μ-loop
-returns c = omega (arith, c .before .before .before .loop .inv .1 .0, ap length (body-ends (c .before .before .before .before .before .args .closing) (c .before .before .before .before .before .args .file .now) (c .before .before .before .loop .at) _ (c .before .before .before .loop .inv .0) (c .before .find-end .ensures) (c .if1 .taken)))
+returns c =
+    let at-loop = c .before .before .before in
+    let at-start = at-loop .before .before in
+    omega (arith, at-loop .loop .inv .1 .0, ap length (body-ends (at-start .args .closing) (at-start .args .file .now) (at-loop .loop .at) _ (at-loop .loop .inv .0) (c .before .find-end .ensures) (c .if1 .taken)))
 
 sub-kept-len : tie.Need-sub-kept-len Inv-loop μ-loop
 sub-kept-len c = search needs
@@ -37,10 +40,18 @@ kept-len-requires : tie.Need-kept-len-requires Inv-loop μ-loop
 kept-len-requires c κs = search needs
 
 add-n : tie.Need-add-n Inv-loop μ-loop
-add-n c = omega (arith, c .before .before .before .before .before .loop .inv, body-line-length (c .before .before .before .before .before .before .before .args .closing) (c .before .before .before .before .before .before .before .args .file .now) (c .before .before .before .before .before .loop .at) _ _ (c .before .before .before .before .loop-test .taken) (c .before .before .before .before .before .loop .inv .0) (c .before .before .before .find-end .ensures) (c .before .before .if1 .left) (c .kept-len .ensures), body-most (c .before .before .before .before .before .before .before .args .closing) (c .before .before .before .before .before .before .before .args .from) (c .before .before .before .before .before .before .before .args .file .now) (c .before .before .before .before .before .loop .inv .1 .1))
+add-n c =
+    let at-loop-test = c .before .before .before .before in
+    let at-loop = at-loop-test .before in
+    let at-start = at-loop .before .before in
+    omega (arith, at-loop .loop .inv, body-line-length (at-start .args .closing) (at-start .args .file .now) (at-loop .loop .at) _ _ (at-loop-test .loop-test .taken) (at-loop .loop .inv .0) (c .before .before .before .find-end .ensures) (c .before .before .if1 .left) (c .kept-len .ensures), body-most (at-start .args .closing) (at-start .args .from) (at-start .args .file .now) (at-loop .loop .inv .1 .1))
 
 add-n-2 : tie.Need-add-n-2 Inv-loop μ-loop
-add-n-2 c = omega (arith, c .before .before .before .before .before .loop .inv, body-line-length (c .before .before .before .before .before .before .before .args .closing) (c .before .before .before .before .before .before .before .args .file .now) (c .before .before .before .before .before .loop .at) _ _ (c .before .before .before .before .loop-test .taken) (c .before .before .before .before .before .loop .inv .0) (c .before .before .before .find-end .ensures) (c .before .before .if1 .left) (c .kept-len .ensures), body-most (c .before .before .before .before .before .before .before .args .closing) (c .before .before .before .before .before .before .before .args .from) (c .before .before .before .before .before .before .before .args .file .now) (c .before .before .before .before .before .loop .inv .1 .1))
+add-n-2 c =
+    let at-loop-test = c .before .before .before .before in
+    let at-loop = at-loop-test .before in
+    let at-start = at-loop .before .before in
+    omega (arith, at-loop .loop .inv, body-line-length (at-start .args .closing) (at-start .args .file .now) (at-loop .loop .at) _ _ (at-loop-test .loop-test .taken) (at-loop .loop .inv .0) (c .before .before .before .find-end .ensures) (c .before .before .if1 .left) (c .kept-len .ensures), body-most (at-start .args .closing) (at-start .args .from) (at-start .args .file .now) (at-loop .loop .inv .1 .1))
 
 add-at : tie.Need-add-at Inv-loop μ-loop
 add-at c = search needs
@@ -49,10 +60,16 @@ loop-less : tie.Need-loop-less Inv-loop μ-loop
 loop-less c = search needs
 
 loop-again : tie.Need-loop-again Inv-loop μ-loop
-loop-again c = (search needs, (omega (arith, c .before .before .before .before .before .loop .inv, body-line-length (c .before .before .before .before .before .before .before .args .closing) (c .before .before .before .before .before .before .before .args .file .now) (c .before .before .before .before .before .loop .at) _ _ (c .before .before .before .before .loop-test .taken) (c .before .before .before .before .before .loop .inv .0) (c .before .before .before .find-end .ensures) (c .before .before .if1 .left) (c .kept-len .ensures)), search needs))
+loop-again c =
+    let at-loop-test = c .before .before .before .before in
+    let at-loop = at-loop-test .before in
+    let at-start = at-loop .before .before in
+    (search needs, (omega (arith, at-loop .loop .inv, body-line-length (at-start .args .closing) (at-start .args .file .now) (at-loop .loop .at) _ _ (at-loop-test .loop-test .taken) (at-loop .loop .inv .0) (c .before .before .before .find-end .ensures) (c .before .before .if1 .left) (c .kept-len .ensures)), search needs))
 
 returns-2 : tie.Need-returns-2 Inv-loop μ-loop
-returns-2 c = omega (arith, c .before .loop .inv .1 .0, ap length (body-stops (c .before .before .before .args .closing) (c .before .before .before .args .file .now) (c .before .loop .at) (c .loop-test .left)))
+returns-2 c =
+    let at-start = c .before .before .before in
+    omega (arith, c .before .loop .inv .1 .0, ap length (body-stops (at-start .args .closing) (at-start .args .file .now) (c .before .loop .at) (c .loop-test .left)))
 
 pub body-len-spec : {M : Type 1} → statement M
 body-len-spec =

@@ -31,7 +31,9 @@ loop-less : tie.Need-loop-less Inv-loop μ-loop
 loop-less c = search needs
 
 loop-again : tie.Need-loop-again Inv-loop μ-loop
-loop-again c = (search needs, (simp length-set (c .before .before .loop .inv .1 .0), rw (c .digit-or-blank .ensures) (plain-next _ _ _ (c .before .loop-test .taken) (search needs)) ∙ c .before .before .loop .inv .1 .1))
+loop-again c =
+    let at-loop = c .before .before in
+    (search needs, (simp length-set (at-loop .loop .inv .1 .0), rw (c .digit-or-blank .ensures) (plain-next _ _ _ (c .before .loop-test .taken) (search needs)) ∙ at-loop .loop .inv .1 .1))
 
 returns : tie.Need-returns Inv-loop μ-loop
 returns c = plain-done _ _ _ (c .loop-test .left) ∙ c .before .loop .inv .1 .1

@@ -25,7 +25,9 @@ same-length : tie.Need-same-length Inv-loop μ-loop
 same-length c = c .before .before .before .loop .inv .1 .same
 
 returns : tie.Need-returns Inv-loop μ-loop
-returns c = put-done _ _ _ _ _ _ (c .before .before .before .loop .inv .1) (body-ends _ _ _ _ (c .before .before .before .loop .inv .0) (c .before .find-end .ensures) (c .if1 .taken))
+returns c =
+    let at-loop = c .before .before .before in
+    put-done _ _ _ _ _ _ (at-loop .loop .inv .1) (body-ends _ _ _ _ (at-loop .loop .inv .0) (c .before .find-end .ensures) (c .if1 .taken))
 
 sub-kept-len : tie.Need-sub-kept-len Inv-loop μ-loop
 sub-kept-len c = search needs
@@ -40,7 +42,10 @@ kept-len-requires : tie.Need-kept-len-requires Inv-loop μ-loop
 kept-len-requires c κs = search needs
 
 add-stop : tie.Need-add-stop Inv-loop μ-loop
-add-stop c = omega (arith, kept-within (c .before .before .before .before .before .before .before .before .args .file .now) (c .before .before .before .before .before .loop .line) (c .before .before .before .find-end .result) (c .kept-len .result) (c .kept-len .ensures))
+add-stop c =
+    let at-loop = c .before .before .before .before .before in
+    let at-start = at-loop .before .before .before in
+    omega (arith, kept-within (at-start .args .file .now) (at-loop .loop .line) (c .before .before .before .find-end .result) (c .kept-len .result) (c .kept-len .ensures))
 
 sub-put-line : tie.Need-sub-put-line Inv-loop μ-loop
 sub-put-line c = search needs
@@ -49,10 +54,21 @@ part-put-line-start : tie.Need-part-put-line-start Inv-loop μ-loop
 part-put-line-start c = search needs
 
 part-put-line-end : tie.Need-part-put-line-end Inv-loop μ-loop
-part-put-line-end c = omega (arith, kept-within (c .before .before .before .before .before .before .before .before .before .args .file .now) (c .before .before .before .before .before .before .loop .line) (c .before .before .before .before .find-end .result) (c .before .kept-len .result) (c .before .kept-len .ensures))
+part-put-line-end c =
+    let at-find-end = c .before .before .before .before in
+    let at-loop = at-find-end .before .before in
+    let at-start = at-loop .before .before .before in
+    omega (arith, kept-within (at-start .args .file .now) (at-loop .loop .line) (at-find-end .find-end .result) (c .before .kept-len .result) (c .before .kept-len .ensures))
 
 put-line-requires : tie.Need-put-line-requires Inv-loop μ-loop
-put-line-requires c κs = put-room _ _ _ _ _ _ (c .before .before .before .before .before .before .before .loop .inv .1) (c .before .before .before .before .before .before .before .before .before .before .pre .1) (ended (take (c .before .before .before .before .before .before .before .loop .line + c .before .before .kept-len .result - c .before .before .before .before .before .before .before .loop .line) (drop (c .before .before .before .before .before .before .before .loop .line) (c .before .before .before .before .before .before .before .before .before .before .args .file .now)))) (bodyText (c .before .before .before .before .before .before .before .before .before .before .args .closing) (c .before .before .before .before .before .find-end .result + 1) (c .before .before .before .before .before .before .before .before .before .before .args .file .now)) (body-kept (c .before .before .before .before .before .before .before .before .before .before .args .closing) (c .before .before .before .before .before .before .before .before .before .before .args .file .now) (c .before .before .before .before .before .before .before .loop .line) (c .before .before .before .before .before .find-end .result) (c .before .before .kept-len .result) (c .before .before .before .before .before .before .loop-test .taken) (c .before .before .before .before .before .before .before .loop .inv .0) (c .before .before .before .before .before .find-end .ensures) (c .before .before .before .before .if1 .left) (c .before .before .kept-len .ensures))
+put-line-requires c κs =
+    let at-kept-len = c .before .before in
+    let at-if1 = at-kept-len .before .before in
+    let at-find-end = at-if1 .before in
+    let at-loop-test = at-find-end .before in
+    let at-loop = at-loop-test .before in
+    let at-pre = at-loop .before .before .before in
+    put-room _ _ _ _ _ _ (at-loop .loop .inv .1) (at-pre .pre .1) (ended (take (at-loop .loop .line + at-kept-len .kept-len .result - at-loop .loop .line) (drop (at-loop .loop .line) (at-pre .args .file .now)))) (bodyText (at-pre .args .closing) (at-find-end .find-end .result + 1) (at-pre .args .file .now)) (body-kept (at-pre .args .closing) (at-pre .args .file .now) (at-loop .loop .line) (at-find-end .find-end .result) (at-kept-len .kept-len .result) (at-loop-test .loop-test .taken) (at-loop .loop .inv .0) (at-find-end .find-end .ensures) (at-if1 .if1 .left) (at-kept-len .kept-len .ensures))
 
 add-line : tie.Need-add-line Inv-loop μ-loop
 add-line c = search needs
@@ -61,7 +77,15 @@ loop-less : tie.Need-loop-less Inv-loop μ-loop
 loop-less c = search needs
 
 loop-again : tie.Need-loop-again Inv-loop μ-loop
-loop-again c = (search needs, put-next _ _ _ _ _ _ (c .before .before .before .before .before .before .before .before .before .before .loop .inv .1) (c .before .before .before .before .before .before .before .before .before .before .before .before .before .pre .1) (ended (take (c .before .before .before .before .before .before .before .before .before .before .loop .line + c .before .before .before .before .before .kept-len .result - c .before .before .before .before .before .before .before .before .before .before .loop .line) (drop (c .before .before .before .before .before .before .before .before .before .before .loop .line) (c .before .before .before .before .before .before .before .before .before .before .before .before .before .args .file .now)))) (bodyText (c .before .before .before .before .before .before .before .before .before .before .before .before .before .args .closing) (c .before .before .before .before .before .before .before .before .find-end .result + 1) (c .before .before .before .before .before .before .before .before .before .before .before .before .before .args .file .now)) (body-kept (c .before .before .before .before .before .before .before .before .before .before .before .before .before .args .closing) (c .before .before .before .before .before .before .before .before .before .before .before .before .before .args .file .now) (c .before .before .before .before .before .before .before .before .before .before .loop .line) (c .before .before .before .before .before .before .before .before .find-end .result) (c .before .before .before .before .before .kept-len .result) (c .before .before .before .before .before .before .before .before .before .loop-test .taken) (c .before .before .before .before .before .before .before .before .before .before .loop .inv .0) (c .before .before .before .before .before .before .before .before .find-end .ensures) (c .before .before .before .before .before .before .before .if1 .left) (c .before .before .before .before .before .kept-len .ensures)) _ _ (c .before .before .put-line .ensures .0) (c .before .before .put-line .ensures .1))
+loop-again c =
+    let at-put-line = c .before .before in
+    let at-kept-len = at-put-line .before .before .before in
+    let at-if1 = at-kept-len .before .before in
+    let at-find-end = at-if1 .before in
+    let at-loop-test = at-find-end .before in
+    let at-loop = at-loop-test .before in
+    let at-pre = at-loop .before .before .before in
+    (search needs, put-next _ _ _ _ _ _ (at-loop .loop .inv .1) (at-pre .pre .1) (ended (take (at-loop .loop .line + at-kept-len .kept-len .result - at-loop .loop .line) (drop (at-loop .loop .line) (at-pre .args .file .now)))) (bodyText (at-pre .args .closing) (at-find-end .find-end .result + 1) (at-pre .args .file .now)) (body-kept (at-pre .args .closing) (at-pre .args .file .now) (at-loop .loop .line) (at-find-end .find-end .result) (at-kept-len .kept-len .result) (at-loop-test .loop-test .taken) (at-loop .loop .inv .0) (at-find-end .find-end .ensures) (at-if1 .if1 .left) (at-kept-len .kept-len .ensures)) _ _ (at-put-line .put-line .ensures .0) (at-put-line .put-line .ensures .1))
 
 same-length-2 : tie.Need-same-length-2 Inv-loop μ-loop
 same-length-2 c = c .before .loop .inv .1 .same

@@ -13,19 +13,32 @@ slice-aggregate-put-line : tie.Need-slice-aggregate-put-line
 slice-aggregate-put-line c = search needs
 
 put-line-requires : tie.Need-put-line-requires
-put-line-requires c κs = delimiter-room _ _ (c .before .before .before .before .before .args .out .now) (c .before .before .before .before .before .pre)
+put-line-requires c κs =
+    let at-start = c .before .before .before .before .before in
+    delimiter-room _ _ (at-start .args .out .now) (at-start .pre)
 
 slice-aggregate-put-line-2 : tie.Need-slice-aggregate-put-line-2
-slice-aggregate-put-line-2 c = sym (ap length (c .before .before .before .before .before .before .before .plain-number .ensures) ∙ plainNumber-length _)
+slice-aggregate-put-line-2 c =
+    let at-plain-number = c .before .before .before .before .before .before .before in
+    sym (ap length (at-plain-number .plain-number .ensures) ∙ plainNumber-length _)
 
 put-line-requires-2 : tie.Need-put-line-requires-2
-put-line-requires-2 c κs = number-room _ _ (c .before .before .before .before .before .before .before .before .before .before .args .out .now) (c .before .before .before .before .before .before .before .before .before .before .pre) _ _ _ (c .before .before .before .before .put-line .ensures .0) (c .before .before .before .before .put-line .ensures .1) (c .before .before .before .before .before .before .before .plain-number .ensures)
+put-line-requires-2 c κs =
+    let at-put-line = c .before .before .before .before in
+    let at-plain-number = at-put-line .before .before .before in
+    let at-start = at-plain-number .before .before .before in
+    number-room _ _ (at-start .args .out .now) (at-start .pre) _ _ _ (at-put-line .put-line .ensures .0) (at-put-line .put-line .ensures .1) (at-plain-number .plain-number .ensures)
 
 same-length : tie.Need-same-length
 same-length c = search needs
 
 returns : tie.Need-returns
-returns c = head-done _ _ (c .before .before .before .before .before .before .before .before .before .before .before .before .before .args .out .now) (c .before .before .before .before .before .before .before .before .before .before .before .before .before .pre) _ _ _ (c .before .before .before .before .before .before .before .put-line .ensures .0) (c .before .before .before .before .before .before .before .put-line .ensures .1) (c .before .before .before .before .before .before .before .before .before .before .plain-number .ensures) _ _ (c .before .before .put-line2 .ensures .0) (c .before .before .put-line2 .ensures .1)
+returns c =
+    let at-put-line2 = c .before .before in
+    let at-put-line = at-put-line2 .before .before .before .before .before in
+    let at-plain-number = at-put-line .before .before .before in
+    let at-start = at-plain-number .before .before .before in
+    head-done _ _ (at-start .args .out .now) (at-start .pre) _ _ _ (at-put-line .put-line .ensures .0) (at-put-line .put-line .ensures .1) (at-plain-number .plain-number .ensures) _ _ (at-put-line2 .put-line2 .ensures .0) (at-put-line2 .put-line2 .ensures .1)
 
 pub put-head-spec : {M : Type 1} → statement M
 put-head-spec =

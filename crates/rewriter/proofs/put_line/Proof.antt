@@ -23,10 +23,14 @@ shared-slice-read-out : tie.Need-shared-slice-read-out Inv-loop μ-loop
 shared-slice-read-out c = search needs
 
 slice-write-out : tie.Need-slice-write-out Inv-loop μ-loop
-slice-write-out c = omega (arith, c .before .before .before .pre, length-append (c .before .before .before .args .s .now) (10 ∷ []))
+slice-write-out c =
+    let at-pre = c .before .before .before in
+    omega (arith, at-pre .pre, length-append (at-pre .args .s .now) (10 ∷ []))
 
 add-past : tie.Need-add-past Inv-loop μ-loop
-add-past c = omega (arith, c .before .before .before .pre, length-append (c .before .before .before .args .s .now) (10 ∷ []))
+add-past c =
+    let at-pre = c .before .before .before in
+    omega (arith, at-pre .pre, length-append (at-pre .args .s .now) (10 ∷ []))
 
 add-i : tie.Need-add-i Inv-loop μ-loop
 add-i c = search needs
@@ -35,13 +39,20 @@ loop-less : tie.Need-loop-less Inv-loop μ-loop
 loop-less c = search needs
 
 loop-again : tie.Need-loop-again Inv-loop μ-loop
-loop-again c = (search needs, (search needs, (simp length-set (c .before .before .loop .inv .1 .1 .0), rw (c .before .before .loop .inv .1 .0) (placed-next _ _ _ _ _ (c .before .loop-test .taken) (omega (arith, c .before .before .before .pre, length-append (c .before .before .before .args .s .now) (10 ∷ []))) (c .before .before .loop .inv .1 .1 .0) (c .before .before .loop .inv .1 .1 .1)))))
+loop-again c =
+    let at-loop = c .before .before in
+    let at-pre = at-loop .before in
+    (search needs, (search needs, (simp length-set (at-loop .loop .inv .1 .1 .0), rw (at-loop .loop .inv .1 .0) (placed-next _ _ _ _ _ (c .before .loop-test .taken) (omega (arith, at-pre .pre, length-append (at-pre .args .s .now) (10 ∷ []))) (at-loop .loop .inv .1 .1 .0) (at-loop .loop .inv .1 .1 .1)))))
 
 slice-write-out-2 : tie.Need-slice-write-out-2 Inv-loop μ-loop
-slice-write-out-2 c = omega (arith, c .before .before .pre, length-append (c .before .before .args .s .now) (10 ∷ []))
+slice-write-out-2 c =
+    let at-pre = c .before .before in
+    omega (arith, at-pre .pre, length-append (at-pre .args .s .now) (10 ∷ []))
 
 add-result : tie.Need-add-result Inv-loop μ-loop
-add-result c = omega (arith, c .before .before .pre, length-append (c .before .before .args .s .now) (10 ∷ []))
+add-result c =
+    let at-pre = c .before .before in
+    omega (arith, at-pre .pre, length-append (at-pre .args .s .now) (10 ∷ []))
 
 same-length : tie.Need-same-length Inv-loop μ-loop
 same-length c = simp length-set (c .before .loop .inv .1 .1 .0)

@@ -5,22 +5,36 @@ use Rattle.rewriter.proofs.put_set.Statement.{statement}
 use Rattle.rewriter.proofs.put_set.Tie as tie
 
 put-head-requires : tie.Need-put-head-requires
-put-head-requires c κs = head-room _ _ _ (c .before .before .before .args .out .now) (c .before .before .before .pre .1)
+put-head-requires c κs =
+    let at-start = c .before .before .before in
+    head-room _ _ _ (at-start .args .out .now) (at-start .pre .1)
 
 put-body-requires : tie.Need-put-body-requires
-put-body-requires c κs = (c .before .before .before .before .before .before .before .pre .0, lines-room _ _ _ (c .before .before .before .before .before .before .before .args .out .now) (c .before .before .before .before .before .before .before .pre .1) _ _ (c .before .before .before .put-head .ensures .0) (c .before .before .before .put-head .ensures .1))
+put-body-requires c κs =
+    let at-put-head = c .before .before .before in
+    let at-pre = at-put-head .before .before .before .before in
+    (at-pre .pre .0, lines-room _ _ _ (at-pre .args .out .now) (at-pre .pre .1) _ _ (at-put-head .put-head .ensures .0) (at-put-head .put-head .ensures .1))
 
 slice-aggregate-put-line : tie.Need-slice-aggregate-put-line
 slice-aggregate-put-line c = search needs
 
 put-line-requires : tie.Need-put-line-requires
-put-line-requires c κs = closing-room _ _ _ (c .before .before .before .before .before .before .before .before .before .before .before .before .args .out .now) (c .before .before .before .before .before .before .before .before .before .before .before .before .pre .1) _ _ (c .before .before .before .before .before .before .before .before .put-head .ensures .0) (c .before .before .before .before .before .before .before .before .put-head .ensures .1) _ _ (c .before .before .before .before .put-body .ensures .0) (c .before .before .before .before .put-body .ensures .1)
+put-line-requires c κs =
+    let at-put-body = c .before .before .before .before in
+    let at-put-head = at-put-body .before .before .before .before in
+    let at-start = at-put-head .before .before .before .before in
+    closing-room _ _ _ (at-start .args .out .now) (at-start .pre .1) _ _ (at-put-head .put-head .ensures .0) (at-put-head .put-head .ensures .1) _ _ (at-put-body .put-body .ensures .0) (at-put-body .put-body .ensures .1)
 
 same-length : tie.Need-same-length
 same-length c = search needs
 
 returns : tie.Need-returns
-returns c = set-done _ _ _ (c .before .before .before .before .before .before .before .before .before .before .before .before .before .before .before .args .out .now) (c .before .before .before .before .before .before .before .before .before .before .before .before .before .before .before .pre .1) _ _ (c .before .before .before .before .before .before .before .before .before .before .before .put-head .ensures .0) (c .before .before .before .before .before .before .before .before .before .before .before .put-head .ensures .1) _ _ (c .before .before .before .before .before .before .before .put-body .ensures .0) (c .before .before .before .before .before .before .before .put-body .ensures .1) _ _ (c .before .before .put-line .ensures .0) (c .before .before .put-line .ensures .1)
+returns c =
+    let at-put-line = c .before .before in
+    let at-put-body = at-put-line .before .before .before .before .before in
+    let at-put-head = at-put-body .before .before .before .before in
+    let at-start = at-put-head .before .before .before .before in
+    set-done _ _ _ (at-start .args .out .now) (at-start .pre .1) _ _ (at-put-head .put-head .ensures .0) (at-put-head .put-head .ensures .1) _ _ (at-put-body .put-body .ensures .0) (at-put-body .put-body .ensures .1) _ _ (at-put-line .put-line .ensures .0) (at-put-line .put-line .ensures .1)
 
 pub put-set-spec : {M : Type 1} → statement M
 put-set-spec =

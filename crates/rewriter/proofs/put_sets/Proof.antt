@@ -25,16 +25,30 @@ loop-holds : tie.Need-loop-holds Inv-loop μ-loop
 loop-holds c = (search needs, (search needs, (c .next-set .ensures, rw (rewritten-start _) (put-start _ _ _))))
 
 put-set-requires : tie.Need-put-set-requires Inv-loop μ-loop
-put-set-requires c κs = let t = set-turn _ _ _ _ (c .before .before .loop .inv .0) (c .before .before .loop .inv .1 .1 .0) (c .before .before .loop .inv .1 .0) (c .before .loop-test .taken) in (t .body, set-room _ _ (c .before .before .before .before .before .before .pre) _ _ _ t _ _ (c .before .before .loop .inv .1 .1 .1))
+put-set-requires c κs =
+    let at-loop = c .before .before in
+    let at-pre = at-loop .before .before .before .before in
+    let t = set-turn _ _ _ _ (at-loop .loop .inv .0) (at-loop .loop .inv .1 .1 .0) (at-loop .loop .inv .1 .0) (c .before .loop-test .taken) in (t .body, set-room _ _ (at-pre .pre) _ _ _ t _ _ (at-loop .loop .inv .1 .1 .1))
 
 next-set-requires-2 : tie.Need-next-set-requires-2 Inv-loop μ-loop
-next-set-requires-2 c κs = let t = set-turn _ _ _ _ (c .before .before .before .before .before .loop .inv .0) (c .before .before .before .before .before .loop .inv .1 .1 .0) (c .before .before .before .before .before .loop .inv .1 .0) (c .before .before .before .before .loop-test .taken) in (t .past, t .lines)
+next-set-requires-2 c κs =
+    let at-loop-test = c .before .before .before .before in
+    let at-loop = at-loop-test .before in
+    let t = set-turn _ _ _ _ (at-loop .loop .inv .0) (at-loop .loop .inv .1 .1 .0) (at-loop .loop .inv .1 .0) (at-loop-test .loop-test .taken) in (t .past, t .lines)
 
 loop-less : tie.Need-loop-less Inv-loop μ-loop
-loop-less c = let t = set-turn _ _ _ _ (c .before .before .before .before .before .before .loop .inv .0) (c .before .before .before .before .before .before .loop .inv .1 .1 .0) (c .before .before .before .before .before .before .loop .inv .1 .0) (c .before .before .before .before .before .loop-test .taken) in omega (arith, t .later, t .past)
+loop-less c =
+    let at-loop-test = c .before .before .before .before .before in
+    let at-loop = at-loop-test .before in
+    let t = set-turn _ _ _ _ (at-loop .loop .inv .0) (at-loop .loop .inv .1 .1 .0) (at-loop .loop .inv .1 .0) (at-loop-test .loop-test .taken) in omega (arith, t .later, t .past)
 
 loop-again : tie.Need-loop-again Inv-loop μ-loop
-loop-again c = let t = set-turn _ _ _ _ (c .before .before .before .before .before .before .loop .inv .0) (c .before .before .before .before .before .before .loop .inv .1 .1 .0) (c .before .before .before .before .before .before .loop .inv .1 .0) (c .before .before .before .before .before .loop-test .taken) in (t .past, (t .lines, (c .next-set2 .ensures, set-next _ _ (c .before .before .before .before .before .before .before .before .before .before .pre) _ _ _ t _ _ (c .before .before .before .before .before .before .loop .inv .1 .1 .1) _ _ (c .before .before .before .put-set .ensures .0) (c .before .before .before .put-set .ensures .1))))
+loop-again c =
+    let at-put-set = c .before .before .before in
+    let at-loop-test = at-put-set .before .before in
+    let at-loop = at-loop-test .before in
+    let at-pre = at-loop .before .before .before .before in
+    let t = set-turn _ _ _ _ (at-loop .loop .inv .0) (at-loop .loop .inv .1 .1 .0) (at-loop .loop .inv .1 .0) (at-loop-test .loop-test .taken) in (t .past, (t .lines, (c .next-set2 .ensures, set-next _ _ (at-pre .pre) _ _ _ t _ _ (at-loop .loop .inv .1 .1 .1) _ _ (at-put-set .put-set .ensures .0) (at-put-set .put-set .ensures .1))))
 
 same-length : tie.Need-same-length Inv-loop μ-loop
 same-length c = c .before .loop .inv .1 .1 .1 .same

@@ -15,7 +15,9 @@ rewritten-len-requires : tie.Need-rewritten-len-requires
 rewritten-len-requires c κs = judged-short _ (rw (c .before .before .judge .ensures) at (c .if1 .left))
 
 returns-2 : tie.Need-returns-2
-returns-2 c = short-both _ _ _ (c .before .before .before .before .judge .ensures) (c .before .before .if1 .left) _ (c .before .rewritten-len .ensures) (c .if2 .taken)
+returns-2 c =
+    let at-judge = c .before .before .before .before in
+    short-both _ _ _ (at-judge .judge .ensures) (c .before .before .if1 .left) _ (c .before .rewritten-len .ensures) (c .if2 .taken)
 
 put-sets-requires : tie.Need-put-sets-requires
 put-sets-requires c κs = search needs
@@ -24,7 +26,12 @@ same-length : tie.Need-same-length
 same-length c = search needs
 
 returns-3 : tie.Need-returns-3
-returns-3 c = accepted-both _ _ _ (c .before .before .before .before .before .before .before .before .judge .ensures) (c .before .before .before .before .before .before .if1 .left) _ (c .before .before .before .before .before .rewritten-len .ensures) (c .before .before .before .before .if2 .left) _ (c .before .before .put-sets .ensures)
+returns-3 c =
+    let at-if2 = c .before .before .before .before in
+    let at-rewritten-len = at-if2 .before in
+    let at-if1 = at-rewritten-len .before in
+    let at-judge = at-if1 .before .before in
+    accepted-both _ _ _ (at-judge .judge .ensures) (at-if1 .if1 .left) _ (at-rewritten-len .rewritten-len .ensures) (at-if2 .if2 .left) _ (c .before .before .put-sets .ensures)
 
 pub rewrite-spec : {M : Type 1} → statement M
 rewrite-spec =

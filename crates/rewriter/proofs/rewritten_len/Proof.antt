@@ -27,19 +27,31 @@ body-len-requires : tie.Need-body-len-requires Inv-loop μ-loop
 body-len-requires c κs = set-turn _ _ _ _ (c .before .loop .inv .0) (c .before .loop .inv .1 .1 .0) (c .before .loop .inv .1 .0) (c .loop-test .taken) .body
 
 add-n : tie.Need-add-n Inv-loop μ-loop
-add-n c = omega (arith, c .body-len .ensures, c .before .before .loop .inv .1 .1 .1, c .before .before .before .before .before .pre, turn-length _ _ _ _ (set-turn _ _ _ _ (c .before .before .loop .inv .0) (c .before .before .loop .inv .1 .1 .0) (c .before .before .loop .inv .1 .0) (c .before .loop-test .taken)), file-most (c .before .before .before .before .before .args .file .now))
+add-n c =
+    let at-loop = c .before .before in
+    let at-pre = at-loop .before .before .before in
+    omega (arith, c .body-len .ensures, at-loop .loop .inv .1 .1 .1, at-pre .pre, turn-length _ _ _ _ (set-turn _ _ _ _ (at-loop .loop .inv .0) (at-loop .loop .inv .1 .1 .0) (at-loop .loop .inv .1 .0) (c .before .loop-test .taken)), file-most (at-pre .args .file .now))
 
 add-n-2 : tie.Need-add-n-2 Inv-loop μ-loop
-add-n-2 c = omega (arith, c .body-len .ensures, c .before .before .loop .inv .1 .1 .1, c .before .before .before .before .before .pre, turn-length _ _ _ _ (set-turn _ _ _ _ (c .before .before .loop .inv .0) (c .before .before .loop .inv .1 .1 .0) (c .before .before .loop .inv .1 .0) (c .before .loop-test .taken)), file-most (c .before .before .before .before .before .args .file .now))
+add-n-2 c =
+    let at-loop = c .before .before in
+    let at-pre = at-loop .before .before .before in
+    omega (arith, c .body-len .ensures, at-loop .loop .inv .1 .1 .1, at-pre .pre, turn-length _ _ _ _ (set-turn _ _ _ _ (at-loop .loop .inv .0) (at-loop .loop .inv .1 .1 .0) (at-loop .loop .inv .1 .0) (c .before .loop-test .taken)), file-most (at-pre .args .file .now))
 
 next-set-requires-2 : tie.Need-next-set-requires-2 Inv-loop μ-loop
-next-set-requires-2 c κs = let t = set-turn _ _ _ _ (c .before .before .loop .inv .0) (c .before .before .loop .inv .1 .1 .0) (c .before .before .loop .inv .1 .0) (c .before .loop-test .taken) in (t .past, t .lines)
+next-set-requires-2 c κs =
+    let at-loop = c .before .before in
+    let t = set-turn _ _ _ _ (at-loop .loop .inv .0) (at-loop .loop .inv .1 .1 .0) (at-loop .loop .inv .1 .0) (c .before .loop-test .taken) in (t .past, t .lines)
 
 loop-less : tie.Need-loop-less Inv-loop μ-loop
-loop-less c = let t = set-turn _ _ _ _ (c .before .before .before .loop .inv .0) (c .before .before .before .loop .inv .1 .1 .0) (c .before .before .before .loop .inv .1 .0) (c .before .before .loop-test .taken) in omega (arith, t .later, t .past)
+loop-less c =
+    let at-loop = c .before .before .before in
+    let t = set-turn _ _ _ _ (at-loop .loop .inv .0) (at-loop .loop .inv .1 .1 .0) (at-loop .loop .inv .1 .0) (c .before .before .loop-test .taken) in omega (arith, t .later, t .past)
 
 loop-again : tie.Need-loop-again Inv-loop μ-loop
-loop-again c = let t = set-turn _ _ _ _ (c .before .before .before .loop .inv .0) (c .before .before .before .loop .inv .1 .1 .0) (c .before .before .before .loop .inv .1 .0) (c .before .before .loop-test .taken) in (t .past, (t .lines, (c .next-set2 .ensures, omega (arith, c .before .body-len .ensures, c .before .before .before .loop .inv .1 .1 .1, turn-length _ _ _ _ t))))
+loop-again c =
+    let at-loop = c .before .before .before in
+    let t = set-turn _ _ _ _ (at-loop .loop .inv .0) (at-loop .loop .inv .1 .1 .0) (at-loop .loop .inv .1 .0) (c .before .before .loop-test .taken) in (t .past, (t .lines, (c .next-set2 .ensures, omega (arith, c .before .body-len .ensures, at-loop .loop .inv .1 .1 .1, turn-length _ _ _ _ t))))
 
 returns : tie.Need-returns Inv-loop μ-loop
 returns c = omega (arith, c .before .loop .inv .1 .1 .1, ap length (set-none _ _ _ _ (c .before .loop .inv .0) (c .before .loop .inv .1 .1 .0) (c .loop-test .left)))

@@ -19,15 +19,25 @@ unfolding answerOf
 returns-2 c = rw (seen-past (c .before .before .before .args .c) (sym (c .before .is-past .ensures) ∙ c .if2 .taken), c .before .before .if1 .left) refl
 
 add-t4 : tie.Need-add-t4
-add-t4 c = omega (arith, past-not (c .before .before .before .before .before .before .args .c) (sym (c .before .before .before .before .is-past .ensures) ∙ c .before .before .before .if2 .left))
+add-t4 c =
+    let at-is-past = c .before .before .before .before in
+    let at-start = at-is-past .before .before in
+    omega (arith, past-not (at-start .args .c) (sym (at-is-past .is-past .ensures) ∙ c .before .before .before .if2 .left))
 
 returns-3 : tie.Need-returns-3
 unfolding answerOf
-returns-3 c = rw (seen-refused (c .before .before .before .before .before .before .args .c) (sym (c .before .before .before .before .is-past .ensures) ∙ c .before .before .before .if2 .left) (c .before .if3 .taken), c .before .before .before .before .before .if1 .left) refl
+returns-3 c =
+    let at-is-past = c .before .before .before .before in
+    let at-if1 = at-is-past .before in
+    let at-start = at-if1 .before in
+    rw (seen-refused (at-start .args .c) (sym (at-is-past .is-past .ensures) ∙ c .before .before .before .if2 .left) (c .before .if3 .taken), at-if1 .if1 .left) refl
 
 returns-4 : tie.Need-returns-4
 unfolding answerOf
-returns-4 c = rw (seen-going (c .before .before .before .before .before .args .c) (sym (c .before .before .before .is-past .ensures) ∙ c .before .before .if2 .left) (omega arith), c .before .before .before .before .if1 .left) refl
+returns-4 c =
+    let at-if1 = c .before .before .before .before in
+    let at-start = at-if1 .before in
+    rw (seen-going (at-start .args .c) (sym (c .before .before .before .is-past .ensures) ∙ c .before .before .if2 .left) (omega arith), at-if1 .if1 .left) refl
 
 pub answer-of-spec : {M : Type 1} → statement M
 answer-of-spec = tie.close (tie.spec returns is-past-requires returns-2 add-t4 returns-3 returns-4)

@@ -31,7 +31,9 @@ loop-less : tie.Need-loop-less Inv-loop μ-loop
 loop-less c = search needs
 
 loop-again : tie.Need-loop-again Inv-loop μ-loop
-loop-again c = (search needs, (simp length-set (c .before .before .loop .inv .1 .0), copied-next _ _ _ (omega arith) (c .before .before .loop .inv .1 .1) (c .before .loop-test .taken)))
+loop-again c =
+    let at-loop = c .before .before in
+    (search needs, (simp length-set (at-loop .loop .inv .1 .0), copied-next _ _ _ (omega arith) (at-loop .loop .inv .1 .1) (c .before .loop-test .taken)))
 
 array-write-ended-2 : tie.Need-array-write-ended-2 Inv-loop μ-loop
 array-write-ended-2 c = search needs
@@ -49,7 +51,9 @@ judge-lines-requires : tie.Need-judge-lines-requires Inv-loop μ-loop
 judge-lines-requires c κs = (search needs, simp length-take (omega arith))
 
 returns : tie.Need-returns Inv-loop μ-loop
-returns c = open-judged _ _ _ (omega arith) (c .before .before .before .loop .inv .1 .1) _ _ _ (c .before .before .loop-test .left) (c .before .before .before .before .before .pre .1 .1) (c .judge-lines .ensures)
+returns c =
+    let at-pre = c .before .before .before .before .before in
+    open-judged _ _ _ (omega arith) (c .before .before .before .loop .inv .1 .1) _ _ _ (c .before .before .loop-test .left) (at-pre .pre .1 .1) (c .judge-lines .ensures)
 
 pub judge-open-spec : {M : Type 1} → statement M
 judge-open-spec =

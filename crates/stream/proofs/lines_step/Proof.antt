@@ -12,13 +12,19 @@ judge-lines-requires : tie.Need-judge-lines-requires
 judge-lines-requires c κs = (c .before .pre .0, omega (arith, c .before .pre))
 
 returns : tie.Need-returns
-returns c = (lines-refused _ _ _ _ _ (c .before .before .before .before .before .pre .0) (c .before .before .before .before .before .pre .1 .0) (c .before .before .before .before .before .pre .1 .1) _ (c .before .before .before .judge-lines .ensures) _ (c .if1 .taken), refl)
+returns c =
+    let at-pre = c .before .before .before .before .before in
+    (lines-refused _ _ _ _ _ (at-pre .pre .0) (at-pre .pre .1 .0) (at-pre .pre .1 .1) _ (c .before .before .before .judge-lines .ensures) _ (c .if1 .taken), refl)
 
 sub-push-all : tie.Need-sub-push-all
-sub-push-all c = omega (arith, c .before .before .before .before .judge-lines .ensures .within)
+sub-push-all c =
+    let at-judge-lines = c .before .before .before .before in
+    omega (arith, at-judge-lines .judge-lines .ensures .within)
 
 part-push-all-start : tie.Need-part-push-all-start
-part-push-all-start c = omega (arith, c .before .before .before .before .judge-lines .ensures .within)
+part-push-all-start c =
+    let at-judge-lines = c .before .before .before .before in
+    omega (arith, at-judge-lines .judge-lines .ensures .within)
 
 part-push-all-end : tie.Need-part-push-all-end
 part-push-all-end c = search needs
@@ -27,7 +33,10 @@ push-all-requires : tie.Need-push-all-requires
 push-all-requires c κs = (search needs, refl)
 
 returns-2 : tie.Need-returns-2
-returns-2 c = (lines-going _ _ _ _ _ (c .before .before .before .before .before .before .before .before .pre .0) (c .before .before .before .before .before .before .before .before .pre .1 .0) (c .before .before .before .before .before .before .before .before .pre .1 .1) _ (c .before .before .before .before .before .before .judge-lines .ensures) _ _ (c .before .before .before .if1 .left) (c .push-all .ensures .0) (c .push-all .ensures .2 ∙ ap squeezed (tail-part (c .before .before .before .before .before .before .before .before .args .burst .now) (c .before .before .before .before .before .before .judge-lines .result .at))), refl)
+returns-2 c =
+    let at-judge-lines = c .before .before .before .before .before .before in
+    let at-pre = at-judge-lines .before .before in
+    (lines-going _ _ _ _ _ (at-pre .pre .0) (at-pre .pre .1 .0) (at-pre .pre .1 .1) _ (at-judge-lines .judge-lines .ensures) _ _ (c .before .before .before .if1 .left) (c .push-all .ensures .0) (c .push-all .ensures .2 ∙ ap squeezed (tail-part (at-pre .args .burst .now) (at-judge-lines .judge-lines .result .at))), refl)
 
 pub lines-step-spec : {M : Type 1} → statement M
 lines-step-spec =

@@ -19,34 +19,65 @@ open-len-requires : tie.Need-open-len-requires
 open-len-requires c κs = search needs
 
 slice-aggregate-push-all : tie.Need-slice-aggregate-push-all
-slice-aggregate-push-all c = sym (length-take-le _ _ (omega (arith, c .before .before .before .find-end .ensures, lineLen-most (c .before .before .before .before .before .before .before .args .burst .now))))
+slice-aggregate-push-all c =
+    let at-start = c .before .before .before .before .before .before .before in
+    sym (length-take-le _ _ (omega (arith, c .before .before .before .find-end .ensures, lineLen-most (at-start .args .burst .now))))
 
 push-all-requires : tie.Need-push-all-requires
-push-all-requires c κs = (omega (arith, c .before .open-len .ensures .0, openLen-most (c .before .before .before .before .before .before .before .args .c)), c .before .open-len .ensures .1)
+push-all-requires c κs =
+    let at-start = c .before .before .before .before .before .before .before in
+    (omega (arith, c .before .open-len .ensures .0, openLen-most (at-start .args .c)), c .before .open-len .ensures .1)
 
 returns : tie.Need-returns
-returns c = (burst-still (c .before .before .before .before .before .before .before .before .before .args .c) (c .before .before .before .before .before .before .before .before .before .args .burst .now) (c .before .before .before .before .before .before .before .before .before .args .total) (c .before .before .before .before .before .before .before .before .before .pre .0) (c .before .before .before .before .before .before .before .before .before .pre .1) (c .before .before .before .before .before .find-end .result) (omega (arith, c .before .before .before .before .before .find-end .ensures)) _ (c .before .push-all .result) (c .before .push-all .ensures .0) (c .before .push-all .ensures .2 ∙ ap (λ (x : List ℕ). pushAll x (take (c .before .before .before .before .before .find-end .result) (c .before .before .before .before .before .before .before .before .before .args .burst .now))) (open-part (c .before .before .before .before .before .before .before .before .before .args .c) (c .before .before .before .open-len .result) (c .before .before .before .open-len .ensures .0))) (c .if1 .taken), refl)
+returns c =
+    let at-open-len = c .before .before .before in
+    let at-find-end = at-open-len .before .before in
+    let at-start = at-find-end .before .before .before .before in
+    (burst-still (at-start .args .c) (at-start .args .burst .now) (at-start .args .total) (at-start .pre .0) (at-start .pre .1) (at-find-end .find-end .result) (omega (arith, at-find-end .find-end .ensures)) _ (c .before .push-all .result) (c .before .push-all .ensures .0) (c .before .push-all .ensures .2 ∙ ap (λ (x : List ℕ). pushAll x (take (at-find-end .find-end .result) (at-start .args .burst .now))) (open-part (at-start .args .c) (at-open-len .open-len .result) (at-open-len .open-len .ensures .0))) (c .if1 .taken), refl)
 
 array-share-prefix-line : tie.Need-array-share-prefix-line
 array-share-prefix-line c = omega (arith, c .before .push-all .ensures .0, c .before .push-all .ensures .1)
 
 slice-aggregate-judge-open : tie.Need-slice-aggregate-judge-open
-slice-aggregate-judge-open c = sym (length-take-le _ _ (omega (arith, c .before .before .push-all .ensures .0, c .before .before .push-all .ensures .1)))
+slice-aggregate-judge-open c =
+    let at-push-all = c .before .before in
+    sym (length-take-le _ _ (omega (arith, at-push-all .push-all .ensures .0, at-push-all .push-all .ensures .1)))
 
 judge-open-requires : tie.Need-judge-open-requires
-judge-open-requires c κs = (omega (arith, c .before .before .before .before .before .before .before .before .before .before .pre), (simp length-take (omega (arith, c .before .before .push-all .ensures .0)), first-open (c .before .before .before .before .before .before .before .before .before .before .args .c) (c .before .before .before .before .before .before .before .before .before .before .args .burst .now) (c .before .before .before .before .before .before .before .before .before .before .args .total) (c .before .before .before .before .before .before .before .before .before .before .pre .0) (c .before .before .before .before .before .before .before .before .before .before .pre .1) (c .before .before .before .before .before .before .find-end .result) (omega (arith, c .before .before .before .before .before .before .find-end .ensures)) _ (c .before .before .push-all .result) (c .before .before .push-all .ensures .0) (c .before .before .push-all .ensures .2 ∙ ap (λ (x : List ℕ). pushAll x (take (c .before .before .before .before .before .before .find-end .result) (c .before .before .before .before .before .before .before .before .before .before .args .burst .now))) (open-part (c .before .before .before .before .before .before .before .before .before .before .args .c) (c .before .before .before .before .open-len .result) (c .before .before .before .before .open-len .ensures .0)))))
+judge-open-requires c κs =
+    let at-push-all = c .before .before in
+    let at-open-len = at-push-all .before .before in
+    let at-find-end = at-open-len .before .before in
+    let at-pre = at-find-end .before .before .before .before in
+    (omega (arith, at-pre .pre), (simp length-take (omega (arith, at-push-all .push-all .ensures .0)), first-open (at-pre .args .c) (at-pre .args .burst .now) (at-pre .args .total) (at-pre .pre .0) (at-pre .pre .1) (at-find-end .find-end .result) (omega (arith, at-find-end .find-end .ensures)) _ (at-push-all .push-all .result) (at-push-all .push-all .ensures .0) (at-push-all .push-all .ensures .2 ∙ ap (λ (x : List ℕ). pushAll x (take (at-find-end .find-end .result) (at-pre .args .burst .now))) (open-part (at-pre .args .c) (at-open-len .open-len .result) (at-open-len .open-len .ensures .0)))))
 
 returns-2 : tie.Need-returns-2
-returns-2 c = (burst-stops (c .before .before .before .before .before .before .before .before .before .before .before .before .before .before .args .c) (c .before .before .before .before .before .before .before .before .before .before .before .before .before .before .args .burst .now) (c .before .before .before .before .before .before .before .before .before .before .before .before .before .before .args .total) (c .before .before .before .before .before .before .before .before .before .before .before .before .before .before .pre .0) (c .before .before .before .before .before .before .before .before .before .before .before .before .before .before .pre .1) (c .before .before .before .before .before .before .before .before .before .before .find-end .result) (omega (arith, c .before .before .before .before .before .before .before .before .before .before .find-end .ensures)) _ (c .before .before .before .before .before .before .push-all .result) (c .before .before .before .before .before .before .push-all .ensures .0) (c .before .before .before .before .before .before .push-all .ensures .2 ∙ ap (λ (x : List ℕ). pushAll x (take (c .before .before .before .before .before .before .before .before .before .before .find-end .result) (c .before .before .before .before .before .before .before .before .before .before .before .before .before .before .args .burst .now))) (open-part (c .before .before .before .before .before .before .before .before .before .before .before .before .before .before .args .c) (c .before .before .before .before .before .before .before .before .open-len .result) (c .before .before .before .before .before .before .before .before .open-len .ensures .0))) (c .before .before .before .before .before .if1 .left) _ (c .before .before .before .judge-open .ensures) _ (c .if2 .taken), refl)
+returns-2 c =
+    let at-if1 = c .before .before .before .before .before in
+    let at-push-all = at-if1 .before in
+    let at-open-len = at-push-all .before .before in
+    let at-find-end = at-open-len .before .before in
+    let at-start = at-find-end .before .before .before .before in
+    (burst-stops (at-start .args .c) (at-start .args .burst .now) (at-start .args .total) (at-start .pre .0) (at-start .pre .1) (at-find-end .find-end .result) (omega (arith, at-find-end .find-end .ensures)) _ (at-push-all .push-all .result) (at-push-all .push-all .ensures .0) (at-push-all .push-all .ensures .2 ∙ ap (λ (x : List ℕ). pushAll x (take (at-find-end .find-end .result) (at-start .args .burst .now))) (open-part (at-start .args .c) (at-open-len .open-len .result) (at-open-len .open-len .ensures .0))) (at-if1 .if1 .left) _ (c .before .before .before .judge-open .ensures) _ (c .if2 .taken), refl)
 
 add-lines-step : tie.Need-add-lines-step
 add-lines-step c = search needs
 
 lines-step-requires : tie.Need-lines-step-requires
-lines-step-requires c κs = (omega (arith, c .before .before .before .before .before .if1 .left), (omega (arith, c .before .before .before .judge-open .ensures .few, c .before .before .before .before .before .if1 .left, c .before .before .before .before .before .before .before .before .before .before .before .before .before .before .pre), c .before .before .before .before .before .before .before .before .before .before .before .before .before .before .pre .1))
+lines-step-requires c κs =
+    let at-if1 = c .before .before .before .before .before in
+    let at-pre = at-if1 .before .before .before .before .before .before .before .before .before in
+    (omega (arith, at-if1 .if1 .left), (omega (arith, c .before .before .before .judge-open .ensures .few, at-if1 .if1 .left, at-pre .pre), at-pre .pre .1))
 
 returns-3 : tie.Need-returns-3
-returns-3 c = (c .lines-step .ensures .0 ∙ burst-next (c .before .before .before .before .before .before .before .before .before .before .before .before .before .before .before .args .c) (c .before .before .before .before .before .before .before .before .before .before .before .before .before .before .before .args .burst .now) (c .before .before .before .before .before .before .before .before .before .before .before .before .before .before .before .args .total) (c .before .before .before .before .before .before .before .before .before .before .before .before .before .before .before .pre .0) (c .before .before .before .before .before .before .before .before .before .before .before .before .before .before .before .pre .1) (c .before .before .before .before .before .before .before .before .before .before .before .find-end .result) (omega (arith, c .before .before .before .before .before .before .before .before .before .before .before .find-end .ensures)) _ (c .before .before .before .before .before .before .before .push-all .result) (c .before .before .before .before .before .before .before .push-all .ensures .0) (c .before .before .before .before .before .before .before .push-all .ensures .2 ∙ ap (λ (x : List ℕ). pushAll x (take (c .before .before .before .before .before .before .before .before .before .before .before .find-end .result) (c .before .before .before .before .before .before .before .before .before .before .before .before .before .before .before .args .burst .now))) (open-part (c .before .before .before .before .before .before .before .before .before .before .before .before .before .before .before .args .c) (c .before .before .before .before .before .before .before .before .before .open-len .result) (c .before .before .before .before .before .before .before .before .before .open-len .ensures .0))) (c .before .before .before .before .before .before .if1 .left) _ (c .before .before .before .before .judge-open .ensures) (c .before .if2 .left), c .lines-step .ensures .1)
+returns-3 c =
+    let at-judge-open = c .before .before .before .before in
+    let at-if1 = at-judge-open .before .before in
+    let at-push-all = at-if1 .before in
+    let at-open-len = at-push-all .before .before in
+    let at-find-end = at-open-len .before .before in
+    let at-start = at-find-end .before .before .before .before in
+    (c .lines-step .ensures .0 ∙ burst-next (at-start .args .c) (at-start .args .burst .now) (at-start .args .total) (at-start .pre .0) (at-start .pre .1) (at-find-end .find-end .result) (omega (arith, at-find-end .find-end .ensures)) _ (at-push-all .push-all .result) (at-push-all .push-all .ensures .0) (at-push-all .push-all .ensures .2 ∙ ap (λ (x : List ℕ). pushAll x (take (at-find-end .find-end .result) (at-start .args .burst .now))) (open-part (at-start .args .c) (at-open-len .open-len .result) (at-open-len .open-len .ensures .0))) (at-if1 .if1 .left) _ (at-judge-open .judge-open .ensures) (c .before .if2 .left), c .lines-step .ensures .1)
 
 pub open-step-spec : {M : Type 1} → statement M
 open-step-spec =

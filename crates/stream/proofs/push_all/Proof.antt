@@ -21,7 +21,9 @@ shared-slice-read-push-byte : tie.Need-shared-slice-read-push-byte Inv-loop μ-l
 shared-slice-read-push-byte c = search needs
 
 push-byte-requires : tie.Need-push-byte-requires Inv-loop μ-loop
-push-byte-requires c κs = (c .before .before .before .loop .inv .1 .0, c .before .before .before .loop .inv .1 .1 .0)
+push-byte-requires c κs =
+    let at-loop = c .before .before .before in
+    (at-loop .loop .inv .1 .0, at-loop .loop .inv .1 .1 .0)
 
 add-i : tie.Need-add-i Inv-loop μ-loop
 add-i c = search needs
@@ -30,7 +32,9 @@ loop-less : tie.Need-loop-less Inv-loop μ-loop
 loop-less c = search needs
 
 loop-again : tie.Need-loop-again Inv-loop μ-loop
-loop-again c = (search needs, (c .push-byte .ensures .0, (c .push-byte .ensures .1, rw (c .push-byte .ensures .2) (sym (pushAll-next _ _ _ (c .before .before .before .loop-test .taken))) ∙ c .before .before .before .before .loop .inv .1 .1 .1)))
+loop-again c =
+    let at-loop = c .before .before .before .before in
+    (search needs, (c .push-byte .ensures .0, (c .push-byte .ensures .1, rw (c .push-byte .ensures .2) (sym (pushAll-next _ _ _ (c .before .before .before .loop-test .taken))) ∙ at-loop .loop .inv .1 .1 .1)))
 
 returns : tie.Need-returns Inv-loop μ-loop
 returns c = (c .before .loop .inv .1 .0, c .before .loop .inv .1 .1 .0, sym (pushAll-done _ _ _ (c .loop-test .left)) ∙ c .before .loop .inv .1 .1 .1)

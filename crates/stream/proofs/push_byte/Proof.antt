@@ -25,7 +25,9 @@ element-write-line-2 : tie.Need-element-write-line-2
 element-write-line-2 c = search needs
 
 returns-2 : tie.Need-returns-2
-returns-2 c = (search needs, simp length-set (c .before .before .before .before .pre .1), push-full _ _ _ (c .before .before .before .before .pre .1) (c .before .before .before .if1 .left) (sym (c .before .is-allowed .ensures) ∙ c .if2 .taken))
+returns-2 c =
+    let at-pre = c .before .before .before .before in
+    (search needs, simp length-set (at-pre .pre .1), push-full _ _ _ (at-pre .pre .1) (c .before .before .before .if1 .left) (sym (c .before .is-allowed .ensures) ∙ c .if2 .taken))
 
 element-write-line-3 : tie.Need-element-write-line-3
 element-write-line-3 c = search needs
@@ -34,7 +36,9 @@ element-write-line-4 : tie.Need-element-write-line-4
 element-write-line-4 c = search needs
 
 returns-3 : tie.Need-returns-3
-returns-3 c = (search needs, simp length-set (c .before .before .before .before .pre .1), push-bad _ _ _ (c .before .before .before .before .pre .1) (c .before .before .before .if1 .left) (sym (c .before .is-allowed .ensures) ∙ c .if2 .left))
+returns-3 c =
+    let at-pre = c .before .before .before .before in
+    (search needs, simp length-set (at-pre .pre .1), push-bad _ _ _ (at-pre .pre .1) (c .before .before .before .if1 .left) (sym (c .before .is-allowed .ensures) ∙ c .if2 .left))
 
 pub push-byte-spec : {M : Type 1} → statement M
 push-byte-spec =

@@ -18,25 +18,42 @@ returns : tie.Need-returns
 returns c = rw (seen-past (c .before .before .args .c) (sym (c .before .is-past .ensures) ∙ c .if1 .taken)) refl
 
 add-t6 : tie.Need-add-t6
-add-t6 c = omega (arith, past-not _ (sym (c .before .before .before .before .is-past .ensures) ∙ c .before .before .before .if1 .left))
+add-t6 c =
+    let at-is-past = c .before .before .before .before in
+    omega (arith, past-not _ (sym (at-is-past .is-past .ensures) ∙ c .before .before .before .if1 .left))
 
 returns-2 : tie.Need-returns-2
-returns-2 c = rw (seen-refused (c .before .before .before .before .before .args .c) (sym (c .before .before .before .before .is-past .ensures) ∙ c .before .before .before .if1 .left) (c .before .if2 .taken)) refl
+returns-2 c =
+    let at-is-past = c .before .before .before .before in
+    let at-start = at-is-past .before in
+    rw (seen-refused (at-start .args .c) (sym (at-is-past .is-past .ensures) ∙ c .before .before .before .if1 .left) (c .before .if2 .taken)) refl
 
 open-len-requires : tie.Need-open-len-requires
 open-len-requires c κs = search needs
 
 array-share-prefix-line : tie.Need-array-share-prefix-line
-array-share-prefix-line c = omega (arith, c .open-len .ensures .0, c .open-len .ensures .1, openLen-most (c .before .before .before .before .before .before .args .c))
+array-share-prefix-line c =
+    let at-start = c .before .before .before .before .before .before in
+    omega (arith, c .open-len .ensures .0, c .open-len .ensures .1, openLen-most (at-start .args .c))
 
 slice-aggregate-finish : tie.Need-slice-aggregate-finish
-slice-aggregate-finish c = omega (arith, length-take (c .before .open-len .result) (c .before .before .before .before .before .before .before .args .c .pending), c .before .open-len .ensures .0, c .before .open-len .ensures .1, openLen-most (c .before .before .before .before .before .before .before .args .c))
+slice-aggregate-finish c =
+    let at-start = c .before .before .before .before .before .before .before in
+    omega (arith, length-take (c .before .open-len .result) (at-start .args .c .pending), c .before .open-len .ensures .0, c .before .open-len .ensures .1, openLen-most (at-start .args .c))
 
 finish-requires : tie.Need-finish-requires
-finish-requires c κs = omega (arith, past-not _ (sym (c .before .before .before .before .before .before .is-past .ensures) ∙ c .before .before .before .before .before .if1 .left))
+finish-requires c κs =
+    let at-if1 = c .before .before .before .before .before in
+    let at-is-past = at-if1 .before in
+    omega (arith, past-not _ (sym (at-is-past .is-past .ensures) ∙ at-if1 .if1 .left))
 
 returns-3 : tie.Need-returns-3
-returns-3 c = c .finish .ensures ∙ ap (λ (x : List ℕ). runEnd (going (c .before .before .before .before .before .before .before .before .args .c .state) (c .before .before .before .before .before .before .before .before .args .c .lines)) x) (open-part (c .before .before .before .before .before .before .before .before .args .c) (c .before .before .open-len .result) (c .before .before .open-len .ensures .0)) ∙ sym (ap endReply (seen-going (c .before .before .before .before .before .before .before .before .args .c) (sym (c .before .before .before .before .before .before .before .is-past .ensures) ∙ c .before .before .before .before .before .before .if1 .left) (omega arith)))
+returns-3 c =
+    let at-open-len = c .before .before in
+    let at-if1 = at-open-len .before .before .before .before in
+    let at-is-past = at-if1 .before in
+    let at-start = at-is-past .before in
+    c .finish .ensures ∙ ap (λ (x : List ℕ). runEnd (going (at-start .args .c .state) (at-start .args .c .lines)) x) (open-part (at-start .args .c) (at-open-len .open-len .result) (at-open-len .open-len .ensures .0)) ∙ sym (ap endReply (seen-going (at-start .args .c) (sym (at-is-past .is-past .ensures) ∙ at-if1 .if1 .left) (omega arith)))
 
 pub reply-spec : {M : Type 1} → statement M
 reply-spec =

@@ -23,7 +23,10 @@ add-result : tie.Need-add-result
 add-result c = search needs
 
 returns-3 : tie.Need-returns-3
-returns-3 c = record { within = λ h. (past-not _ (sym (c .before .before .before .before .is-past .ensures) ∙ c .before .before .before .if1 .left) .1, refl); beyond = λ h. inr h; stops = λ h. absurd (omega (arith, h, c .before .if2 .left, past-not _ (sym (c .before .before .before .before .is-past .ensures) ∙ c .before .before .before .if1 .left) .0)) }
+returns-3 c =
+    let at-if1 = c .before .before .before in
+    let at-is-past = at-if1 .before in
+    record { within = λ h. (past-not _ (sym (at-is-past .is-past .ensures) ∙ at-if1 .if1 .left) .1, refl); beyond = λ h. inr h; stops = λ h. absurd (omega (arith, h, c .before .if2 .left, past-not _ (sym (at-is-past .is-past .ensures) ∙ at-if1 .if1 .left) .0)) }
 
 pub running-spec : {M : Type 1} → statement M
 running-spec = tie.close (tie.spec is-past-requires returns sub-if2 returns-2 add-result returns-3)

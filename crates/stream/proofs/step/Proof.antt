@@ -6,7 +6,9 @@ use Rattle.stream.proofs.step.Statement.{statement}
 use Rattle.stream.proofs.step.Tie as tie
 
 returns : tie.Need-returns
-returns c = stepped-ended (c .before .before .args .c) (c .before .before .args .burst .now) (c .if1 .taken)
+returns c =
+    let at-start = c .before .before in
+    stepped-ended (at-start .args .c) (at-start .args .burst .now) (c .if1 .taken)
 
 running-requires : tie.Need-running-requires
 running-requires c κs = search needs
@@ -15,19 +17,30 @@ at-total-requires : tie.Need-at-total-requires
 at-total-requires c κs = search needs
 
 returns-2 : tie.Need-returns-2
-returns-2 c = stepped-past (c .before .before .before .before .before .args .c) (c .before .before .before .before .before .args .burst .now) (c .before .before .before .if1 .left) _ (c .before .before .running .ensures) _ (c .before .if2 .taken) (c .at-total .ensures)
+returns-2 c =
+    let at-start = c .before .before .before .before .before in
+    stepped-past (at-start .args .c) (at-start .args .burst .now) (c .before .before .before .if1 .left) _ (c .before .before .running .ensures) _ (c .before .if2 .taken) (c .at-total .ensures)
 
 at-total-requires-2 : tie.Need-at-total-requires-2
 at-total-requires-2 c κs = search needs
 
 returns-3 : tie.Need-returns-3
-returns-3 c = stepped-refused (c .before .before .before .before .before .before .args .c) (c .before .before .before .before .before .before .args .burst .now) (c .before .before .before .before .if1 .left) _ (c .before .before .before .running .ensures) (c .before .before .if2 .left) _ (omega (arith, c .before .if3 .taken)) (c .at-total2 .ensures)
+returns-3 c =
+    let at-if1 = c .before .before .before .before in
+    let at-start = at-if1 .before .before in
+    stepped-refused (at-start .args .c) (at-start .args .burst .now) (at-if1 .if1 .left) _ (c .before .before .before .running .ensures) (c .before .before .if2 .left) _ (omega (arith, c .before .if3 .taken)) (c .at-total2 .ensures)
 
 open-step-requires : tie.Need-open-step-requires
-open-step-requires c κs = (bounds (c .before .before .before .before .before .args .c) (c .before .before .before .before .before .args .burst .now) (c .before .before .before .if1 .left) (c .before .before .running .result) (c .before .before .running .ensures) (c .before .if2 .left), c .before .if2 .left)
+open-step-requires c κs =
+    let at-running = c .before .before in
+    let at-start = at-running .before .before .before in
+    (bounds (at-start .args .c) (at-start .args .burst .now) (c .before .before .before .if1 .left) (at-running .running .result) (at-running .running .ensures) (c .before .if2 .left), c .before .if2 .left)
 
 returns-4 : tie.Need-returns-4
-returns-4 c = stepped-going (c .before .before .before .before .before .before .args .c) (c .before .before .before .before .before .before .args .burst .now) (c .before .before .before .before .if1 .left) _ (c .before .before .before .running .ensures) (c .before .before .if2 .left) _ (omega (arith, c .before .if3 .left)) (c .open-step .ensures .0) (c .open-step .ensures .1)
+returns-4 c =
+    let at-if1 = c .before .before .before .before in
+    let at-start = at-if1 .before .before in
+    stepped-going (at-start .args .c) (at-start .args .burst .now) (at-if1 .if1 .left) _ (c .before .before .before .running .ensures) (c .before .before .if2 .left) _ (omega (arith, c .before .if3 .left)) (c .open-step .ensures .0) (c .open-step .ensures .1)
 
 pub step-spec : {M : Type 1} → statement M
 step-spec =

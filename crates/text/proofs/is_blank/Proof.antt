@@ -28,7 +28,9 @@ loop-less : tie.Need-loop-less Inv-loop μ-loop
 loop-less c = search needs
 
 loop-again : tie.Need-loop-again Inv-loop μ-loop
-loop-again c = (search needs, allBlank-next (c .before .before .loop .blank) (c .before .before .before .args .s .now) (c .before .before .loop .i) (c .before .loop-test .taken) ∙ c .before .before .loop .inv .1)
+loop-again c =
+    let at-loop = c .before .before in
+    (search needs, allBlank-next (at-loop .loop .blank) (c .before .before .before .args .s .now) (at-loop .loop .i) (c .before .loop-test .taken) ∙ at-loop .loop .inv .1)
 
 returns : tie.Need-returns Inv-loop μ-loop
 returns c = sym (allBlank-end (c .before .loop .blank) (c .before .before .args .s .now) (c .before .loop .i) (c .loop-test .left)) ∙ c .before .loop .inv .1

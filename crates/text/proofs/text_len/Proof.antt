@@ -25,13 +25,17 @@ shared-slice-read-if1 : tie.Need-shared-slice-read-if1 Inv-loop μ-loop
 shared-slice-read-if1 c = search needs
 
 returns : tie.Need-returns Inv-loop μ-loop
-returns c = sym (ap length (sym (c .before .before .before .loop .inv .1) ∙ trimmed-byte-last _ _ (c .before .before .loop-test .taken) (c .before .before .before .loop .inv .0) (c .if1 .taken)) ∙ length-take-le _ _ (c .before .before .before .loop .inv .0))
+returns c =
+    let at-loop = c .before .before .before in
+    sym (ap length (sym (at-loop .loop .inv .1) ∙ trimmed-byte-last _ _ (c .before .before .loop-test .taken) (at-loop .loop .inv .0) (c .if1 .taken)) ∙ length-take-le _ _ (at-loop .loop .inv .0))
 
 loop-less : tie.Need-loop-less Inv-loop μ-loop
 loop-less c = search needs
 
 loop-again : tie.Need-loop-again Inv-loop μ-loop
-loop-again c = (search needs, sym (trimmed-blank-last _ _ (c .before .before .loop-test .taken) (c .before .before .before .loop .inv .0) (c .if1 .left)) ∙ c .before .before .before .loop .inv .1)
+loop-again c =
+    let at-loop = c .before .before .before in
+    (search needs, sym (trimmed-blank-last _ _ (c .before .before .loop-test .taken) (at-loop .loop .inv .0) (c .if1 .left)) ∙ at-loop .loop .inv .1)
 
 returns-2 : tie.Need-returns-2 Inv-loop μ-loop
 returns-2 c = sym (ap length (sym (c .before .loop .inv .1) ∙ trimmed-none _ _ (c .loop-test .left)))

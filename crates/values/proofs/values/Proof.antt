@@ -12,13 +12,18 @@ judge-requires : tie.Need-judge-requires
 judge-requires c κs = search needs
 
 returns : tie.Need-returns
-returns c = refused-first (c .before .before .before .before .before .args .file .now) (c .before .before .before .before .before .args .set) (c .before .before .before .before .before .args .out .now) _ (c .before .before .judge .ensures) (c .if1 .taken)
+returns c =
+    let at-start = c .before .before .before .before .before in
+    refused-first (at-start .args .file .now) (at-start .args .set) (at-start .args .out .now) _ (c .before .before .judge .ensures) (c .if1 .taken)
 
 find-data-requires : tie.Need-find-data-requires
 find-data-requires c κs = search needs
 
 returns-2 : tie.Need-returns-2
-returns-2 c = none-there (c .before .before .before .before .before .before .before .before .args .file .now) (c .before .before .before .before .before .before .before .before .args .set) (c .before .before .before .before .before .before .before .before .args .out .now) _ (c .before .before .before .before .before .judge .ensures) (c .before .before .before .if1 .left) _ (c .before .before .find-data .ensures) (c .if2 .taken)
+returns-2 c =
+    let at-judge = c .before .before .before .before .before in
+    let at-start = at-judge .before .before .before in
+    none-there (at-start .args .file .now) (at-start .args .set) (at-start .args .out .now) _ (at-judge .judge .ensures) (c .before .before .before .if1 .left) _ (c .before .before .find-data .ensures) (c .if2 .taken)
 
 cast-stored : tie.Need-cast-stored
 cast-stored c = search needs
@@ -27,25 +32,56 @@ numbers-of-requires : tie.Need-numbers-of-requires
 numbers-of-requires c κs = search needs
 
 mul-stored : tie.Need-mul-stored
-mul-stored c = let h : c .before .before .before .before .find-data .result .count * c .numbers-of .result ≤ c .before .before .before .before .find-data .result .count * 3 = start-most _ _ _ (data-inside (c .before .before .before .before .before .before .before .before .before .before .args .file .now) _ _ (c .before .before .before .before .find-data .ensures) .1) (c .numbers-of .ensures) in search needs
+mul-stored c =
+    let at-find-data = c .before .before .before .before in
+    let at-start = at-find-data .before .before .before .before .before .before in
+    let h : at-find-data .find-data .result .count * c .numbers-of .result ≤ at-find-data .find-data .result .count * 3 = start-most _ _ _ (data-inside (at-start .args .file .now) _ _ (at-find-data .find-data .ensures) .1) (c .numbers-of .ensures) in search needs
 
 first-refusal-requires : tie.Need-first-refusal-requires
-first-refusal-requires c κs = data-inside (c .before .before .before .before .before .before .before .before .before .before .args .file .now) _ _ (c .before .before .before .before .find-data .ensures)
+first-refusal-requires c κs =
+    let at-find-data = c .before .before .before .before in
+    let at-start = at-find-data .before .before .before .before .before .before in
+    data-inside (at-start .args .file .now) _ _ (at-find-data .find-data .ensures)
 
 returns-3 : tie.Need-returns-3
-returns-3 c = one-refused (c .before .before .before .before .before .before .before .before .before .before .before .before .args .file .now) (c .before .before .before .before .before .before .before .before .before .before .before .before .args .set) (c .before .before .before .before .before .before .before .before .before .before .before .before .args .out .now) _ (c .before .before .before .before .before .before .before .before .before .judge .ensures) (c .before .before .before .before .before .before .before .if1 .left) _ (c .before .before .before .before .before .before .find-data .ensures) (c .before .before .before .before .if2 .left) _ _ _ refl (c .before .before .numbers-of .ensures) (c .before .first-refusal .ensures) (c .if3 .taken)
+returns-3 c =
+    let at-if2 = c .before .before .before .before in
+    let at-find-data = at-if2 .before .before in
+    let at-if1 = at-find-data .before in
+    let at-judge = at-if1 .before .before in
+    let at-start = at-judge .before .before .before in
+    one-refused (at-start .args .file .now) (at-start .args .set) (at-start .args .out .now) _ (at-judge .judge .ensures) (at-if1 .if1 .left) _ (at-find-data .find-data .ensures) (at-if2 .if2 .left) _ _ _ refl (c .before .before .numbers-of .ensures) (c .before .first-refusal .ensures) (c .if3 .taken)
 
 returns-4 : tie.Need-returns-4
-returns-4 c = too-few (c .before .before .before .before .before .before .before .before .before .before .before .before .before .args .file .now) (c .before .before .before .before .before .before .before .before .before .before .before .before .before .args .set) (c .before .before .before .before .before .before .before .before .before .before .before .before .before .args .out .now) _ (c .before .before .before .before .before .before .before .before .before .before .judge .ensures) (c .before .before .before .before .before .before .before .before .if1 .left) _ (c .before .before .before .before .before .before .before .find-data .ensures) (c .before .before .before .before .before .if2 .left) _ _ _ refl (c .before .before .before .numbers-of .ensures) (c .before .before .first-refusal .ensures) (c .before .if3 .left) (c .if4 .taken)
+returns-4 c =
+    let at-if2 = c .before .before .before .before .before in
+    let at-find-data = at-if2 .before .before in
+    let at-if1 = at-find-data .before in
+    let at-judge = at-if1 .before .before in
+    let at-start = at-judge .before .before .before in
+    too-few (at-start .args .file .now) (at-start .args .set) (at-start .args .out .now) _ (at-judge .judge .ensures) (at-if1 .if1 .left) _ (at-find-data .find-data .ensures) (at-if2 .if2 .left) _ _ _ refl (c .before .before .before .numbers-of .ensures) (c .before .before .first-refusal .ensures) (c .before .if3 .left) (c .if4 .taken)
 
 fill-requires : tie.Need-fill-requires
-fill-requires c κs = let i = data-inside (c .before .before .before .before .before .before .before .before .before .before .before .before .before .before .args .file .now) _ _ (c .before .before .before .before .before .before .before .before .find-data .ensures) in (i .0, (i .1, c .before .if4 .left))
+fill-requires c κs =
+    let at-find-data = c .before .before .before .before .before .before .before .before in
+    let at-start = at-find-data .before .before .before .before .before .before in
+    let i = data-inside (at-start .args .file .now) _ _ (at-find-data .find-data .ensures) in (i .0, (i .1, c .before .if4 .left))
 
 same-length : tie.Need-same-length
 same-length c = search needs
 
 returns-5 : tie.Need-returns-5
-returns-5 c = all-filled (c .before .before .before .before .before .before .before .before .before .before .before .before .before .before .before .before .before .args .file .now) (c .before .before .before .before .before .before .before .before .before .before .before .before .before .before .before .before .before .args .set) (c .before .before .before .before .before .before .before .before .before .before .before .before .before .before .before .before .before .args .out .now) _ (c .before .before .before .before .before .before .before .before .before .before .before .before .before .before .judge .ensures) (c .before .before .before .before .before .before .before .before .before .before .before .before .if1 .left) _ (c .before .before .before .before .before .before .before .before .before .before .before .find-data .ensures) (c .before .before .before .before .before .before .before .before .before .if2 .left) _ _ _ refl (c .before .before .before .before .before .before .before .numbers-of .ensures) (c .before .before .before .before .before .before .first-refusal .ensures) (c .before .before .before .before .before .if3 .left) (c .before .before .before .before .if4 .left) _ (c .before .before .fill .ensures)
+returns-5 c =
+    let at-if4 = c .before .before .before .before in
+    let at-if3 = at-if4 .before in
+    let at-first-refusal = at-if3 .before in
+    let at-numbers-of = at-first-refusal .before in
+    let at-if2 = at-numbers-of .before .before in
+    let at-find-data = at-if2 .before .before in
+    let at-if1 = at-find-data .before in
+    let at-judge = at-if1 .before .before in
+    let at-start = at-judge .before .before .before in
+    all-filled (at-start .args .file .now) (at-start .args .set) (at-start .args .out .now) _ (at-judge .judge .ensures) (at-if1 .if1 .left) _ (at-find-data .find-data .ensures) (at-if2 .if2 .left) _ _ _ refl (at-numbers-of .numbers-of .ensures) (at-first-refusal .first-refusal .ensures) (at-if3 .if3 .left) (at-if4 .if4 .left) _ (c .before .before .fill .ensures)
 
 pub values-spec : {M : Type 1} → statement M
 values-spec =

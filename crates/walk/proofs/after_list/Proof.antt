@@ -22,7 +22,9 @@ settled-requires-2 : tie.Need-settled-requires-2
 settled-requires-2 c κs = search needs
 
 returns-2 : tie.Need-returns-2
-returns-2 c = c .settled2 .ensures ∙ afterList-left _ _ _ (c .before .before .before .before .list-fields .ensures) refl
+returns-2 c =
+    let at-list-fields = c .before .before .before .before in
+    c .settled2 .ensures ∙ afterList-left _ _ _ (at-list-fields .list-fields .ensures) refl
 
 pub after-list-spec : {M : Type 1} → statement M
 after-list-spec =

@@ -27,21 +27,29 @@ goes-on-requires-2 c κs = search needs
 
 returns-2 : tie.Need-returns-2
 unfolding outsideStep
-returns-2 c = c .goes-on2 .ensures ∙ simp (sym (c .before .before .before .before .before .is-blank-line .ensures) ∙ c .before .before .before .before .if1 .left, sym (c .before .before .before .is-delimiter .ensures) ∙ c .before .before .if2 .taken, lt-ltb _ _ (c .before .if3 .taken))
+returns-2 c =
+    let at-if1 = c .before .before .before .before in
+    let at-is-blank-line = at-if1 .before in
+    c .goes-on2 .ensures ∙ simp (sym (at-is-blank-line .is-blank-line .ensures) ∙ at-if1 .if1 .left, sym (c .before .before .before .is-delimiter .ensures) ∙ c .before .before .if2 .taken, lt-ltb _ _ (c .before .if3 .taken))
 
 refused-requires : tie.Need-refused-requires
 refused-requires c κs = search needs
 
 returns-3 : tie.Need-returns-3
 unfolding outsideStep
-returns-3 c = c .refused .ensures ∙ simp (sym (c .before .before .before .before .before .is-blank-line .ensures) ∙ c .before .before .before .before .if1 .left, sym (c .before .before .before .is-delimiter .ensures) ∙ c .before .before .if2 .taken, le-ltb _ _ (c .before .if3 .left))
+returns-3 c =
+    let at-if1 = c .before .before .before .before in
+    let at-is-blank-line = at-if1 .before in
+    c .refused .ensures ∙ simp (sym (at-is-blank-line .is-blank-line .ensures) ∙ at-if1 .if1 .left, sym (c .before .before .before .is-delimiter .ensures) ∙ c .before .before .if2 .taken, le-ltb _ _ (c .before .if3 .left))
 
 refused-requires-2 : tie.Need-refused-requires-2
 refused-requires-2 c κs = search needs
 
 returns-4 : tie.Need-returns-4
 unfolding outsideStep
-returns-4 c = c .refused2 .ensures ∙ simp (sym (c .before .before .before .before .is-blank-line .ensures) ∙ c .before .before .before .if1 .left, sym (c .before .before .is-delimiter .ensures) ∙ c .before .if2 .left)
+returns-4 c =
+    let at-is-blank-line = c .before .before .before .before in
+    c .refused2 .ensures ∙ simp (sym (at-is-blank-line .is-blank-line .ensures) ∙ c .before .before .before .if1 .left, sym (c .before .before .is-delimiter .ensures) ∙ c .before .if2 .left)
 
 pub outside-step-spec : {M : Type 1} → statement M
 outside-step-spec =

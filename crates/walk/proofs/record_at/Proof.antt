@@ -19,7 +19,9 @@ index-requires c κs = search needs
 
 -- src/lib.rt:130:9
 returns : tie.Need-returns
-returns c = c .index .ensures ∙ getD-inside (c .before .before .before .before .args .records .now) (c .before .before .before .before .args .at) 0 30 (c .before .before .if1 .taken)
+returns c =
+    let at-start = c .before .before .before .before in
+    c .index .ensures ∙ getD-inside (at-start .args .records .now) (at-start .args .at) 0 30 (c .before .before .if1 .taken)
 
 -- src/lib.rt:126:1
 returns-2 : tie.Need-returns-2

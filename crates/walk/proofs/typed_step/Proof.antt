@@ -20,28 +20,38 @@ goes-on-requires c κs = search needs
 
 returns : tie.Need-returns
 unfolding typedStep
-returns c = c .goes-on .ensures ∙ simp (sym (c .before .before .before .is-delimiter .ensures) ∙ c .before .before .if1 .taken, sym (c .before .before .before .before .is-closed .ensures) ∙ c .before .if2 .taken)
+returns c =
+    let at-is-closed = c .before .before .before .before in
+    c .goes-on .ensures ∙ simp (sym (c .before .before .before .is-delimiter .ensures) ∙ c .before .before .if1 .taken, sym (at-is-closed .is-closed .ensures) ∙ c .before .if2 .taken)
 
 refused-requires : tie.Need-refused-requires
 refused-requires c κs = search needs
 
 returns-2 : tie.Need-returns-2
 unfolding typedStep
-returns-2 c = c .refused .ensures ∙ simp (sym (c .before .before .before .is-delimiter .ensures) ∙ c .before .before .if1 .taken, sym (c .before .before .before .before .is-closed .ensures) ∙ c .before .if2 .left)
+returns-2 c =
+    let at-is-closed = c .before .before .before .before in
+    c .refused .ensures ∙ simp (sym (c .before .before .before .is-delimiter .ensures) ∙ c .before .before .if1 .taken, sym (at-is-closed .is-closed .ensures) ∙ c .before .if2 .left)
 
 refused-requires-2 : tie.Need-refused-requires-2
 refused-requires-2 c κs = search needs
 
 returns-3 : tie.Need-returns-3
 unfolding typedStep
-returns-3 c = c .refused2 .ensures ∙ simp (sym (c .before .before .before .is-delimiter .ensures) ∙ c .before .before .if1 .left, sym (c .before .before .before .before .is-closed .ensures) ∙ c .before .if3 .taken)
+returns-3 c =
+    let at-is-closed = c .before .before .before .before in
+    c .refused2 .ensures ∙ simp (sym (c .before .before .before .is-delimiter .ensures) ∙ c .before .before .if1 .left, sym (at-is-closed .is-closed .ensures) ∙ c .before .if3 .taken)
 
 check-due-requires : tie.Need-check-due-requires
 check-due-requires c κs = search needs
 
 returns-4 : tie.Need-returns-4
 unfolding typedStep
-returns-4 c = simp (sym (c .before .before .before .before .before .is-delimiter .ensures) ∙ c .before .before .before .before .if1 .left, sym (c .before .before .before .before .before .before .is-closed .ensures) ∙ c .before .before .before .if3 .left) (rw (← c .before .before .check-due .ensures) (sym (unless-here _ _ (c .if4 .taken))))
+returns-4 c =
+    let at-if1 = c .before .before .before .before in
+    let at-is-delimiter = at-if1 .before in
+    let at-is-closed = at-is-delimiter .before in
+    simp (sym (at-is-delimiter .is-delimiter .ensures) ∙ at-if1 .if1 .left, sym (at-is-closed .is-closed .ensures) ∙ c .before .before .before .if3 .left) (rw (← c .before .before .check-due .ensures) (sym (unless-here _ _ (c .if4 .taken))))
 
 after-requires : tie.Need-after-requires
 after-requires c κs = search needs
@@ -51,7 +61,13 @@ goes-on-requires-2 c κs = search needs
 
 returns-5 : tie.Need-returns-5
 unfolding typedStep
-returns-5 c = c .goes-on2 .ensures ∙ simp (sym (c .before .before .before .before .before .before .before .is-delimiter .ensures) ∙ c .before .before .before .before .before .before .if1 .left, sym (c .before .before .before .before .before .before .before .before .is-closed .ensures) ∙ c .before .before .before .before .before .if3 .left) (rw (c .before .after .ensures, ← c .before .before .before .before .check-due .ensures) (sym (unless-on _ _ (c .before .before .if4 .left))))
+returns-5 c =
+    let at-check-due = c .before .before .before .before in
+    let at-if3 = at-check-due .before in
+    let at-if1 = at-if3 .before in
+    let at-is-delimiter = at-if1 .before in
+    let at-is-closed = at-is-delimiter .before in
+    c .goes-on2 .ensures ∙ simp (sym (at-is-delimiter .is-delimiter .ensures) ∙ at-if1 .if1 .left, sym (at-is-closed .is-closed .ensures) ∙ at-if3 .if3 .left) (rw (c .before .after .ensures, ← at-check-due .check-due .ensures) (sym (unless-on _ _ (c .before .before .if4 .left))))
 
 pub typed-step-spec : {M : Type 1} → statement M
 typed-step-spec =

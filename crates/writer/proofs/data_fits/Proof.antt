@@ -22,7 +22,10 @@ stored-len-requires : tie.Need-stored-len-requires Inv-loop μ-loop
 stored-len-requires c κs = search needs
 
 returns : tie.Need-returns Inv-loop μ-loop
-returns c = sym (lt-leb (dataLen (c .before .before .before .before .args .case) 0 (c .before .before .before .before .args .count)) (c .before .before .before .before .args .room) (omega (arith, c .before .before .before .loop .inv .1, c .before .stored-len .ensures, c .if1 .taken, dataLen-next (c .before .before .before .before .args .case) (c .before .before .before .loop .j) (c .before .before .before .before .args .count) (c .before .before .loop-test .taken))))
+returns c =
+    let at-loop = c .before .before .before in
+    let at-start = at-loop .before in
+    sym (lt-leb (dataLen (at-start .args .case) 0 (at-start .args .count)) (at-start .args .room) (omega (arith, at-loop .loop .inv .1, c .before .stored-len .ensures, c .if1 .taken, dataLen-next (at-start .args .case) (at-loop .loop .j) (at-start .args .count) (c .before .before .loop-test .taken))))
 
 add-j : tie.Need-add-j Inv-loop μ-loop
 add-j c = search needs
@@ -31,10 +34,15 @@ loop-less : tie.Need-loop-less Inv-loop μ-loop
 loop-less c = search needs
 
 loop-again : tie.Need-loop-again Inv-loop μ-loop
-loop-again c = (search needs, omega (arith, c .before .before .before .loop .inv .1, c .before .stored-len .ensures, c .if1 .left, dataLen-next (c .before .before .before .before .args .case) (c .before .before .before .loop .j) (c .before .before .before .before .args .count) (c .before .before .loop-test .taken)))
+loop-again c =
+    let at-loop = c .before .before .before in
+    let at-start = at-loop .before in
+    (search needs, omega (arith, at-loop .loop .inv .1, c .before .stored-len .ensures, c .if1 .left, dataLen-next (at-start .args .case) (at-loop .loop .j) (at-start .args .count) (c .before .before .loop-test .taken)))
 
 returns-2 : tie.Need-returns-2 Inv-loop μ-loop
-returns-2 c = sym (le-leb (dataLen (c .before .before .args .case) 0 (c .before .before .args .count)) (c .before .before .args .room) (omega (arith, c .before .loop .inv .1, dataLen-end (c .before .before .args .case) (c .before .loop .j) (c .before .before .args .count) (c .loop-test .left))))
+returns-2 c =
+    let at-start = c .before .before in
+    sym (le-leb (dataLen (at-start .args .case) 0 (at-start .args .count)) (at-start .args .room) (omega (arith, c .before .loop .inv .1, dataLen-end (at-start .args .case) (c .before .loop .j) (at-start .args .count) (c .loop-test .left))))
 
 pub data-fits-spec : {M : Type 1} → statement M
 data-fits-spec =

@@ -42,7 +42,13 @@ fits-requires : tie.Need-fits-requires Inv-loop μ-loop
 fits-requires c κs = search needs
 
 returns : tie.Need-returns Inv-loop μ-loop
-returns c = sym (unfit-here (c .before .before .before .before .before .before .before .before .args .case) (c .before .before .before .before .before .before .before .loop .j) (c .before .before .before .before .before .before .before .before .args .coefficients .now) (c .before .before .before .before .before .before .before .before .args .scales .now) (c .before .before .before .before .before .before .loop-test .taken) (c .before .before .before .before .before .before .before .before .pre) _ _ (toZ-ofZ w64 _ (record { sfits = c .before .before .before .fits-arg .given })) (toZ-ofZ w16 _ (record { sfits = c .before .before .fits-arg2 .given })) (fits-is _ _ _ _ _ _ _ (c .before .before .before .before .before .width-at .ensures) (c .before .before .before .before .decimals-of .ensures) (c .before .fits2 .ensures) ∙ not-true _ (c .if1 .taken))) ∙ c .before .before .before .before .before .before .before .loop .inv .1
+returns c =
+    let at-decimals-of = c .before .before .before .before in
+    let at-width-at = at-decimals-of .before in
+    let at-loop-test = at-width-at .before in
+    let at-loop = at-loop-test .before in
+    let at-start = at-loop .before in
+    sym (unfit-here (at-start .args .case) (at-loop .loop .j) (at-start .args .coefficients .now) (at-start .args .scales .now) (at-loop-test .loop-test .taken) (at-start .pre) _ _ (toZ-ofZ w64 _ (record { sfits = c .before .before .before .fits-arg .given })) (toZ-ofZ w16 _ (record { sfits = c .before .before .fits-arg2 .given })) (fits-is _ _ _ _ _ _ _ (at-width-at .width-at .ensures) (at-decimals-of .decimals-of .ensures) (c .before .fits2 .ensures) ∙ not-true _ (c .if1 .taken))) ∙ at-loop .loop .inv .1
 
 add-j : tie.Need-add-j Inv-loop μ-loop
 add-j c = search needs
@@ -51,7 +57,13 @@ loop-less : tie.Need-loop-less Inv-loop μ-loop
 loop-less c = search needs
 
 loop-again : tie.Need-loop-again Inv-loop μ-loop
-loop-again c = (search needs, sym (unfit-next (c .before .before .before .before .before .before .before .before .args .case) (c .before .before .before .before .before .before .before .loop .j) (c .before .before .before .before .before .before .before .before .args .coefficients .now) (c .before .before .before .before .before .before .before .before .args .scales .now) (c .before .before .before .before .before .before .loop-test .taken) (c .before .before .before .before .before .before .before .before .pre) _ _ (toZ-ofZ w64 _ (record { sfits = c .before .before .before .fits-arg .given })) (toZ-ofZ w16 _ (record { sfits = c .before .before .fits-arg2 .given })) (fits-is _ _ _ _ _ _ _ (c .before .before .before .before .before .width-at .ensures) (c .before .before .before .before .decimals-of .ensures) (c .before .fits2 .ensures) ∙ not-false _ (c .if1 .left))) ∙ c .before .before .before .before .before .before .before .loop .inv .1)
+loop-again c =
+    let at-decimals-of = c .before .before .before .before in
+    let at-width-at = at-decimals-of .before in
+    let at-loop-test = at-width-at .before in
+    let at-loop = at-loop-test .before in
+    let at-start = at-loop .before in
+    (search needs, sym (unfit-next (at-start .args .case) (at-loop .loop .j) (at-start .args .coefficients .now) (at-start .args .scales .now) (at-loop-test .loop-test .taken) (at-start .pre) _ _ (toZ-ofZ w64 _ (record { sfits = c .before .before .before .fits-arg .given })) (toZ-ofZ w16 _ (record { sfits = c .before .before .fits-arg2 .given })) (fits-is _ _ _ _ _ _ _ (at-width-at .width-at .ensures) (at-decimals-of .decimals-of .ensures) (c .before .fits2 .ensures) ∙ not-false _ (c .if1 .left))) ∙ at-loop .loop .inv .1)
 
 returns-2 : tie.Need-returns-2 Inv-loop μ-loop
 returns-2 c = sym (unfit-end _ _ _ _ (c .loop-test .left)) ∙ c .before .loop .inv .1

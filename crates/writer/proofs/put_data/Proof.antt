@@ -32,7 +32,11 @@ shared-slice-copy-out-put-stored-2 : tie.Need-shared-slice-copy-out-put-stored-2
 shared-slice-copy-out-put-stored-2 c = search needs
 
 put-stored-requires : tie.Need-put-stored-requires Inv-loop μ-loop
-put-stored-requires c κs = (c .before .before .before .loop-test .taken, stored-room _ (c .before .before .before .before .loop .j) (c .before .before .before .before .before .before .args .coefficients .now) (c .before .before .before .before .before .before .args .scales .now) (c .before .before .before .loop-test .taken) (c .before .before .before .before .before .before .pre .0) _ _ (toZ-ofZ w64 _ (record { sfits = c .before .put-stored-arg2 .given })) (toZ-ofZ w16 _ (record { sfits = c .put-stored-arg3 .given })) _ _ _ _ (c .before .before .before .before .loop .inv .1) (c .before .before .before .before .before .before .pre .1))
+put-stored-requires c κs =
+    let at-loop-test = c .before .before .before in
+    let at-loop = at-loop-test .before in
+    let at-start = at-loop .before .before in
+    (at-loop-test .loop-test .taken, stored-room _ (at-loop .loop .j) (at-start .args .coefficients .now) (at-start .args .scales .now) (at-loop-test .loop-test .taken) (at-start .pre .0) _ _ (toZ-ofZ w64 _ (record { sfits = c .before .put-stored-arg2 .given })) (toZ-ofZ w16 _ (record { sfits = c .put-stored-arg3 .given })) _ _ _ _ (at-loop .loop .inv .1) (at-start .pre .1))
 
 add-j : tie.Need-add-j Inv-loop μ-loop
 add-j c = search needs
@@ -41,7 +45,13 @@ loop-less : tie.Need-loop-less Inv-loop μ-loop
 loop-less c = search needs
 
 loop-again : tie.Need-loop-again Inv-loop μ-loop
-loop-again c = (search needs, stored-next _ (c .before .before .before .before .before .before .before .loop .j) (c .before .before .before .before .before .before .before .before .before .args .coefficients .now) (c .before .before .before .before .before .before .before .before .before .args .scales .now) (c .before .before .before .before .before .before .loop-test .taken) (c .before .before .before .before .before .before .before .before .before .pre .0) _ _ (toZ-ofZ w64 _ (record { sfits = c .before .before .before .before .put-stored-arg2 .given })) (toZ-ofZ w16 _ (record { sfits = c .before .before .before .put-stored-arg3 .given })) _ _ _ _ (c .before .before .before .before .before .before .before .loop .inv .1) (c .before .before .before .before .before .before .before .before .before .pre .1) _ _ (c .before .before .put-stored .ensures .0) (c .before .before .put-stored .ensures .1))
+loop-again c =
+    let at-put-stored = c .before .before in
+    let at-put-stored-arg2 = at-put-stored .before .before in
+    let at-loop-test = at-put-stored-arg2 .before .before in
+    let at-loop = at-loop-test .before in
+    let at-start = at-loop .before .before in
+    (search needs, stored-next _ (at-loop .loop .j) (at-start .args .coefficients .now) (at-start .args .scales .now) (at-loop-test .loop-test .taken) (at-start .pre .0) _ _ (toZ-ofZ w64 _ (record { sfits = at-put-stored-arg2 .put-stored-arg2 .given })) (toZ-ofZ w16 _ (record { sfits = c .before .before .before .put-stored-arg3 .given })) _ _ _ _ (at-loop .loop .inv .1) (at-start .pre .1) _ _ (at-put-stored .put-stored .ensures .0) (at-put-stored .put-stored .ensures .1))
 
 same-length : tie.Need-same-length Inv-loop μ-loop
 same-length c = c .before .loop .inv .1 .same

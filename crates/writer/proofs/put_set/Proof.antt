@@ -5,25 +5,45 @@ use Rattle.writer.proofs.put_set.Statement.{statement}
 use Rattle.writer.proofs.put_set.Tie as tie
 
 put-head-requires : tie.Need-put-head-requires
-put-head-requires c κs = opening-room (c .before .before .before .args .header .now) (c .before .before .before .args .case) (c .before .before .before .args .coefficients .now) (c .before .before .before .args .scales .now) (c .before .before .before .args .out .now) (c .before .before .before .pre .1)
+put-head-requires c κs =
+    let at-start = c .before .before .before in
+    opening-room (at-start .args .header .now) (at-start .args .case) (at-start .args .coefficients .now) (at-start .args .scales .now) (at-start .args .out .now) (at-start .pre .1)
 
 put-body-requires : tie.Need-put-body-requires
-put-body-requires c κs = (search needs, lines-room (c .before .before .before .before .before .before .before .args .header .now) (c .before .before .before .before .before .before .before .args .case) (c .before .before .before .before .before .before .before .args .coefficients .now) (c .before .before .before .before .before .before .before .args .scales .now) (c .before .before .before .before .before .before .before .args .out .now) (c .before .before .before .before .before .before .before .pre .1) _ _ (c .before .before .before .put-head .ensures .0) (c .before .before .before .put-head .ensures .1))
+put-body-requires c κs =
+    let at-put-head = c .before .before .before in
+    let at-start = at-put-head .before .before .before .before in
+    (search needs, lines-room (at-start .args .header .now) (at-start .args .case) (at-start .args .coefficients .now) (at-start .args .scales .now) (at-start .args .out .now) (at-start .pre .1) _ _ (at-put-head .put-head .ensures .0) (at-put-head .put-head .ensures .1))
 
 put-data-requires : tie.Need-put-data-requires
-put-data-requires c κs = (c .before .before .before .before .before .before .before .before .before .before .before .pre .0, data-room (c .before .before .before .before .before .before .before .before .before .before .before .args .header .now) (c .before .before .before .before .before .before .before .before .before .before .before .args .case) (c .before .before .before .before .before .before .before .before .before .before .before .args .coefficients .now) (c .before .before .before .before .before .before .before .before .before .before .before .args .scales .now) (c .before .before .before .before .before .before .before .before .before .before .before .args .out .now) (c .before .before .before .before .before .before .before .before .before .before .before .pre .1) _ _ (c .before .before .before .before .before .before .before .put-head .ensures .0) (c .before .before .before .before .before .before .before .put-head .ensures .1) _ _ (c .before .before .before .put-body .ensures .0) (c .before .before .before .put-body .ensures .1))
+put-data-requires c κs =
+    let at-put-body = c .before .before .before in
+    let at-put-head = at-put-body .before .before .before .before in
+    let at-pre = at-put-head .before .before .before .before in
+    (at-pre .pre .0, data-room (at-pre .args .header .now) (at-pre .args .case) (at-pre .args .coefficients .now) (at-pre .args .scales .now) (at-pre .args .out .now) (at-pre .pre .1) _ _ (at-put-head .put-head .ensures .0) (at-put-head .put-head .ensures .1) _ _ (at-put-body .put-body .ensures .0) (at-put-body .put-body .ensures .1))
 
 slice-aggregate-put-line : tie.Need-slice-aggregate-put-line
 slice-aggregate-put-line c = search needs
 
 put-line-requires : tie.Need-put-line-requires
-put-line-requires c κs = closing-room (c .before .before .before .before .before .before .before .before .before .before .before .before .before .before .before .before .args .header .now) (c .before .before .before .before .before .before .before .before .before .before .before .before .before .before .before .before .args .case) (c .before .before .before .before .before .before .before .before .before .before .before .before .before .before .before .before .args .coefficients .now) (c .before .before .before .before .before .before .before .before .before .before .before .before .before .before .before .before .args .scales .now) (c .before .before .before .before .before .before .before .before .before .before .before .before .before .before .before .before .args .out .now) (c .before .before .before .before .before .before .before .before .before .before .before .before .before .before .before .before .pre .1) _ _ (c .before .before .before .before .before .before .before .before .before .before .before .before .put-head .ensures .0) (c .before .before .before .before .before .before .before .before .before .before .before .before .put-head .ensures .1) _ _ (c .before .before .before .before .before .before .before .before .put-body .ensures .0) (c .before .before .before .before .before .before .before .before .put-body .ensures .1) _ _ (c .before .before .before .before .put-data .ensures .0) (c .before .before .before .before .put-data .ensures .1)
+put-line-requires c κs =
+    let at-put-data = c .before .before .before .before in
+    let at-put-body = at-put-data .before .before .before .before in
+    let at-put-head = at-put-body .before .before .before .before in
+    let at-start = at-put-head .before .before .before .before in
+    closing-room (at-start .args .header .now) (at-start .args .case) (at-start .args .coefficients .now) (at-start .args .scales .now) (at-start .args .out .now) (at-start .pre .1) _ _ (at-put-head .put-head .ensures .0) (at-put-head .put-head .ensures .1) _ _ (at-put-body .put-body .ensures .0) (at-put-body .put-body .ensures .1) _ _ (at-put-data .put-data .ensures .0) (at-put-data .put-data .ensures .1)
 
 same-length : tie.Need-same-length
 same-length c = search needs
 
 returns : tie.Need-returns
-returns c = set-done (c .before .before .before .before .before .before .before .before .before .before .before .before .before .before .before .before .before .before .before .args .header .now) (c .before .before .before .before .before .before .before .before .before .before .before .before .before .before .before .before .before .before .before .args .case) (c .before .before .before .before .before .before .before .before .before .before .before .before .before .before .before .before .before .before .before .args .coefficients .now) (c .before .before .before .before .before .before .before .before .before .before .before .before .before .before .before .before .before .before .before .args .scales .now) (c .before .before .before .before .before .before .before .before .before .before .before .before .before .before .before .before .before .before .before .args .out .now) (c .before .before .before .before .before .before .before .before .before .before .before .before .before .before .before .before .before .before .before .pre .1) _ _ (c .before .before .before .before .before .before .before .before .before .before .before .before .before .before .before .put-head .ensures .0) (c .before .before .before .before .before .before .before .before .before .before .before .before .before .before .before .put-head .ensures .1) _ _ (c .before .before .before .before .before .before .before .before .before .before .before .put-body .ensures .0) (c .before .before .before .before .before .before .before .before .before .before .before .put-body .ensures .1) _ _ (c .before .before .before .before .before .before .before .put-data .ensures .0) (c .before .before .before .before .before .before .before .put-data .ensures .1) _ _ (c .before .before .put-line .ensures .0) (c .before .before .put-line .ensures .1)
+returns c =
+    let at-put-line = c .before .before in
+    let at-put-data = at-put-line .before .before .before .before .before in
+    let at-put-body = at-put-data .before .before .before .before in
+    let at-put-head = at-put-body .before .before .before .before in
+    let at-start = at-put-head .before .before .before .before in
+    set-done (at-start .args .header .now) (at-start .args .case) (at-start .args .coefficients .now) (at-start .args .scales .now) (at-start .args .out .now) (at-start .pre .1) _ _ (at-put-head .put-head .ensures .0) (at-put-head .put-head .ensures .1) _ _ (at-put-body .put-body .ensures .0) (at-put-body .put-body .ensures .1) _ _ (at-put-data .put-data .ensures .0) (at-put-data .put-data .ensures .1) _ _ (at-put-line .put-line .ensures .0) (at-put-line .put-line .ensures .1)
 
 pub put-set-spec : {M : Type 1} → statement M
 put-set-spec =

@@ -11,7 +11,9 @@ width-at-requires : tie.Need-width-at-requires
 width-at-requires c κs = search needs
 
 add-past : tie.Need-add-past
-add-past c = omega (arith, field-room (c .before .before .args .out .now) (c .before .before .args .at) _ _ _ _ (c .before .before .args .coefficient) (c .before .before .args .scale) (c .before .before .pre .1) (c .width-at .ensures))
+add-past c =
+    let at-start = c .before .before in
+    omega (arith, field-room (at-start .args .out .now) (at-start .args .at) _ _ _ _ (at-start .args .coefficient) (at-start .args .scale) (at-start .pre .1) (c .width-at .ensures))
 
 sub-put-number : tie.Need-sub-put-number
 sub-put-number c = search needs
@@ -20,7 +22,9 @@ part-put-number-start : tie.Need-part-put-number-start
 part-put-number-start c = search needs
 
 part-put-number-end : tie.Need-part-put-number-end
-part-put-number-end c = omega (arith, field-room (c .before .before .args .out .now) (c .before .before .args .at) _ _ _ _ (c .before .before .args .coefficient) (c .before .before .args .scale) (c .before .before .pre .1) (c .width-at .ensures))
+part-put-number-end c =
+    let at-start = c .before .before in
+    omega (arith, field-room (at-start .args .out .now) (at-start .args .at) _ _ _ _ (at-start .args .coefficient) (at-start .args .scale) (at-start .pre .1) (c .width-at .ensures))
 
 decimals-of-requires : tie.Need-decimals-of-requires
 decimals-of-requires c κs = search needs
@@ -32,22 +36,38 @@ ends-line-requires : tie.Need-ends-line-requires
 ends-line-requires c κs = search needs
 
 slice-write-out : tie.Need-slice-write-out
-slice-write-out c = omega (arith, c .before .before .before .out .given .1, end-room (c .before .before .before .before .before .before .before .before .before .args .out .now) (c .before .before .before .before .before .before .before .before .before .args .at) _ _ _ _ (c .before .before .before .before .before .before .before .before .before .args .coefficient) (c .before .before .before .before .before .before .before .before .before .args .scale) (c .before .before .before .before .before .before .before .before .before .pre .1) (c .before .before .before .before .before .before .before .width-at .ensures) _ (c .before .ends-line .ensures) (c .if1 .taken))
+slice-write-out c =
+    let at-width-at = c .before .before .before .before .before .before .before in
+    let at-start = at-width-at .before .before in
+    omega (arith, c .before .before .before .out .given .1, end-room (at-start .args .out .now) (at-start .args .at) _ _ _ _ (at-start .args .coefficient) (at-start .args .scale) (at-start .pre .1) (at-width-at .width-at .ensures) _ (c .before .ends-line .ensures) (c .if1 .taken))
 
 add-result : tie.Need-add-result
-add-result c = omega (arith, end-room (c .before .before .before .before .before .before .before .before .before .args .out .now) (c .before .before .before .before .before .before .before .before .before .args .at) _ _ _ _ (c .before .before .before .before .before .before .before .before .before .args .coefficient) (c .before .before .before .before .before .before .before .before .before .args .scale) (c .before .before .before .before .before .before .before .before .before .pre .1) (c .before .before .before .before .before .before .before .width-at .ensures) _ (c .before .ends-line .ensures) (c .if1 .taken))
+add-result c =
+    let at-width-at = c .before .before .before .before .before .before .before in
+    let at-start = at-width-at .before .before in
+    omega (arith, end-room (at-start .args .out .now) (at-start .args .at) _ _ _ _ (at-start .args .coefficient) (at-start .args .scale) (at-start .pre .1) (at-width-at .width-at .ensures) _ (c .before .ends-line .ensures) (c .if1 .taken))
 
 same-length : tie.Need-same-length
 same-length c = search needs
 
 returns : tie.Need-returns
-returns c = stored-ends (c .before .before .before .before .before .before .before .before .before .args .out .now) (c .before .before .before .before .before .before .before .before .before .args .at) _ _ _ _ (c .before .before .before .before .before .before .before .before .before .args .coefficient) (c .before .before .before .before .before .before .before .before .before .args .scale) (c .before .before .before .before .before .before .before .before .before .pre .1) (c .before .before .before .before .before .before .before .width-at .ensures) _ (c .before .ends-line .ensures) (c .before .before .before .before .put-number .last .0) _ _ _ (c .before .before .before .before .before .decimals-of .ensures) (toZ-ofZ w64 _ (c .before .before .before .before .before .before .before .before .before .fits .coefficient)) (toZ-ofZ w16 _ (c .before .before .before .before .before .before .before .before .before .fits .scale)) (c .before .before .before .before .put-number .ensures) (c .if1 .taken)
+returns c =
+    let at-put-number = c .before .before .before .before in
+    let at-decimals-of = at-put-number .before in
+    let at-width-at = at-decimals-of .before .before in
+    let at-start = at-width-at .before .before in
+    stored-ends (at-start .args .out .now) (at-start .args .at) _ _ _ _ (at-start .args .coefficient) (at-start .args .scale) (at-start .pre .1) (at-width-at .width-at .ensures) _ (c .before .ends-line .ensures) (at-put-number .put-number .last .0) _ _ _ (at-decimals-of .decimals-of .ensures) (toZ-ofZ w64 _ (at-start .fits .coefficient)) (toZ-ofZ w16 _ (at-start .fits .scale)) (at-put-number .put-number .ensures) (c .if1 .taken)
 
 same-length-2 : tie.Need-same-length-2
 same-length-2 c = search needs
 
 returns-2 : tie.Need-returns-2
-returns-2 c = stored-goes (c .before .before .before .before .before .before .before .before .before .args .out .now) (c .before .before .before .before .before .before .before .before .before .args .at) _ _ _ _ (c .before .before .before .before .before .before .before .before .before .args .coefficient) (c .before .before .before .before .before .before .before .before .before .args .scale) (c .before .before .before .before .before .before .before .before .before .pre .1) (c .before .before .before .before .before .before .before .width-at .ensures) _ (c .before .ends-line .ensures) (c .before .before .before .before .put-number .last .0) _ _ _ (c .before .before .before .before .before .decimals-of .ensures) (toZ-ofZ w64 _ (c .before .before .before .before .before .before .before .before .before .fits .coefficient)) (toZ-ofZ w16 _ (c .before .before .before .before .before .before .before .before .before .fits .scale)) (c .before .before .before .before .put-number .ensures) (c .if1 .left)
+returns-2 c =
+    let at-put-number = c .before .before .before .before in
+    let at-decimals-of = at-put-number .before in
+    let at-width-at = at-decimals-of .before .before in
+    let at-start = at-width-at .before .before in
+    stored-goes (at-start .args .out .now) (at-start .args .at) _ _ _ _ (at-start .args .coefficient) (at-start .args .scale) (at-start .pre .1) (at-width-at .width-at .ensures) _ (c .before .ends-line .ensures) (at-put-number .put-number .last .0) _ _ _ (at-decimals-of .decimals-of .ensures) (toZ-ofZ w64 _ (at-start .fits .coefficient)) (toZ-ofZ w16 _ (at-start .fits .scale)) (at-put-number .put-number .ensures) (c .if1 .left)
 
 pub put-stored-spec : {M : Type 1} → statement M
 put-stored-spec =

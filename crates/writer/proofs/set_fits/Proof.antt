@@ -6,13 +6,17 @@ use Rattle.writer.proofs.set_fits.Statement.{statement}
 use Rattle.writer.proofs.set_fits.Tie as tie
 
 returns : tie.Need-returns
-returns c = fits-opening (c .before .before .args .header .now) _ _ (c .before .before .args .room) (omega (arith, c .if1 .taken))
+returns c =
+    let at-start = c .before .before in
+    fits-opening (at-start .args .header .now) _ _ (at-start .args .room) (omega (arith, c .if1 .taken))
 
 body-len-requires : tie.Need-body-len-requires
 body-len-requires c κs = search needs
 
 returns-2 : tie.Need-returns-2
-returns-2 c = fits-lines (c .before .before .before .before .args .header .now) _ _ (c .before .before .before .before .args .room) (c .before .body-len .result) (c .before .body-len .ensures) (omega (arith, c .if2 .taken))
+returns-2 c =
+    let at-start = c .before .before .before .before in
+    fits-lines (at-start .args .header .now) _ _ (at-start .args .room) (c .before .body-len .result) (c .before .body-len .ensures) (omega (arith, c .if2 .taken))
 
 sub-data-fits : tie.Need-sub-data-fits
 sub-data-fits c = search needs
@@ -21,7 +25,9 @@ data-fits-requires : tie.Need-data-fits-requires
 data-fits-requires c κs = search needs
 
 returns-3 : tie.Need-returns-3
-returns-3 c = fits-data (c .before .before .before .before .before .args .header .now) _ _ (c .before .before .before .before .before .args .room) _ (c .before .before .body-len .ensures) (c .before .before .before .if1 .left) (c .before .if2 .left) _ (c .data-fits .ensures)
+returns-3 c =
+    let at-start = c .before .before .before .before .before in
+    fits-data (at-start .args .header .now) _ _ (at-start .args .room) _ (c .before .before .body-len .ensures) (c .before .before .before .if1 .left) (c .before .if2 .left) _ (c .data-fits .ensures)
 
 pub set-fits-spec : {M : Type 1} → statement M
 set-fits-spec =

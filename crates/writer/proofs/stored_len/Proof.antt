@@ -12,7 +12,9 @@ ends-line-requires : tie.Need-ends-line-requires
 ends-line-requires c κs = search needs
 
 add-result : tie.Need-add-result
-add-result c = omega (arith, c .before .before .width-at .ensures, width-most (c .before .before .before .args .case) (c .before .before .before .args .j))
+add-result c =
+    let at-start = c .before .before .before in
+    omega (arith, c .before .before .width-at .ensures, width-most (at-start .args .case) (at-start .args .j))
 
 returns : tie.Need-returns
 returns c = storedLen-ends _ _ _ _ _ (c .before .before .width-at .ensures) (c .before .ends-line .ensures) (c .if1 .taken)

@@ -11,31 +11,65 @@ judge-header-requires : tie.Need-judge-header-requires
 judge-header-requires c κs = search needs
 
 returns : tie.Need-returns
-returns c = header-both (c .before .before .before .before .before .args .header .now) (c .before .before .before .before .before .args .coefficients .now) (c .before .before .before .before .before .args .scales .now) (c .before .before .before .before .before .args .out .now) _ (c .before .before .judge-header .ensures) (c .if1 .taken)
+returns c =
+    let at-start = c .before .before .before .before .before in
+    header-both (at-start .args .header .now) (at-start .args .coefficients .now) (at-start .args .scales .now) (at-start .args .out .now) _ (c .before .before .judge-header .ensures) (c .if1 .taken)
 
 returns-2 : tie.Need-returns-2
-returns-2 c = count-both (c .before .before .before .before .before .before .before .args .header .now) (c .before .before .before .before .before .before .before .args .coefficients .now) (c .before .before .before .before .before .before .before .args .scales .now) (c .before .before .before .before .before .before .before .args .out .now) _ (c .before .before .before .before .judge-header .ensures) (c .before .before .if1 .left) (⊎-elim (λ w. inl (w .taken)) (λ w. inr (eqb-false _ _ (not-true _ (w .2 .taken)))) (c .if2 .came))
+returns-2 c =
+    let at-judge-header = c .before .before .before .before in
+    let at-start = at-judge-header .before .before .before in
+    count-both (at-start .args .header .now) (at-start .args .coefficients .now) (at-start .args .scales .now) (at-start .args .out .now) _ (at-judge-header .judge-header .ensures) (c .before .before .if1 .left) (⊎-elim (λ w. inl (w .taken)) (λ w. inr (eqb-false _ _ (not-true _ (w .2 .taken)))) (c .if2 .came))
 
 first-unfit-requires : tie.Need-first-unfit-requires
 first-unfit-requires c κs = eqb-true _ _ (not-false _ (c .if3 .left)) ∙ sym (c .before .before .if2 .left)
 
 returns-3 : tie.Need-returns-3
-returns-3 c = unfit-both (c .before .before .before .before .before .before .before .before .before .before .before .args .header .now) (c .before .before .before .before .before .before .before .before .before .before .before .args .coefficients .now) (c .before .before .before .before .before .before .before .before .before .before .before .args .scales .now) (c .before .before .before .before .before .before .before .before .before .before .before .args .out .now) _ (c .before .before .before .before .before .before .before .before .judge-header .ensures) (c .before .before .before .before .before .before .if1 .left) (c .before .before .before .before .if2 .left) (eqb-true _ _ (not-false _ (c .before .before .if3 .left))) _ (c .before .first-unfit .ensures) (c .if4 .taken)
+returns-3 c =
+    let at-if2 = c .before .before .before .before in
+    let at-if1 = at-if2 .before .before in
+    let at-judge-header = at-if1 .before .before in
+    let at-start = at-judge-header .before .before .before in
+    unfit-both (at-start .args .header .now) (at-start .args .coefficients .now) (at-start .args .scales .now) (at-start .args .out .now) _ (at-judge-header .judge-header .ensures) (at-if1 .if1 .left) (at-if2 .if2 .left) (eqb-true _ _ (not-false _ (c .before .before .if3 .left))) _ (c .before .first-unfit .ensures) (c .if4 .taken)
 
 set-fits-requires : tie.Need-set-fits-requires
 set-fits-requires c κs = search needs
 
 returns-4 : tie.Need-returns-4
-returns-4 c = short-both (c .before .before .before .before .before .before .before .before .before .before .before .before .before .args .header .now) (c .before .before .before .before .before .before .before .before .before .before .before .before .before .args .coefficients .now) (c .before .before .before .before .before .before .before .before .before .before .before .before .before .args .scales .now) (c .before .before .before .before .before .before .before .before .before .before .before .before .before .args .out .now) _ (c .before .before .before .before .before .before .before .before .before .before .judge-header .ensures) (c .before .before .before .before .before .before .before .before .if1 .left) (c .before .before .before .before .before .before .if2 .left) (eqb-true _ _ (not-false _ (c .before .before .before .before .if3 .left))) _ (c .before .before .before .first-unfit .ensures) (c .before .before .if4 .left) _ (c .before .set-fits .ensures) (not-true _ (c .if5 .taken))
+returns-4 c =
+    let at-if3 = c .before .before .before .before in
+    let at-if2 = at-if3 .before .before in
+    let at-if1 = at-if2 .before .before in
+    let at-judge-header = at-if1 .before .before in
+    let at-start = at-judge-header .before .before .before in
+    short-both (at-start .args .header .now) (at-start .args .coefficients .now) (at-start .args .scales .now) (at-start .args .out .now) _ (at-judge-header .judge-header .ensures) (at-if1 .if1 .left) (at-if2 .if2 .left) (eqb-true _ _ (not-false _ (at-if3 .if3 .left))) _ (c .before .before .before .first-unfit .ensures) (c .before .before .if4 .left) _ (c .before .set-fits .ensures) (not-true _ (c .if5 .taken))
 
 put-set-requires : tie.Need-put-set-requires
-put-set-requires c κs = (eqb-true _ _ (not-false _ (c .before .before .before .before .before .if3 .left)) ∙ sym (c .before .before .before .before .before .before .before .if2 .left), set-room (c .before .before .before .before .before .before .before .before .before .before .before .before .before .before .args .header .now) (c .before .before .before .before .before .before .before .before .before .before .before .before .before .before .args .coefficients .now) (c .before .before .before .before .before .before .before .before .before .before .before .before .before .before .args .scales .now) (c .before .before .before .before .before .before .before .before .before .before .before .before .before .before .args .out .now) _ (c .before .before .before .before .before .before .before .before .before .before .before .judge-header .ensures) (c .before .before .before .before .before .before .before .before .before .if1 .left) (c .before .before .before .before .before .before .before .if2 .left) (eqb-true _ _ (not-false _ (c .before .before .before .before .before .if3 .left))) _ (c .before .before .before .before .first-unfit .ensures) (c .before .before .before .if4 .left) _ (c .before .before .set-fits .ensures) (not-false _ (c .before .if5 .left)))
+put-set-requires c κs =
+    let at-first-unfit = c .before .before .before .before in
+    let at-if3 = at-first-unfit .before in
+    let at-if2 = at-if3 .before .before in
+    let at-if1 = at-if2 .before .before in
+    let at-judge-header = at-if1 .before .before in
+    let at-start = at-judge-header .before .before .before in
+    (eqb-true _ _ (not-false _ (at-if3 .if3 .left)) ∙ sym (at-if2 .if2 .left), set-room (at-start .args .header .now) (at-start .args .coefficients .now) (at-start .args .scales .now) (at-start .args .out .now) _ (at-judge-header .judge-header .ensures) (at-if1 .if1 .left) (at-if2 .if2 .left) (eqb-true _ _ (not-false _ (at-if3 .if3 .left))) _ (at-first-unfit .first-unfit .ensures) (c .before .before .before .if4 .left) _ (c .before .before .set-fits .ensures) (not-false _ (c .before .if5 .left)))
 
 same-length : tie.Need-same-length
 same-length c = search needs
 
 returns-5 : tie.Need-returns-5
-returns-5 c = accepted-both (c .before .before .before .before .before .before .before .before .before .before .before .before .before .before .before .before .before .args .header .now) (c .before .before .before .before .before .before .before .before .before .before .before .before .before .before .before .before .before .args .coefficients .now) (c .before .before .before .before .before .before .before .before .before .before .before .before .before .before .before .before .before .args .scales .now) (c .before .before .before .before .before .before .before .before .before .before .before .before .before .before .before .before .before .args .out .now) _ (c .before .before .before .before .before .before .before .before .before .before .before .before .before .before .judge-header .ensures) (c .before .before .before .before .before .before .before .before .before .before .before .before .if1 .left) (c .before .before .before .before .before .before .before .before .before .before .if2 .left) (eqb-true _ _ (not-false _ (c .before .before .before .before .before .before .before .before .if3 .left))) _ (c .before .before .before .before .before .before .before .first-unfit .ensures) (c .before .before .before .before .before .before .if4 .left) _ (c .before .before .before .before .before .set-fits .ensures) (not-false _ (c .before .before .before .before .if5 .left)) _ (c .before .before .put-set .ensures .0) _ (c .before .before .put-set .ensures .1)
+returns-5 c =
+    let at-put-set = c .before .before in
+    let at-if5 = at-put-set .before .before in
+    let at-set-fits = at-if5 .before in
+    let at-if4 = at-set-fits .before in
+    let at-first-unfit = at-if4 .before in
+    let at-if3 = at-first-unfit .before in
+    let at-if2 = at-if3 .before .before in
+    let at-if1 = at-if2 .before .before in
+    let at-judge-header = at-if1 .before .before in
+    let at-start = at-judge-header .before .before .before in
+    accepted-both (at-start .args .header .now) (at-start .args .coefficients .now) (at-start .args .scales .now) (at-start .args .out .now) _ (at-judge-header .judge-header .ensures) (at-if1 .if1 .left) (at-if2 .if2 .left) (eqb-true _ _ (not-false _ (at-if3 .if3 .left))) _ (at-first-unfit .first-unfit .ensures) (at-if4 .if4 .left) _ (at-set-fits .set-fits .ensures) (not-false _ (at-if5 .if5 .left)) _ (at-put-set .put-set .ensures .0) _ (at-put-set .put-set .ensures .1)
 
 pub write-spec : {M : Type 1} → statement M
 write-spec =
