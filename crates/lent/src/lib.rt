@@ -169,8 +169,9 @@ fn reply_of(a: Answer) -> Reply
         Answer::SoFar(lines) => Reply {
             number: 127,
             place: lines,
+            column: 0,
         },
-        Answer::Refused(number, place) => Reply { number, place },
+        Answer::Refused(reply) => reply,
     }
 }
 
@@ -182,12 +183,14 @@ pub fn start(numbers: &mut [u64], line: &mut [u8]) -> Reply
         return Reply {
             number: 20,
             place: 0,
+            column: 0,
         };
     }
     put_record(numbers, line, stream::fresh());
     Reply {
         number: 0,
         place: 0,
+        column: 0,
     }
 }
 
@@ -199,12 +202,14 @@ pub fn burst(numbers: &mut [u64], line: &mut [u8], bytes: &[u8]) -> Reply
         return Reply {
             number: 20,
             place: 0,
+            column: 0,
         };
     }
     if 0 < numbers[11] {
         return Reply {
             number: 23,
             place: 0,
+            column: 0,
         };
     }
     let after = standing::after_burst(record_in(numbers, line), bytes);
@@ -222,6 +227,7 @@ pub fn end(numbers: &mut [u64], line: &[u8]) -> Reply
         return Reply {
             number: 20,
             place: 0,
+            column: 0,
         };
     }
     let found = stream::reply(record_in(numbers, line));

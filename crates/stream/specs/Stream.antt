@@ -84,17 +84,17 @@ pub record Stepped (c : Stream) (b : List ℕ) (r : Stream) : Type 0 where
 -- the answer of a burst, from the record it leaves: "23, a burst after the end was asked, first of all"; "1 once the running length is past the
 -- limit, otherwise the refusal of the earliest bad line whose LF has come, otherwise 'so far' with the number of finished lines"
 abbrev pub soFar : Seen → Answer
-soFar past = Refused 1 0
+soFar past = Refused (reply 1 0)
 soFar (inLimit (going s n) q t) = SoFar n
-soFar (inLimit (refused r) q t) = Refused (r .number) (r .place)
+soFar (inLimit (refused r) q t) = Refused r
 
 unfoldable pub answerOf : Bool → Seen → Answer
-answerOf ended s = pick ended (Refused 23 0) (soFar s)
+answerOf ended s = pick ended (Refused (reply 23 0)) (soFar s)
 
 -- the paper's number and place of an answer; "so far" is 127, which is no refusal of a file's bytes
 abbrev pub paper : Answer → Reply
 paper (SoFar n) = reply 127 n
-paper (Refused n p) = reply n p
+paper (Refused r) = r
 
 -- the end's answer: the whole file's
 abbrev pub endReply : Seen → Reply

@@ -27,10 +27,10 @@ pub struct Stream {
     pub ended: bool,
 }
 
-// What a burst answers: the number of finished lines so far, or document 01's number and place.
+// What a burst answers: the number of finished lines so far, or document 01's refusal.
 pub enum Answer {
     SoFar(usize),
-    Refused(u8, usize),
+    Refused(Reply),
 }
 
 // A record that starts a new file, all its numbers and bytes 0.
@@ -256,13 +256,25 @@ pub fn answer_of(c: Stream) -> Answer
     ensures { λ r. ⌜ r ≡ answerOf (c .ended) (seen c) ⌝ }
 {
     if c.ended {
-        return Answer::Refused(23, 0);
+        return Answer::Refused(Reply {
+            number: 23,
+            place: 0,
+            column: 0,
+        });
     }
     if is_past(c) {
-        return Answer::Refused(1, 0);
+        return Answer::Refused(Reply {
+            number: 1,
+            place: 0,
+            column: 0,
+        });
     }
     if 0 < c.number {
-        return Answer::Refused(c.number, c.lines + 1);
+        return Answer::Refused(Reply {
+            number: c.number,
+            place: c.lines + 1,
+            column: 0,
+        });
     }
     Answer::SoFar(c.lines)
 }
@@ -292,12 +304,14 @@ pub fn reply(c: Stream) -> Reply
         return Reply {
             number: 1,
             place: 0,
+            column: 0,
         };
     }
     if 0 < c.number {
         return Reply {
             number: c.number,
             place: c.lines + 1,
+            column: 0,
         };
     }
     let line = c.pending;

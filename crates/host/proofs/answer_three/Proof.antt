@@ -7,12 +7,12 @@ use borrow.Author.Needs.{needs}
 use Rattle.host.proofs.answer_three.Statement.{statement}
 use Rattle.host.proofs.answer_three.Tie as tie
 
-pack-requires : tie.Need-pack-requires
-pack-requires c κs = search needs
+bare-requires : tie.Need-bare-requires
+bare-requires c κs = search needs
 
 returns : tie.Need-returns
 unfolding valueBytes bytesOf
-returns c = answered-short _ _ _ (omega arith) (c .pack .ensures)
+returns c = answered-short _ _ _ (omega arith) (c .bare .ensures)
 
 bits-requires : tie.Need-bits-requires
 bits-requires c κs = search needs
@@ -32,8 +32,8 @@ bits-requires-3 c κs = search needs
 lay-requires-3 : tie.Need-lay-requires-3
 lay-requires-3 c κs = search needs
 
-pack-requires-2 : tie.Need-pack-requires-2
-pack-requires-2 c κs = search needs
+bare-requires-2 : tie.Need-bare-requires-2
+bare-requires-2 c κs = search needs
 
 same-length : tie.Need-same-length
 same-length c = search needs
@@ -46,13 +46,13 @@ returns-2 c =
     let at-bits2 = at-lay2 .before in
     let at-lay = at-bits2 .before .before .before .before in
     let at-bits = at-lay .before in
-    answered _ _ _ _ (omega arith) (c .pack2 .ensures) (laid-three _ _ _ _ (at-bits .bits .ensures) (at-lay .lay .ensures) _ _ _ (at-bits2 .bits2 .ensures) (at-lay2 .lay2 .ensures) _ _ _ (at-bits3 .bits3 .ensures) (c .before .before .before .lay3 .ensures))
+    answered _ _ _ _ (omega arith) (c .bare2 .ensures) (laid-three _ _ _ _ (at-bits .bits .ensures) (at-lay .lay .ensures) _ _ _ (at-bits2 .bits2 .ensures) (at-lay2 .lay2 .ensures) _ _ _ (at-bits3 .bits3 .ensures) (c .before .before .before .lay3 .ensures))
 
 pub answer-three-spec : {M : Type 1} → statement M
 answer-three-spec =
     tie.close
     (tie.spec
-    pack-requires
+    bare-requires
     returns
     bits-requires
     lay-requires
@@ -60,6 +60,6 @@ answer-three-spec =
     lay-requires-2
     bits-requires-3
     lay-requires-3
-    pack-requires-2
+    bare-requires-2
     same-length
     returns-2)
