@@ -21,15 +21,6 @@ use Rattle.decimal.specs.Decimal.{leadText, digitsOf, signByte, coeffici
 use Rattle.decimal.specs.SignLaws.{back, exponent-back}
 use Rattle.decimal.specs.DigitLaws.{digitsOf-length}
 
--- one blank more, and all of them
-pub blanks-next : (l : List ℕ) (i : ℕ) → i < length l → take i l ≡ replicate i 32 → take (i + 1) (set l i 32) ≡ replicate (i + 1) 32
-blanks-next l i h e = rw (add-one, take-suc-set, e) (replicate-append-replicate i 1 32 ∙ rw add-one refl)
-
-pub blanks-done : (l : List ℕ) (i w : ℕ) → length l ≡ w → i ≤ length l → length l ≤ i → take i l ≡ replicate i 32 → l ≡ replicate w 32
-blanks-done l i w q h g e =
-    let z : i ≡ w = omega arith in
-    sym (take-all i l g) ∙ e ∙ rw z refl
-
 -- the blanks, and a minus in the last of them
 pub lead-plain : (w : ℕ) (m : Bool) → 0 < w → m ≡ false → replicate w 32 ≡ leadText w m
 unfolding leadText

@@ -7,6 +7,7 @@ ghost use lib.IntN.{natAbs};
 ghost use lib.ListN.{length, replicate};
 ghost use Rattle.real.specs.Real.{belowZero};
 ghost use Rattle.decimal.specs.Decimal.{count, short, exponentOf, fits, digitsOf, coefficientText, signByte, exponentText, fieldText, leadText};
+use output::put_blanks;
 
 // Whether the number is below zero.
 pub fn is_below(x: i64) -> bool
@@ -88,17 +89,6 @@ fn spare(decimals: usize, digits: usize) -> usize
         return 0;
     }
     decimals - digits + 1
-}
-
-// Fills the columns with blanks.
-fn put_blanks(out: &mut [u8])
-    ensures { λ _. ⌜ now (out .exit) ≡ replicate (length (now (out .entry))) 32 ⌝ }
-{
-    let mut i = 0;
-    while i < out.len() {
-        out[i] = 32;
-        i += 1;
-    }
 }
 
 // Fills the columns before the first digit: blanks, with a minus in the last one if negative.

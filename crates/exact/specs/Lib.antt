@@ -2,5 +2,3 @@ pub mod Exact
 pub mod ExactLaws
 pub mod Bits
 pub mod BitsLaws
-pub mod Bytes
-pub mod BytesLaws

@@ -1,10 +1,8 @@
-// The f64 of a decimal number, its bit pattern, and a number's bytes.
+// The f64 of a decimal number, and its bit pattern.
 ghost use mathlib.Core.Path.{_≡_};
 ghost use Prim.Native.Nat.{_<_, _≤_};
-ghost use lib.ListN.{length};
 ghost use Rattle.exact.specs.Exact.{tenOf, magnitudeOf, exactOf};
 ghost use Rattle.exact.specs.Bits.{bitsOf};
-ghost use Rattle.exact.specs.Bytes.{bytesOf};
 
 // The f64 of a number, or that the number is outside the exact path (document 01's term).
 pub enum Exact {
@@ -69,17 +67,4 @@ pub fn bits(x: f64) -> u64
         return 0x7ff8000000000000;
     }
     f64::to_bits(x)
-}
-
-// The number's bytes, the lowest first, as many as are lent.
-pub fn put_bytes(out: &mut [u8], number: u64)
-    ensures { λ _. ⌜ now (out .exit) ≡ bytesOf (length (now (out .entry))) number ⌝ }
-{
-    let mut rest = number;
-    let mut i = 0;
-    while i < out.len() {
-        out[i] = (rest % 256) as u8;
-        rest = rest / 256;
-        i += 1;
-    }
 }

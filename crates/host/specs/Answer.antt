@@ -8,7 +8,7 @@ use lib.IntN.{ℤ, pos, negsuc}
 use lib.ListN.{length, take, drop}
 use Rattle.laws.specs.Choice.{pick}
 use Rattle.exact.specs.Bits.{bitsOf}
-use Rattle.exact.specs.Bytes.{bytesOf}
+use Rattle.output.specs.Output.{bytesOf}
 use Rattle.judge.specs.declared.Reply.{Reply}
 use Rattle.reader.specs.Reader.{Said, said, refusedBy, Shown, scaleOf}
 use Rattle.host.specs.Packed.{word, packed}
@@ -48,7 +48,3 @@ replyFor s lent = pick (ltb lent (length (s .shown))) (packed 20 0) (word (s .re
 -- the lent bytes afterwards. "A refusal leaves every lent buffer untouched; a buffer longer than the answer keeps the rest"
 unfoldable pub bytesAfter : Said ℕ → List ℕ → List ℕ
 bytesAfter s out = pick (ltb (length out) (length (s .shown))) out (s .shown ++ drop (length (s .shown)) out)
-
--- the bytes from a to e, which is past the last of them, are the number's
-unfoldable pub laid : ℕ → ℕ → ℕ → List ℕ → List ℕ
-laid a e n out = take a out ++ (bytesOf (e - a) n ++ drop e out)

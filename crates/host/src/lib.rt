@@ -4,7 +4,7 @@ ghost use mathlib.Core.List.{[], _∷_, _++_};
 ghost use Prim.Native.Nat.{_≤_};
 ghost use lib.ListN.{length, drop};
 ghost use Rattle.host.specs.Packed.{columnBits, word, packed};
-ghost use Rattle.host.specs.Answer.{twosComplement, numberBytes, numberAnswer, valueAnswer, replyFor, bytesAfter, laid};
+ghost use Rattle.host.specs.Answer.{twosComplement, numberBytes, numberAnswer, valueAnswer, replyFor, bytesAfter};
 ghost use Rattle.laws.specs.Choice.{pick};
 ghost use Rattle.text.specs.Parts.{signed};
 ghost use Rattle.judge.specs.Judge.{judged};
@@ -15,9 +15,9 @@ ghost use Rattle.values.specs.Values.{allReply, allPlaces};
 ghost use Rattle.writer.specs.Writer.{writeReply, writeOut};
 ghost use Rattle.reader.specs.Reader.{said, shown, paper, paperNumber, numberOf, valueOf};
 use exact::bits;
-use exact::put_bytes;
 use judge::Reply;
 use laws::wide;
+use output::put_bytes;
 use reader::NumberAnswer;
 use reader::Stored;
 use reader::ValueAnswer;
@@ -70,14 +70,6 @@ pub extern "C" fn uff_list(file: &[u8], rows: &mut [u32]) -> u64
     pack(found)
 }
 
-// Lays a number's bytes, the lowest first, from a place up to another.
-fn lay(out: &mut [u8], at: usize, past: usize, number: u64)
-    requires { ⌜ (at ≤ past) × (past ≤ length (now out)) ⌝ }
-    ensures { λ _. ⌜ now (out .exit) ≡ laid at past number (now (out .entry)) ⌝ }
-{
-    put_bytes(&mut out[at..past], number);
-}
-
 // A scale, by whether it is below zero and its size, as the 16 bits of an i16.
 fn scale_bits(below: bool, size: u16) -> u64
     ensures { λ r. ⌜ r ≡ twosComplement (signed below size) ⌝ }
@@ -104,11 +96,11 @@ fn put_number(out: &mut [u8], s: Stored)
     requires { ⌜ 20 ≤ length (now out) ⌝ }
     ensures { λ _. ⌜ now (out .exit) ≡ numberBytes (shown (s .first) (s .past) (s .minus) (s .coefficient) (s .below) (s .scale)) ++ drop 20 (now (out .entry)) ⌝ }
 {
-    lay(out, 0, 4, s.first as u64);
-    lay(out, 4, 8, s.past as u64);
-    lay(out, 8, 16, s.coefficient);
-    lay(out, 16, 18, scale_bits(s.below, s.scale));
-    lay(out, 18, 20, sign_byte(s.minus));
+    put_bytes(out, 0, 4, s.first as u64);
+    put_bytes(out, 4, 8, s.past as u64);
+    put_bytes(out, 8, 16, s.coefficient);
+    put_bytes(out, 16, 18, scale_bits(s.below, s.scale));
+    put_bytes(out, 18, 20, sign_byte(s.minus));
 }
 
 // Answers with a stored number, or with its refusal; 20 where it has no room.
@@ -142,7 +134,7 @@ fn answer_one(out: &mut [u8], x: f64) -> u64
     if out.len() < 8 {
         return bare(20, 0);
     }
-    lay(out, 0, 8, bits(x));
+    put_bytes(out, 0, 8, bits(x));
     bare(0, 1)
 }
 
@@ -153,8 +145,8 @@ fn answer_two(out: &mut [u8], kind: usize, x: f64, y: f64) -> u64
     if out.len() < 16 {
         return bare(20, 0);
     }
-    lay(out, 0, 8, bits(x));
-    lay(out, 8, 16, bits(y));
+    put_bytes(out, 0, 8, bits(x));
+    put_bytes(out, 8, 16, bits(y));
     bare(0, kind)
 }
 
@@ -165,9 +157,9 @@ fn answer_three(out: &mut [u8], x: f64, y: f64, z: f64) -> u64
     if out.len() < 24 {
         return bare(20, 0);
     }
-    lay(out, 0, 8, bits(x));
-    lay(out, 8, 16, bits(y));
-    lay(out, 16, 24, bits(z));
+    put_bytes(out, 0, 8, bits(x));
+    put_bytes(out, 8, 16, bits(y));
+    put_bytes(out, 16, 24, bits(z));
     bare(0, 4)
 }
 

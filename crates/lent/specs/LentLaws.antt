@@ -30,21 +30,6 @@ six-laid (_ ∷ _ ∷ _ ∷ _ ∷ []) a b c d e f h = absurd (omega arith)
 six-laid (_ ∷ _ ∷ _ ∷ _ ∷ _ ∷ []) a b c d e f h = absurd (omega arith)
 six-laid (_ ∷ _ ∷ _ ∷ _ ∷ _ ∷ _ ∷ l) a b c d e f h = refl
 
--- one byte more of a line that is copied
-pub copied-next : (out from : List ℕ) (i : ℕ) → i < length out → i < length from
-    → set (take i from ++ drop i out) i (getD from i 0) ≡ take (i + 1) from ++ drop (i + 1) out
-copied-next out from i h g =
-    let x : ℕ = getD from i 0 in
-    let p : List ℕ = take i from in
-    let d : List ℕ = drop (suc i) out in
-    let e : drop i out ≡ getD out i 0 ∷ d = drop-cons out i 0 h in
-    let s : set (p ++ (getD out i 0 ∷ d)) i x ≡ p ++ (x ∷ d) = set-at p (getD out i 0) d x i (length-take-le i from (omega arith)) in
-    let t : take (suc i) from ≡ p ++ (x ∷ []) = take-suc from i 0 g in
-    rw (add-one, t, e) (s ∙ sym (append-snoc p x d))
-
-pub whole-line : (p d : List ℕ) → length p ≡ 82 → take 82 p ++ d ≡ p ++ d
-whole-line p d l = rw (take-all 82 p (omega arith)) refl
-
 -- numbers p at the start, then others after them, by a part that is lent
 laid-after : (p q ns ns₁ ys : List ℕ) (n m : ℕ) → length p ≡ n → ns₁ ≡ p ++ drop n ns → ys ≡ q ++ drop m (midOf n (length ns₁ - n) ns₁)
     → putMid n (length ns₁ - n) ns₁ ys ≡ (p ++ q) ++ drop (n + m) ns

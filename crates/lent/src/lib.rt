@@ -7,11 +7,12 @@ ghost use mathlib.Core.List.{_∷_, _++_};
 ghost use mathlib.Core.Bool.{_||_};
 ghost use Prim.Native.Nat.{_≤_};
 ghost use lib.Dec.{ltb};
-ghost use lib.ListN.{length, take, drop};
+ghost use lib.ListN.{length, drop};
 ghost use Rattle.laws.specs.Choice.{pick};
 ghost use Rattle.lent.specs.Lent.{isShort, dueOf, placeOf, streamOf, placeNumbers, Fits, numbersAfter, lineAfter, startReply, startNumbers, startLine, endOf, endNumbers, same, Burst};
 ghost use Rattle.stream.specs.Stream.{paper};
 use judge::Reply;
+use output::put_text;
 use stream::Answer;
 use stream::Stream;
 use walk::Due;
@@ -62,24 +63,12 @@ fn flag(on: bool) -> u64
     0
 }
 
-// Copies a line's 82 bytes.
-fn copy_line(out: &mut [u8], from: &[u8])
-    requires { ⌜ (82 ≤ length (now out)) × (82 ≤ length (now from)) ⌝ }
-    ensures { λ _. ⌜ now (out .exit) ≡ take 82 (now (from .entry)) ++ drop 82 (now (out .entry)) ⌝ }
-{
-    let mut i = 0;
-    while i < 82 {
-        out[i] = from[i];
-        i += 1;
-    }
-}
-
 // Lays a record's line.
 fn put_line(line: &mut [u8], pending: &[u8; 82])
     requires { ⌜ 82 ≤ length (now line) ⌝ }
     ensures { λ _. ⌜ (now (line .exit) ≡ now (pending .entry) ++ drop 82 (now (line .entry))) × (length (now (pending .entry)) ≡ 82) ⌝ }
 {
-    copy_line(line, pending);
+    put_text(line, 0, pending);
 }
 
 // Lays a record out.
@@ -142,7 +131,7 @@ fn record_in(numbers: &[u64], line: &[u8]) -> Stream
     let sets = (numbers[6] % 4294967296) as u32;
     let number = (numbers[8] % 256) as u8;
     let mut pending = [0u8; 82];
-    copy_line(&mut pending, line);
+    put_text(&mut pending, 0, &line[..82]);
     Stream {
         state: State { place, sets },
         lines: numbers[7] as usize,

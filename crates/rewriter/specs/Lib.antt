@@ -1,6 +1,6 @@
 pub mod Rewriter
-pub mod Output
-pub mod OutputLaws
+pub mod Body
+pub mod BodyLaws
 pub mod PutLaws
 pub mod PlainLaws
 pub mod RewriterLaws

@@ -17,9 +17,11 @@ use Rattle.parts.specs.SetLaws.{remaining, Standing, standing}
 use Rattle.parts.specs.TurnLaws as Turns
 use Rattle.judge.specs.declared.Reply.{Reply}
 use Rattle.judge.specs.Judge.{judged, reply}
-use Rattle.rewriter.specs.Rewriter.{digitOrBlank, plainIn, plainNumber, delimiterLine, ended, linesText, headText, setText, rewrittenSet, rewritten, rewrittenFile, rewriteReply, rewriteOut}
-use Rattle.rewriter.specs.Output.{placed, linesIn, bodyText}
-use Rattle.rewriter.specs.OutputLaws.{Put, put-start, put-done, put-room, put-next, linesText-most, lines-own}
+use Rattle.output.specs.Output.{Put, ended, placed}
+use Rattle.output.specs.OutputLaws.{put-start, put-done, put-room, put-next}
+use Rattle.rewriter.specs.Rewriter.{digitOrBlank, plainIn, plainNumber, delimiterLine, linesText, headText, setText, rewrittenSet, rewritten, rewrittenFile, rewriteReply, rewriteOut}
+use Rattle.rewriter.specs.Body.{linesIn, bodyText}
+use Rattle.rewriter.specs.BodyLaws.{linesText-most, lines-own}
 
 -- a number has as many columns as it is given
 pub plainIn-length : (w v : ℕ) → length (plainIn w v) ≡ w

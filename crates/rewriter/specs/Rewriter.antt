@@ -9,6 +9,7 @@ use Rattle.laws.specs.Choice.{pick}
 use Rattle.text.specs.Text.{trimmed}
 use Rattle.line.specs.Line.{columns}
 use Rattle.parts.specs.Parts.{Part, partsOf, numberOf}
+use Rattle.output.specs.Output.{ended}
 use Rattle.judge.specs.Judge.{judged, reply}
 use Rattle.judge.specs.declared.Reply.{Reply}
 
@@ -29,10 +30,6 @@ plainNumber v = plainIn 6 v
 -- "delimiters .. spelled plainly", with the LF
 abbrev pub delimiterLine : List ℕ
 delimiterLine = 32 ∷ 32 ∷ 32 ∷ 32 ∷ 45 ∷ 49 ∷ 10 ∷ []
-
--- a text and its "LF end"
-abbrev pub ended : List ℕ → List ℕ
-ended t = t ++ (10 ∷ [])
 
 -- "no blanks at line ends": what is kept of a line, given by the bytes before its LF
 unfoldable pub keptOf : List ℕ → List ℕ

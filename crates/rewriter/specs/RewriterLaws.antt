@@ -16,8 +16,9 @@ use Rattle.line.specs.Line.{Allowed, Allowed.none as no-byte, Allowed.more as b
 use Rattle.line.specs.LineLaws.{filled-short, lineFault-sound}
 use Rattle.kind.specs.Kind.{isDelimiter, thenBlank, datasetNumber}
 use Rattle.parts.specs.Parts.{columnsIn, closes, Part, part, Stand, outside, opened, inside, partsFrom, partsOf, numberOf}
-use Rattle.rewriter.specs.Rewriter.{plainNumber, delimiterLine, ended, keptOf, linesText, headText, setText, rewrittenSet, rewritten, rewrittenFile}
-use Rattle.rewriter.specs.OutputLaws.{trimmed-most}
+use Rattle.output.specs.Output.{ended}
+use Rattle.rewriter.specs.Rewriter.{plainNumber, delimiterLine, keptOf, linesText, headText, setText, rewrittenSet, rewritten, rewrittenFile}
+use Rattle.rewriter.specs.BodyLaws.{trimmed-most}
 use Rattle.rewriter.specs.PutLaws.{plainNumber-length}
 use Rattle.rewriter.specs.PlainLaws.{columns-allowed, plainNumber-allowed, plainNumber-again, numberOf-most}
 

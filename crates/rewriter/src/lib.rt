@@ -2,9 +2,11 @@
 ghost use mathlib.Core.Path.{_≡_};
 ghost use Prim.Native.Nat.{_+_, _≤_};
 ghost use lib.ListN.{length};
-ghost use Rattle.rewriter.specs.Rewriter.{digitOrBlank, plainNumber, ended, keptOf, headText, setText, rewrittenFile, rewriteReply, rewriteOut};
-ghost use Rattle.rewriter.specs.Output.{placed, linesIn, bodyText};
+ghost use Rattle.rewriter.specs.Rewriter.{digitOrBlank, plainNumber, keptOf, headText, setText, rewrittenFile, rewriteReply, rewriteOut};
+ghost use Rattle.rewriter.specs.Body.{linesIn, bodyText};
+ghost use Rattle.output.specs.Output.{placed};
 use judge::Reply;
+use output::put_line;
 
 // The last digit of a number, a blank where the number is 0.
 fn digit_or_blank(v: u32) -> u8
@@ -36,22 +38,6 @@ fn kept_len(line: &[u8]) -> usize
 {
     let n = line::columns_len(line, true);
     text::text_len(&line[..n])
-}
-
-// Puts a text and an LF at byte `at`; answers the byte past them.
-pub fn put_line(out: &mut [u8], at: usize, s: &[u8]) -> usize
-    requires { ⌜ at + length (ended (now s)) ≤ length (now out) ⌝ }
-    ensures { λ r. ⌜ (r ≡ at + length (ended (now (s .entry)))) × (now (out .exit) ≡ placed at (ended (now (s .entry))) (now (out .entry))) ⌝ }
-{
-    let mut past = at;
-    let mut i = 0;
-    while i < s.len() {
-        out[past] = s[i];
-        past += 1;
-        i += 1;
-    }
-    out[past] = 10;
-    past + 1
 }
 
 // The length of what is kept of the lines that begin at byte `from` and stop before byte `closing`.

@@ -17,7 +17,7 @@ use Rattle.theory.specs.Proper.{Inside, TypedLines, PlainLines, SetLines}
 use Rattle.ends.specs.Short.{Short}
 use Rattle.places.specs.Holds.{columnsOf}
 use Rattle.rewriter.specs.Rewriter.{keptOf}
-use Rattle.rewriter.specs.OutputLaws.{trimmed-most}
+use Rattle.rewriter.specs.BodyLaws.{trimmed-most}
 use Rattle.rewriter.specs.RewriterLaws.{filled-text}
 use Rattle.rewriting.specs.Form.{Trimmed, SameLines}
 use Rattle.ends.specs.NoDelimiter.{NoDelimiter}

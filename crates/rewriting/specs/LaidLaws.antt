@@ -17,7 +17,7 @@ use Rattle.parts.specs.Parts.{bytesIn, Part, numberOf}
 use Rattle.parts.specs.PartsLaws.{bytesIn-append}
 use Rattle.places.specs.Holds.{columnsOf, Holds, Stand}
 use Rattle.rewriter.specs.Rewriter.{plainNumber, keptOf, linesText, headText, setText, rewrittenSet, rewritten}
-use Rattle.rewriter.specs.OutputLaws.{linesText-most}
+use Rattle.rewriter.specs.BodyLaws.{linesText-most}
 use Rattle.rewriter.specs.PutLaws.{plainNumber-length, setText-length}
 use Rattle.rewriter.specs.PlainLaws.{plainNumber-allowed}
 use Rattle.rewriter.specs.RewriterLaws.{Inner, FairSets, kept-allowed, laid}

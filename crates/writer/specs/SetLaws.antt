@@ -17,8 +17,9 @@ use Rattle.judge.specs.Judge.{reply}
 use Rattle.header.specs.declared.Header.{Header}
 use Rattle.header.specs.Header.{headerOf, replyOf}
 use Rattle.rewriter.specs.Rewriter.{headText, linesText, delimiterLine, setText}
-use Rattle.rewriter.specs.Output.{placed, linesTo, linesIn, bodyText}
-use Rattle.rewriter.specs.OutputLaws.{Put, put-start, put-done, put-room, put-next}
+use Rattle.output.specs.Output.{Put, placed}
+use Rattle.output.specs.OutputLaws.{put-start, put-done, put-room, put-next}
+use Rattle.rewriter.specs.Body.{linesTo, linesIn, bodyText}
 use Rattle.rewriter.specs.PutLaws.{setText-length}
 use Rattle.writer.specs.Writer.{firstUnfit, dataText, writtenSet, laidReply, writeReply, writeOut}
 use Rattle.writer.specs.Lines.{dataLen, setLen}

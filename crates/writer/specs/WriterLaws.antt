@@ -18,8 +18,8 @@ use Rattle.decimal.specs.DecimalLaws.{fieldText-length}
 use Rattle.layout.specs.Columns.{fieldOf, fieldPast}
 use Rattle.layout.specs.Layout.{Layout, E, Printed, layouts, printed, layoutOf, fieldsOf}
 use Rattle.layout.specs.LayoutLaws.{fieldPast-inside}
-use Rattle.rewriter.specs.Output.{placed}
-use Rattle.rewriter.specs.OutputLaws.{Put, put-room, put-next, placed-then, placed-byte, placed-length}
+use Rattle.output.specs.Output.{Put, placed}
+use Rattle.output.specs.OutputLaws.{put-room, put-next, placed-then, placed-byte, placed-length, placed-part}
 use Rattle.writer.specs.Writer.{decimalsOf, widthAt, fitsAt, firstUnfit, lineEnd, dataText}
 use Rattle.writer.specs.Lines.{endsLine, fieldAt, storedText, storedLen, dataLen}
 
@@ -196,10 +196,7 @@ module _ (out : List ℕ) (at c j n w : ℕ) (x s : ℤ) (room : at + length (st
           e ∙ rw (k, q, a, b, p) refl
 
       field-laid : putMid at (at + w - at) out ys ≡ placed at (fieldAt c j x s) out
-      unfolding placed
-      field-laid =
-          let z : at + w - at ≡ w = omega arith in
-          rw (field-is, field-length, z, drop-drop w at out) refl
+      field-laid = rw field-is (placed-part at (fieldAt c j x s) out (at + w) (ap (λ (k : ℕ). at + k) field-length))
 
       same-room : length (putMid at (at + w - at) out ys) ≡ length out
       same-room = ap length field-laid ∙ placed-length at (fieldAt c j x s) out (omega (arith, field-room, field-length))

@@ -4,10 +4,11 @@ ghost use mathlib.Core.Path.{_≡_};
 ghost use Prim.Native.Nat.{_+_, _-_, _≤_, _<_};
 ghost use lib.Dec.{leb};
 ghost use lib.ListN.{length};
-ghost use Rattle.rewriter.specs.Output.{placed};
+ghost use Rattle.output.specs.Output.{placed};
 ghost use Rattle.writer.specs.Writer.{decimalsOf, widthAt, firstUnfit, dataText, writtenSet, writeReply, writeOut};
 ghost use Rattle.writer.specs.Lines.{endsLine, storedText, storedLen, dataLen, setLen};
 use judge::Reply;
+use output::put_line;
 
 // The width of stored number j's field; 0 where there is no such case.
 fn width_at(case: usize, j: usize) -> usize
@@ -156,7 +157,7 @@ fn put_set(
     let opened = rewriter::put_head(out, 0, 58);
     let lined = rewriter::put_body(out, opened, header, 0, header.len());
     let filled = put_data(out, lined, case, coefficients, scales);
-    rewriter::put_line(out, filled, b"    -1")
+    put_line(out, filled, b"    -1")
 }
 
 // Document 01's writer: the header's refusal first; 22 where the coefficients or the scales are not as many as the stored numbers the

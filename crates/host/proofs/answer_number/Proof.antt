@@ -3,7 +3,7 @@ use Rattle.host.specs.AnswerLaws.{answered, answered-short}
 use mathlib.Core.Path.{refl}
 use native.Mathlib.Omega.{arith}
 use Rattle.host.specs.Answer.{numberShown, numberBytes}
-use Rattle.exact.specs.Bytes.{bytesOf}
+use Rattle.output.specs.Output.{bytesOf}
 use borrow.Author.Needs.{needs}
 use Rattle.host.proofs.answer_number.Statement.{statement}
 use Rattle.host.proofs.answer_number.Tie as tie

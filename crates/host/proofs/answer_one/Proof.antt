@@ -1,7 +1,7 @@
 -- `host::answer_one` meets its contract.
 use Rattle.host.specs.AnswerLaws.{answered, answered-short, laid-one}
 use Rattle.host.specs.Answer.{valueBytes}
-use Rattle.exact.specs.Bytes.{bytesOf}
+use Rattle.output.specs.Output.{bytesOf}
 use native.Mathlib.Omega.{arith}
 use borrow.Author.Needs.{needs}
 use Rattle.host.proofs.answer_one.Statement.{statement}
@@ -17,8 +17,8 @@ returns c = answered-short _ _ _ (omega arith) (c .bare .ensures)
 bits-requires : tie.Need-bits-requires
 bits-requires c κs = search needs
 
-lay-requires : tie.Need-lay-requires
-lay-requires c κs = search needs
+put-bytes-requires : tie.Need-put-bytes-requires
+put-bytes-requires c κs = search needs
 
 bare-requires-2 : tie.Need-bare-requires-2
 bare-requires-2 c κs = search needs
@@ -30,7 +30,7 @@ returns-2 : tie.Need-returns-2
 unfolding valueBytes bytesOf
 returns-2 c =
     let at-bits = c .before .before .before .before in
-    answered _ _ _ _ (omega arith) (c .bare2 .ensures) (laid-one _ _ _ _ (at-bits .bits .ensures) (c .before .before .before .lay .ensures))
+    answered _ _ _ _ (omega arith) (c .bare2 .ensures) (laid-one _ _ _ _ (at-bits .bits .ensures) (c .before .before .before .put-bytes .ensures))
 
 pub answer-one-spec : {M : Type 1} → statement M
 answer-one-spec =
@@ -39,7 +39,7 @@ answer-one-spec =
     bare-requires
     returns
     bits-requires
-    lay-requires
+    put-bytes-requires
     bare-requires-2
     same-length
     returns-2)

@@ -1,7 +1,7 @@
 -- `host::answer_three` meets its contract.
 use Rattle.host.specs.AnswerLaws.{answered, answered-short, laid-three}
 use Rattle.host.specs.Answer.{valueBytes}
-use Rattle.exact.specs.Bytes.{bytesOf}
+use Rattle.output.specs.Output.{bytesOf}
 use native.Mathlib.Omega.{arith}
 use borrow.Author.Needs.{needs}
 use Rattle.host.proofs.answer_three.Statement.{statement}
@@ -17,20 +17,20 @@ returns c = answered-short _ _ _ (omega arith) (c .bare .ensures)
 bits-requires : tie.Need-bits-requires
 bits-requires c κs = search needs
 
-lay-requires : tie.Need-lay-requires
-lay-requires c κs = search needs
+put-bytes-requires : tie.Need-put-bytes-requires
+put-bytes-requires c κs = search needs
 
 bits-requires-2 : tie.Need-bits-requires-2
 bits-requires-2 c κs = search needs
 
-lay-requires-2 : tie.Need-lay-requires-2
-lay-requires-2 c κs = search needs
+put-bytes-requires-2 : tie.Need-put-bytes-requires-2
+put-bytes-requires-2 c κs = search needs
 
 bits-requires-3 : tie.Need-bits-requires-3
 bits-requires-3 c κs = search needs
 
-lay-requires-3 : tie.Need-lay-requires-3
-lay-requires-3 c κs = search needs
+put-bytes-requires-3 : tie.Need-put-bytes-requires-3
+put-bytes-requires-3 c κs = search needs
 
 bare-requires-2 : tie.Need-bare-requires-2
 bare-requires-2 c κs = search needs
@@ -42,11 +42,11 @@ returns-2 : tie.Need-returns-2
 unfolding valueBytes bytesOf
 returns-2 c =
     let at-bits3 = c .before .before .before .before in
-    let at-lay2 = at-bits3 .before .before .before .before in
-    let at-bits2 = at-lay2 .before in
-    let at-lay = at-bits2 .before .before .before .before in
-    let at-bits = at-lay .before in
-    answered _ _ _ _ (omega arith) (c .bare2 .ensures) (laid-three _ _ _ _ (at-bits .bits .ensures) (at-lay .lay .ensures) _ _ _ (at-bits2 .bits2 .ensures) (at-lay2 .lay2 .ensures) _ _ _ (at-bits3 .bits3 .ensures) (c .before .before .before .lay3 .ensures))
+    let at-put-bytes2 = at-bits3 .before .before .before .before in
+    let at-bits2 = at-put-bytes2 .before in
+    let at-put-bytes = at-bits2 .before .before .before .before in
+    let at-bits = at-put-bytes .before in
+    answered _ _ _ _ (omega arith) (c .bare2 .ensures) (laid-three _ _ _ _ (at-bits .bits .ensures) (at-put-bytes .put-bytes .ensures) _ _ _ (at-bits2 .bits2 .ensures) (at-put-bytes2 .put-bytes2 .ensures) _ _ _ (at-bits3 .bits3 .ensures) (c .before .before .before .put-bytes3 .ensures))
 
 pub answer-three-spec : {M : Type 1} → statement M
 answer-three-spec =
@@ -55,11 +55,11 @@ answer-three-spec =
     bare-requires
     returns
     bits-requires
-    lay-requires
+    put-bytes-requires
     bits-requires-2
-    lay-requires-2
+    put-bytes-requires-2
     bits-requires-3
-    lay-requires-3
+    put-bytes-requires-3
     bare-requires-2
     same-length
     returns-2)

@@ -1,7 +1,7 @@
 -- `host::answer_two` meets its contract.
 use Rattle.host.specs.AnswerLaws.{answered, answered-short, laid-two}
 use Rattle.host.specs.Answer.{valueBytes}
-use Rattle.exact.specs.Bytes.{bytesOf}
+use Rattle.output.specs.Output.{bytesOf}
 use native.Mathlib.Omega.{arith}
 use borrow.Author.Needs.{needs}
 use Rattle.host.proofs.answer_two.Statement.{statement}
@@ -17,14 +17,14 @@ returns c = answered-short _ _ _ (omega arith) (c .bare .ensures)
 bits-requires : tie.Need-bits-requires
 bits-requires c κs = search needs
 
-lay-requires : tie.Need-lay-requires
-lay-requires c κs = search needs
+put-bytes-requires : tie.Need-put-bytes-requires
+put-bytes-requires c κs = search needs
 
 bits-requires-2 : tie.Need-bits-requires-2
 bits-requires-2 c κs = search needs
 
-lay-requires-2 : tie.Need-lay-requires-2
-lay-requires-2 c κs = search needs
+put-bytes-requires-2 : tie.Need-put-bytes-requires-2
+put-bytes-requires-2 c κs = search needs
 
 bare-requires-2 : tie.Need-bare-requires-2
 bare-requires-2 c κs = search needs
@@ -36,9 +36,9 @@ returns-2 : tie.Need-returns-2
 unfolding valueBytes bytesOf
 returns-2 c =
     let at-bits2 = c .before .before .before .before in
-    let at-lay = at-bits2 .before .before .before .before in
-    let at-bits = at-lay .before in
-    answered _ _ _ _ (omega arith) (c .bare2 .ensures) (laid-two _ _ _ _ (at-bits .bits .ensures) (at-lay .lay .ensures) _ _ _ (at-bits2 .bits2 .ensures) (c .before .before .before .lay2 .ensures))
+    let at-put-bytes = at-bits2 .before .before .before .before in
+    let at-bits = at-put-bytes .before in
+    answered _ _ _ _ (omega arith) (c .bare2 .ensures) (laid-two _ _ _ _ (at-bits .bits .ensures) (at-put-bytes .put-bytes .ensures) _ _ _ (at-bits2 .bits2 .ensures) (c .before .before .before .put-bytes2 .ensures))
 
 pub answer-two-spec : {M : Type 1} → statement M
 answer-two-spec =
@@ -47,9 +47,9 @@ answer-two-spec =
     bare-requires
     returns
     bits-requires
-    lay-requires
+    put-bytes-requires
     bits-requires-2
-    lay-requires-2
+    put-bytes-requires-2
     bare-requires-2
     same-length
     returns-2)

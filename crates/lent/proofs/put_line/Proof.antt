@@ -1,20 +1,26 @@
 -- `lent::put_line` meets its contract.
-use mathlib.Core.Path.{_∙_}
-use Rattle.lent.specs.LentLaws.{whole-line}
+use mathlib.Core.Path.{_≡_, refl, _∙_}
+use mathlib.Core.List.{List}
+use Prim.Native.Nat.{ℕ}
+use lib.ListN.{length}
+use Rattle.output.specs.OutputLaws.{placed-first}
 use borrow.Author.Needs.{needs}
 use Rattle.lent.proofs.put_line.Statement.{statement}
 use Rattle.lent.proofs.put_line.Tie as tie
 
-copy-line-requires : tie.Need-copy-line-requires
-copy-line-requires c κs = search needs
+put-text-requires : tie.Need-put-text-requires
+put-text-requires c κs = search needs
 
 same-length : tie.Need-same-length
 same-length c = search needs
 
 returns : tie.Need-returns
 returns c =
-    let at-start = c .before .before .before .before .before .before in
-    (c .before .before .copy-line .ensures ∙ whole-line (at-start .args .pending .now) _ (search needs), search needs)
+    let at-put-text = c .before .before in
+    let at-pre = at-put-text .before .before .before .before in
+    let pending : List ℕ = at-pre .args .pending .now in
+    let room : length pending ≡ 82 = search needs in
+    (at-put-text .put-text .ensures .1 ∙ placed-first pending _ ∙ rw room refl, room)
 
 pub put-line-spec : {M : Type 1} → statement M
-put-line-spec = tie.close (tie.spec copy-line-requires same-length returns)
+put-line-spec = tie.close (tie.spec put-text-requires same-length returns)

@@ -1,7 +1,10 @@
 -- `lent::record_in` meets its contract.
-use mathlib.Core.Path.{refl}
-use mathlib.Core.List.{append-nil}
+use mathlib.Core.Path.{_≡_, refl, sym}
+use lib.ListN.{length, take}
+use lib.Seq.{length-take-le}
 use Rattle.lent.specs.Lent.{streamOf}
+use Rattle.output.specs.OutputLaws.{placed-whole}
+use native.Mathlib.Omega.{arith}
 use borrow.Author.Needs.{needs}
 use Rattle.lent.proofs.record_in.Statement.{statement}
 use Rattle.lent.proofs.record_in.Tie as tie
@@ -21,11 +24,18 @@ shared-slice-read-number c = search needs
 cast-number : tie.Need-cast-number
 cast-number c = search needs
 
-slice-aggregate-copy-line : tie.Need-slice-aggregate-copy-line
-slice-aggregate-copy-line c = search needs
+slice-aggregate-put-text : tie.Need-slice-aggregate-put-text
+slice-aggregate-put-text c = search needs
 
-copy-line-requires : tie.Need-copy-line-requires
-copy-line-requires c κs = search needs
+slice-aggregate-put-text-2 : tie.Need-slice-aggregate-put-text-2
+slice-aggregate-put-text-2 c =
+    let at-pre = c .before .before .before .before .before .before .before in
+    sym (length-take-le 82 (at-pre .args .line .now) (search needs))
+
+put-text-requires : tie.Need-put-text-requires
+put-text-requires c κs =
+    let at-pre = c .before .before .before .before .before .before .before in
+    omega (arith, length-take-le 82 (at-pre .args .line .now) (search needs))
 
 shared-slice-read-t8 : tie.Need-shared-slice-read-t8
 shared-slice-read-t8 c = search needs
@@ -33,18 +43,20 @@ shared-slice-read-t8 c = search needs
 shared-slice-read-t9 : tie.Need-shared-slice-read-t9
 shared-slice-read-t9 c = search needs
 
-shared-slice-read-t21 : tie.Need-shared-slice-read-t21
-shared-slice-read-t21 c = search needs
+shared-slice-read-t22 : tie.Need-shared-slice-read-t22
+shared-slice-read-t22 c = search needs
 
-shared-slice-read-t24 : tie.Need-shared-slice-read-t24
-shared-slice-read-t24 c = search needs
+shared-slice-read-t25 : tie.Need-shared-slice-read-t25
+shared-slice-read-t25 c = search needs
 
 returns : tie.Need-returns
 unfolding streamOf
 returns c =
-    let at-copy-line = c .before .before .before .before .before in
-    let at-place-in = at-copy-line .before .before .before .before in
-    rw (at-place-in .place-in .ensures, at-copy-line .copy-line .ensures, append-nil) refl
+    let at-put-text = c .before .before .before .before .before in
+    let at-place-in = at-put-text .before .before .before .before .before in
+    let at-pre = at-place-in .before .before .before in
+    let room : length (take 82 (at-pre .args .line .now)) ≡ 82 = length-take-le 82 (at-pre .args .line .now) (search needs) in
+    rw (at-place-in .place-in .ensures, at-put-text .put-text .ensures .1, placed-whole _ _ room) refl
 
 pub record-in-spec : {M : Type 1} → statement M
 record-in-spec =
@@ -55,10 +67,11 @@ record-in-spec =
     cast-sets
     shared-slice-read-number
     cast-number
-    slice-aggregate-copy-line
-    copy-line-requires
+    slice-aggregate-put-text
+    slice-aggregate-put-text-2
+    put-text-requires
     shared-slice-read-t8
     shared-slice-read-t9
-    shared-slice-read-t21
-    shared-slice-read-t24
+    shared-slice-read-t22
+    shared-slice-read-t25
     returns)

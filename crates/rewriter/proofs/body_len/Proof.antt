@@ -2,8 +2,8 @@
 use mathlib.Core.Path.{_≡_, ap}
 use Prim.Native.Nat.{_≤_, _+_, _-_}
 use lib.ListN.{length}
-use Rattle.rewriter.specs.Output.{bodyText}
-use Rattle.rewriter.specs.OutputLaws.{body-stops, body-ends, body-line-length, body-most}
+use Rattle.rewriter.specs.Body.{bodyText}
+use Rattle.rewriter.specs.BodyLaws.{body-stops, body-ends, body-line-length, body-most}
 use borrow.Author.Needs.{needs}
 use native.Mathlib.Omega.{arith}
 use Rattle.rewriter.proofs.body_len.Statement.{statement}

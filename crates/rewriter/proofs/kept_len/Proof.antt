@@ -2,7 +2,7 @@
 use mathlib.Core.Path.{sym}
 use lib.Seq.{length-take-le}
 use Rattle.line.specs.LineLaws.{columns-within}
-use Rattle.rewriter.specs.OutputLaws.{kept-columns}
+use Rattle.rewriter.specs.BodyLaws.{kept-columns}
 use borrow.Author.Needs.{needs}
 use Rattle.rewriter.proofs.kept_len.Statement.{statement}
 use Rattle.rewriter.proofs.kept_len.Tie as tie

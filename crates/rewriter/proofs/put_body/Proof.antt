@@ -1,9 +1,10 @@
 -- `rewriter::put_body` meets its contract.
 use Prim.Native.Nat.{_≤_, _+_, _-_}
 use lib.ListN.{length, take, drop}
-use Rattle.rewriter.specs.Rewriter.{ended}
-use Rattle.rewriter.specs.Output.{bodyText}
-use Rattle.rewriter.specs.OutputLaws.{Put, put-start, put-done, put-room, put-next, kept-within, body-stops, body-ends, body-kept}
+use Rattle.output.specs.Output.{Put, ended}
+use Rattle.output.specs.OutputLaws.{put-start, put-done, put-room, put-next}
+use Rattle.rewriter.specs.Body.{bodyText}
+use Rattle.rewriter.specs.BodyLaws.{kept-within, body-stops, body-ends, body-kept}
 use borrow.Author.Needs.{needs}
 use native.Mathlib.Omega.{arith}
 use Rattle.rewriter.proofs.put_body.Statement.{statement}

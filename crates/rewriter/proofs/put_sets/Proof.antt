@@ -5,7 +5,8 @@ use lib.ListN.{length}
 use Rattle.parts.specs.Scan.{firstOf}
 use Rattle.parts.specs.SetLaws.{remaining}
 use Rattle.rewriter.specs.Rewriter.{rewritten, rewrittenFile}
-use Rattle.rewriter.specs.OutputLaws.{Put, put-start, put-done}
+use Rattle.output.specs.Output.{Put}
+use Rattle.output.specs.OutputLaws.{put-start, put-done}
 use Rattle.rewriter.specs.PutLaws.{rewritten-start, set-turn, set-none, set-room, set-next}
 use borrow.Author.Needs.{needs}
 use native.Mathlib.Omega.{arith}

@@ -6,7 +6,8 @@ use mir.Syntax.{w16, w64}
 use mir.ValLaws.{toZ-ofZ}
 use Rattle.writer.specs.WriterLaws.{stored-room, stored-next, data-end}
 use Rattle.writer.specs.Writer.{dataText}
-use Rattle.rewriter.specs.OutputLaws.{Put, put-start, put-done}
+use Rattle.output.specs.Output.{Put}
+use Rattle.output.specs.OutputLaws.{put-start, put-done}
 use Rattle.writer.proofs.put_data.Statement.{statement}
 use Rattle.writer.proofs.put_data.Tie as tie
 

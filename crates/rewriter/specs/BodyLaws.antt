@@ -1,4 +1,4 @@
--- Texts put into a buffer one after the other, and what is kept of the lines of a set, line by line.
+-- What is kept of the lines of a set, line by line.
 use mathlib.Core.Path.{_≡_, refl, sym, ap, _∙_}
 use mathlib.Core.Bool.{Bool, true, false}
 use mathlib.Core.List.{List, [], _∷_, _++_, append-assoc, append-nil}
@@ -19,95 +19,9 @@ use Rattle.line.specs.LineLaws.{columns-take, columns-within}
 use Rattle.parts.specs.Parts.{bytesIn, Part, lineStart, closingStart}
 use Rattle.parts.specs.PartsLaws.{lines-at, line-length, lines-end, lines-past}
 use Rattle.parts.specs.SetLaws.{Standing}
-use Rattle.rewriter.specs.Rewriter.{ended, keptOf, linesText}
-use Rattle.rewriter.specs.Output.{placed, linesTo, linesIn, bodyText}
-
--- a text put at a byte of the buffer
-module _ (at : ℕ) (t out : List ℕ) where
-  front-length : at ≤ length out → length (take at out ++ t) ≡ at + length t
-  front-length h = simp length-append (rw (length-take-le at out h) refl)
-
-  placed-front : at ≤ length out → take (at + length t) (placed at t out) ≡ take at out ++ t
-  unfolding placed
-  placed-front h = rw (← append-assoc) (take-at (take at out ++ t) (drop (at + length t) out) (at + length t) (front-length h))
-
-  placed-rest : at ≤ length out → drop (at + length t) (placed at t out) ≡ drop (at + length t) out
-  unfolding placed
-  placed-rest h = rw (← append-assoc) (drop-at (take at out ++ t) (drop (at + length t) out) (at + length t) (front-length h))
-
-  -- the buffer keeps its length
-  pub placed-length : at + length t ≤ length out → length (placed at t out) ≡ length out
-  unfolding placed
-  placed-length h = let z : length (take at out) ≡ at = length-take-le at out (omega arith) in simp (length-append, length-drop) (omega arith)
-
-  -- one text after the other
-  joined : (u mid : List ℕ) → take (at + length t) mid ≡ take at out ++ t → drop (at + length t) mid ≡ drop (at + length t) out
-      → placed (at + length t) u mid ≡ placed at (t ++ u) out
-  unfolding placed
-  joined u mid f r =
-      let d : drop ((at + length t) + length u) mid ≡ drop ((at + length t) + length u) out = sym (drop-drop (length u) (at + length t) mid) ∙ ap (drop (length u)) r ∙ drop-drop (length u) (at + length t) out in
-      let z : at + length (t ++ u) ≡ (at + length t) + length u = rw length-append (omega arith) in
-      rw (f, d, z, append-assoc, append-assoc) refl
-
-  pub placed-then : (u : List ℕ) → at ≤ length out → placed (at + length t) u (placed at t out) ≡ placed at (t ++ u) out
-  placed-then u h = joined u (placed at t out) (placed-front h) (placed-rest h)
-
-pub placed-none : (at : ℕ) (out : List ℕ) → placed at [] out ≡ out
-unfolding placed
-placed-none at out = rw add-zero (take-append-drop at out)
-
--- a text that is put piece by piece: with the rest of it still to come at the byte past, the buffer is on its way from out to out with the
--- whole text at the byte at
-pub record Put (at : ℕ) (whole out : List ℕ) (past : ℕ) (rest now : List ℕ) : Type 0 where
-  pub ends : past + length rest ≡ at + length whole
-  pub same : length now ≡ length out
-  pub text : placed past rest now ≡ placed at whole out
-
-pub put-start : (at : ℕ) (whole out : List ℕ) → Put at whole out at whole out
-put-start at whole out = record { ends = refl; same = refl; text = refl }
-
-module _ (at : ℕ) (whole out : List ℕ) (past : ℕ) (rest now : List ℕ) (p : Put at whole out past rest now) where
-  -- nothing is left
-  pub put-done : rest ≡ [] → (past ≡ at + length whole) × (now ≡ placed at whole out)
-  put-done e = (omega (arith, p .ends, ap length e), sym (placed-none past now) ∙ ap (λ (x : List ℕ). placed past x now) (sym e) ∙ p .text)
-
-  -- one piece more
-  module _ (fits : at + length whole ≤ length out) (t more : List ℕ) (e : rest ≡ t ++ more) where
-    pub put-room : past + length t ≤ length now
-    put-room = omega (arith, p .ends, p .same, ap length e, length-append t more)
-
-    pub put-next : (r : ℕ) (then : List ℕ) → r ≡ past + length t → then ≡ placed past t now → Put at whole out r more then
-    put-next r then q o =
-        let m : past + length t ≤ length now = put-room in
-        record {
-          ends = omega (arith, p .ends, ap length e, length-append t more);
-          same = ap length o ∙ placed-length past t now m ∙ p .same;
-          text = rw (q, o, placed-then past t now more (omega arith), ← e) (p .text);
-        }
-
--- a byte
-pub placed-byte : (at b : ℕ) (out : List ℕ) → at < length out → set out at b ≡ placed at (b ∷ []) out
-unfolding placed
-placed-byte at b out h = rw add-one (set-split out at b h)
-
--- a loop that copies a text: one byte more
-pub placed-next : (at i : ℕ) (s out now : List ℕ) → i < length s → at + length s < length out → length now ≡ length out → now ≡ placed at (take i s) out
-    → set now (at + i) (getD s i 0) ≡ placed at (take (i + 1) s) out
-placed-next at i s out now h r l e =
-    let b : ℕ = getD s i 0 in
-    let n : length (take i s) ≡ i = length-take-le i s (omega arith) in
-    let t : take (i + 1) s ≡ take i s ++ (b ∷ []) = rw (add-one, take-suc s i 0) refl in
-    let q : placed (at + length (take i s)) (b ∷ []) (placed at (take i s) out) ≡ placed at (take i s ++ (b ∷ [])) out = placed-then at (take i s) out (b ∷ []) (omega arith) in
-    placed-byte (at + i) b now (omega arith) ∙ ap (placed (at + i) (b ∷ [])) e ∙ rw n at q ∙ ap (λ (x : List ℕ). placed at x out) (sym t)
-
--- after all of it, the LF
-pub placed-last : (at i past : ℕ) (s out now : List ℕ) → i ≤ length s → length s ≤ i → past ≡ at + i → at + length (ended s) ≤ length out
-    → length now ≡ length out → now ≡ placed at (take i s) out → (past + 1 ≡ at + length (ended s)) × (set now past 10 ≡ placed at (ended s) out)
-placed-last at i past s out now m h p r l e =
-    let z : past ≡ at + length s = omega arith in
-    let n : length (ended s) ≡ length s + 1 = length-append s (10 ∷ []) in
-    let f : now ≡ placed at s out = e ∙ rw (take-all i s h) refl in
-    (omega arith, placed-byte past 10 now (omega arith) ∙ rw (f, z) (placed-then at s out (10 ∷ []) (omega arith)))
+use Rattle.output.specs.Output.{ended}
+use Rattle.rewriter.specs.Rewriter.{keptOf, linesText}
+use Rattle.rewriter.specs.Body.{linesTo, linesIn, bodyText}
 
 -- what is kept of a line is its first bytes
 pub trimmed-most : (l : List ℕ) → length (trimmed l) ≤ length l

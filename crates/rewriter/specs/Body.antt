@@ -1,4 +1,4 @@
--- A text put into a buffer, and the lines of a set by where they stand, as the code goes over them.
+-- The lines of a set by where they stand, as the code goes over them.
 use mathlib.Core.List.{List, [], _∷_, _++_}
 use Prim.Native.Nat.{ℕ, suc, _+_}
 use lib.Dec.{leb}
@@ -6,10 +6,6 @@ use lib.ListN.{length, take, drop}
 use Rattle.laws.specs.Choice.{pick}
 use Rattle.laws.specs.Cut.{cut}
 use Rattle.rewriter.specs.Rewriter.{linesText}
-
--- the buffer with the text t at the byte at; what is before and past it stays
-unfoldable pub placed : ℕ → List ℕ → List ℕ → List ℕ
-placed at t out = take at out ++ (t ++ drop (at + length t) out)
 
 -- of lines that begin at the byte at, those that begin before the byte stop
 unfoldable pub linesTo : ℕ → ℕ → List (List ℕ) → List (List ℕ)
