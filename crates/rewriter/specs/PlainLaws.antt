@@ -16,10 +16,10 @@ use Rattle.text.specs.Parts.{bare, Digits, Digits.none as no-digit, more, isDig
 use Rattle.integer.specs.Spelling.{IntegerSpelling, spelled}
 use Rattle.integer.specs.Integer.{stepInteger, endInteger, integerOf}
 use Rattle.line.specs.Line.{Allowed, Allowed.none as no-byte, Allowed.more as byte, columns, withoutReturn, filled}
-use Rattle.line.specs.LineLaws.{columns-lf, filled-short, filled-length}
-use Rattle.kind.specs.Kind.{NumberLine, number-line, datasetNumber}
-use Rattle.kind.specs.KindLaws.{datasetNumber-complete, datasetNumber-sound}
-use Rattle.parts.specs.Parts.{columnsIn, Part, numberOf}
+use Rattle.line.specs.LineLaws.{columns-lf, filled-short}
+use Rattle.kind.specs.Kind.{number-line, datasetNumber}
+use Rattle.kind.specs.KindLaws.{datasetNumber-complete}
+use Rattle.parts.specs.Parts.{columnsIn}
 use Rattle.rewriter.specs.Rewriter.{digitOrBlank, plainIn, plainNumber}
 use Rattle.rewriter.specs.PutLaws.{plainNumber-length}
 
@@ -111,12 +111,3 @@ zero-read = refl
 pub plainNumber-again : (v : ℕ) → v ≤ 999999 → datasetNumber (columnsIn (plainNumber v)) ≡ v
 plainNumber-again zero h = zero-read
 plainNumber-again (suc v) h = plain-read (suc v) (omega arith) h
-
--- a set's number has six columns
-pub numberOf-most : (p : Part) → numberOf p ≤ 999999
-unfolding numberOf
-numberOf-most p = ⊎-elim (λ h. most (datasetNumber-sound (columnsIn (p .number)) _ (omega (arith, filled-length (columns true (p .number)))) refl h)) (λ h. omega arith)
-    (below-or-not 0 (datasetNumber (columnsIn (p .number))))
-  where
-    most : {v : ℕ} {l : List ℕ} → NumberLine v l → v ≤ 999999
-    most (number-line field bl n s lo hi b) = hi

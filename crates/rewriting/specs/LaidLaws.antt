@@ -20,7 +20,8 @@ use Rattle.rewriter.specs.Rewriter.{plainNumber, keptOf, linesText, headText, s
 use Rattle.rewriter.specs.BodyLaws.{linesText-most}
 use Rattle.rewriter.specs.PutLaws.{plainNumber-length, setText-length}
 use Rattle.rewriter.specs.PlainLaws.{plainNumber-allowed}
-use Rattle.rewriter.specs.RewriterLaws.{Inner, FairSets, kept-allowed, laid}
+use Rattle.rewriter.specs.Fair.{Inner, FairSets, laid}
+use Rattle.rewriter.specs.RewriterLaws.{kept-allowed}
 use Rattle.rewriting.specs.Form.{plainDelimiter, Plainly, PlainSets, Own, SameSets}
 use Rattle.ends.specs.NoDelimiter.{NoDelimiter, set-none}
 use Rattle.rewriting.specs.NumberLaws.{plainNumber-plainly, plainNumber-line, plainNumber-only, delimiter-six, number-six}

@@ -15,7 +15,8 @@ use Rattle.parts.specs.PartsLaws.{lines-past}
 use Rattle.places.specs.Holds.{Stand}
 use Rattle.places.specs.HoldsLaws.{lines-stand}
 use Rattle.rewriter.specs.Rewriter.{rewrittenFile}
-use Rattle.rewriter.specs.RewriterLaws.{FairLines, fair-passed, file-fair, laid}
+use Rattle.rewriter.specs.Fair.{FairLines, laid}
+use Rattle.rewriter.specs.RewriterLaws.{fair-passed, file-fair}
 use Rattle.rewriting.specs.Form.{InForm, OwnLines, SameSets, KeepsSpellings}
 use Rattle.rewriting.specs.OwnLaws.{own-only}
 use Rattle.rewriting.specs.LaidLaws.{laid-joined, laid-ended, bodyOf, keptIn, stand-own, laid-lines, laid-plain, laid-own, kept-same, laid-short, sets-same, bodiesOf, plain-own, plain-only}

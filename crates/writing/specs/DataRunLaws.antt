@@ -33,7 +33,7 @@ use Rattle.walk.specs.Step.{state, stepOf, typedStep}
 use Rattle.judge.specs.Judge.{lineStep, Run, going, runStep, runEnd}
 use Rattle.places.specs.StoredLaws.{map-take}
 use Rattle.rewriter.specs.Rewriter.{keptOf}
-use Rattle.rewriter.specs.RewriterLaws.{Fair}
+use Rattle.rewriter.specs.Fair.{Fair}
 use Rattle.rewriter.specs.PlainLaws.{columns-allowed}
 use Rattle.parts.specs.Parts.{closes}
 use Rattle.writer.specs.Writer.{decimalsOf, widthAt, fitsAt}

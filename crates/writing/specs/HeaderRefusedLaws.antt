@@ -27,7 +27,7 @@ use Rattle.judge.specs.JudgeLaws as Judge
 use Rattle.header.specs.HeaderLaws.{over-refused}
 use Rattle.parts.specs.Parts.{columnsIn}
 use Rattle.rewriter.specs.Rewriter.{headText, plainNumber}
-use Rattle.rewriter.specs.RewriterLaws.{plainDelimiter}
+use Rattle.rewriter.specs.Fair.{plainDelimiter}
 use Rattle.writing.specs.HeaderRun.{Passed}
 use Rattle.writing.specs.HeaderRunLaws.{Stood, Taken, Met, Met.taken, Met.stopped, not-closed, after-stood, line-met, ended, opened-stood, header-passed}
 use Rattle.writing.specs.LentLaws.{cut-after, over-line, cut-head, opens, numbered}

@@ -13,7 +13,7 @@ use Rattle.judge.specs.Judge.{Run, going, runStep, runEnd}
 use Rattle.header.specs.declared.Header.{Header}
 use Rattle.header.specs.Header.{opened, headerOf}
 use Rattle.parts.specs.Parts.{columnsIn}
-use Rattle.rewriter.specs.RewriterLaws.{Inner}
+use Rattle.rewriter.specs.Fair.{Inner}
 
 -- what line 7, given by its 80 columns, says: the case, and how many numbers are stored
 pub record Says (line : List ℕ) (d : Due) : Type 0 where

@@ -41,7 +41,8 @@ use Rattle.header.specs.declared.Header.{Header}
 use Rattle.header.specs.HeaderLaws.{over-refused}
 use Rattle.header.specs.Header.{answer, pastNumber, headerStep, headerEnd, headerOf}
 use Rattle.parts.specs.Parts.{columnsIn, closes}
-use Rattle.rewriter.specs.RewriterLaws.{Fair, fair-passed, Inner, Inner.none as no-line, Inner.more as one-line}
+use Rattle.rewriter.specs.Fair.{Fair, Inner, Inner.none as no-line, Inner.more as one-line}
+use Rattle.rewriter.specs.RewriterLaws.{fair-passed}
 use Rattle.judge.specs.RefusalLaws.{no-fault}
 use Rattle.writing.specs.HeaderRun.{Says, Passed}
 

@@ -37,7 +37,8 @@ use Rattle.ends.specs.EndsLaws.{cut-joined}
 use Rattle.parts.specs.Parts.{Part, part, Stand, outside, inside, partsFrom, partsOf, numberOf}
 use Rattle.output.specs.Output.{ended}
 use Rattle.rewriter.specs.Rewriter.{plainIn, digitOrBlank, plainNumber, delimiterLine, keptOf, linesText, headText, setText, rewrittenSet, rewritten, rewrittenFile}
-use Rattle.rewriter.specs.RewriterLaws.{Fair, Inner, inner-append, plainDelimiter, delimiter-closes, cut-lines}
+use Rattle.rewriter.specs.Fair.{Fair, Inner, plainDelimiter}
+use Rattle.rewriter.specs.RewriterLaws.{inner-append, delimiter-closes, cut-lines}
 use Rattle.rewriter.specs.PlainLaws.{plainNumber-again}
 use Rattle.decimal.specs.Decimal.{fieldText}
 use Rattle.decimal.specs.DecimalLaws.{fieldText-length}

@@ -24,7 +24,7 @@ use Rattle.reading.specs.FieldReading.{real-sound}
 use Rattle.decimal.specs.Decimal.{fits, fieldText}
 use Rattle.decimal.specs.DecimalLaws.{fieldText-length, ReadBack, fits-read}
 use Rattle.rewriter.specs.Rewriter.{keptOf}
-use Rattle.rewriter.specs.RewriterLaws.{Fair}
+use Rattle.rewriter.specs.Fair.{Fair}
 use Rattle.rewriter.specs.PlainLaws.{allowed-append, columns-allowed}
 use Rattle.parts.specs.Parts.{closes}
 use Rattle.writer.specs.Writer.{decimalsOf}
