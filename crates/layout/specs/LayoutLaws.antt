@@ -70,6 +70,11 @@ total-inside c =
 pub fieldPast-inside : (c k : ℕ) → fieldPast (layoutOf c .widths) k ≤ 80
 fieldPast-inside c k = le-trans (fieldPast-total (layoutOf c .widths) k) (total-inside c)
 
+-- by a field's first column and its width
+pub field-inside : (c k : ℕ) → fieldStart (layoutOf c .widths) k + getD (layoutOf c .widths) k 0 ≤ 80
+unfolding fieldPast
+field-inside c k = fieldPast-inside c k
+
 -- no case has more than six fields
 pub widths-six : (c : ℕ) → length (layoutOf c .widths) ≤ 6
 unfolding layoutOf layouts

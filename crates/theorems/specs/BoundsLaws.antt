@@ -119,7 +119,7 @@ step-bounded (going s n) l m b = go (lineStep s l) refl
     go (Refused f) e = (refusal-few s l f e, omega arith)
 step-bounded (refused r) l m b = (b .0, omega (arith, b .1))
 
-run-bounded : (ls : List (List ℕ)) (r : Run) (m : ℕ) → Bounded m r → Bounded (m + length ls) (over runStep runEnd r ls)
+run-bounded : (ls : List (List ℕ)) (r : Run) (m : ℕ) → Bounded m r → Bounded (m + length ls) (over runStep r ls)
 unfolding over
 run-bounded [] r m b = rw add-zero b
 run-bounded (l ∷ ls) r m b = let z : m + suc (length ls) ≡ m + 1 + length ls = omega arith in rw z (run-bounded ls (runStep r l) (m + 1) (step-bounded r l m b))
@@ -167,6 +167,6 @@ judged-bounds bytes = go (ltb 16777216 (length bytes)) refl
         × (pick t (reply 1 0) (judge runStep runEnd (going start 0) bytes) .place ≤ 16777217)
     go true e = (omega arith, omega arith)
     go false e =
-        let r : Run = over runStep runEnd (going start 0) (cut bytes .lines) in
+        let r : Run = over runStep (going start 0) (cut bytes .lines) in
         let b = end-bounded r (cut bytes .rest) (0 + length (cut bytes .lines)) (run-bounded (cut bytes .lines) (going start 0) 0 (omega arith)) in
         (b .0, omega (arith, b .1, lines-most bytes, ltb-false 16777216 (length bytes) e))
