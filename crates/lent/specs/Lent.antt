@@ -39,12 +39,16 @@ placeOf ns =
     (pick (eqb (getD ns 0 0) 2) Plain
     (Typed (dueOf ns))))
 
+-- a refusal's number, 255 where it is more: no line can have it
+unfoldable pub byteOf : ℕ → ℕ
+byteOf n = pick (ltb 255 n) 255 n
+
 unfoldable pub streamOf : List ℕ → List ℕ → Stream
 streamOf ns bs =
     record {
       state = state (placeOf ns) (getD ns 6 0 % 4294967296);
       lines = getD ns 7 0;
-      number = getD ns 8 0 % 256;
+      number = byteOf (getD ns 8 0);
       total = getD ns 9 0;
       pending = take 82 bs;
       held = getD ns 10 0;

@@ -6,7 +6,7 @@ use Prim.Native.Nat.{ℕ, suc, _+_, _-_, _%_, _≤_, _<_}
 use native.Mathlib.Numerals.{add-one}
 use native.Mathlib.Omega.{arith}
 use lib.Dec.{ltb, eqb}
-use borrow.Author.Tests.{ltb-false, eq-eqb, ne-eqb}
+use borrow.Author.Tests.{ltb-false, le-ltb, eq-eqb, ne-eqb}
 use borrow.Rule.Slice.PartMut.{putMid, midOf}
 use lib.ListN.{length, getD, take, drop, set, replicate, length-drop, length-append}
 use lib.Seq.{take-suc, drop-cons, append-snoc, set-at, take-at, drop-at, take-all, take-length, drop-length, drop-drop, length-take-le, getD-set-same, getD-set-other}
@@ -20,7 +20,7 @@ use Rattle.stream.specs.declared.Stream.{Stream}
 use Rattle.stream.specs.Stream.{seen, closed, Stepped, answerOf, paper, endReply, freshRecord}
 use Rattle.output.specs.Output.{placed}
 use Rattle.output.specs.OutputLaws.{placed-then, placed-first}
-use Rattle.lent.specs.Lent.{numbersRoom, lineRoom, placeOf, streamOf, placeNumbers, countNumbers, unusedNumbers, unusedBytes, numbersOf, Fits, numbersAfter, lineAfter, isShort, startReply, startNumbers, startLine, endOf, endNumbers, Burst, same}
+use Rattle.lent.specs.Lent.{numbersRoom, lineRoom, placeOf, streamOf, placeNumbers, countNumbers, unusedNumbers, unusedBytes, byteOf, numbersOf, Fits, numbersAfter, lineAfter, isShort, startReply, startNumbers, startLine, endOf, endNumbers, Burst, same}
 
 -- four numbers laid one after the other, and six
 pub four-laid : (l : List ℕ) → 4 ≤ length l → set (set (set (set l 0 0) 1 0) 2 0) 3 0 ≡ unusedNumbers ++ drop 4 l
@@ -93,8 +93,9 @@ module _ (sets lines number total held : ℕ) (pending x y : List ℕ) (s : sets
   sets-same : sets % 4294967296 ≡ sets
   sets-same = omega arith
 
-  number-same : number % 256 ≡ number
-  number-same = omega arith
+  number-same : byteOf number ≡ number
+  unfolding byteOf
+  number-same = rw (le-ltb 255 number (omega arith)) refl
 
   parts-again : (p : Place) (e : Bool) → streamOf (numbersOf (made p e) ++ x) (pending ++ y) ≡ made p e
   unfolding streamOf placeOf numbersOf

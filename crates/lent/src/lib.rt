@@ -9,7 +9,7 @@ ghost use Prim.Native.Nat.{_≤_};
 ghost use lib.Dec.{ltb};
 ghost use lib.ListN.{length, drop};
 ghost use Rattle.laws.specs.Choice.{pick};
-ghost use Rattle.lent.specs.Lent.{numbersRoom, lineRoom, isShort, dueOf, placeOf, streamOf, placeNumbers, unusedNumbers, unusedBytes, Fits, numbersAfter, lineAfter, startReply, startNumbers, startLine, endOf, endNumbers, same, Burst};
+ghost use Rattle.lent.specs.Lent.{numbersRoom, lineRoom, isShort, byteOf, dueOf, placeOf, streamOf, placeNumbers, unusedNumbers, unusedBytes, Fits, numbersAfter, lineAfter, startReply, startNumbers, startLine, endOf, endNumbers, same, Burst};
 ghost use Rattle.stream.specs.Stream.{paper};
 use judge::Reply;
 use output::put_text;
@@ -140,6 +140,16 @@ fn place_in(numbers: &[u64]) -> Place
     Place::Typed(due_in(numbers))
 }
 
+// A refusal's number, 255 where it is more.
+fn byte_of(n: u64) -> u8
+    ensures { λ r. ⌜ r ≡ byteOf n ⌝ }
+{
+    if 255 < n {
+        return 255;
+    }
+    n as u8
+}
+
 // The record, from its numbers and its line.
 fn record_in(numbers: &[u64], line: &[u8]) -> Stream
     requires { ⌜ (numbersRoom ≤ length (now numbers)) × (lineRoom ≤ length (now line)) ⌝ }
@@ -147,7 +157,7 @@ fn record_in(numbers: &[u64], line: &[u8]) -> Stream
 {
     let place = place_in(numbers);
     let sets = (numbers[6] % 4294967296) as u32;
-    let number = (numbers[8] % 256) as u8;
+    let number = byte_of(numbers[8]);
     let mut pending = [0u8; 82];
     put_text(&mut pending, 0, &line[..82]);
     Stream {

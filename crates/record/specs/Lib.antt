@@ -1,5 +1,5 @@
 pub mod Check
 pub mod CheckLaws
+pub mod NumberLaws
 pub mod ConditionLaws
 pub mod Written
-pub mod WrittenLaws

@@ -48,11 +48,15 @@ unfoldable pub stepOf : Seen → List ℕ → Seen
 stepOf past b = past
 stepOf (inLimit r q n) b =
     pick (ltb 16777216 (n + length b)) past
-    (kept (over runStep runEnd r (cut (q ++ b) .lines)) (cut (q ++ b) .rest) (n + length b))
+    (kept (over runStep r (cut (q ++ b) .lines)) (cut (q ++ b) .rest) (n + length b))
 
--- past the limit; so is a record with more lines than bytes, which no bursts give
+-- neither 0 nor a number that a line's refusal can have, 2 to 15
+unfoldable pub isStrange : ℕ → Bool
+isStrange n = eqb n 1 || ltb 15 n
+
+-- past the limit; so is a record with more lines than bytes, or with a strange number, which no bursts give
 unfoldable pub isPast : Stream → Bool
-isPast c = ltb 16777216 (c .total) || ltb (c .total) (c .lines)
+isPast c = (ltb 16777216 (c .total) || ltb (c .total) (c .lines)) || isStrange (c .number)
 
 -- how many bytes of the open line a record holds: up to an LF, which no bursts put there
 unfoldable pub openLen : Stream → ℕ

@@ -7,7 +7,7 @@ ghost use lib.ListN.{length, take, drop};
 ghost use lib.Dec.{ltb};
 ghost use Rattle.laws.specs.Choice.{pick};
 ghost use Rattle.laws.specs.Cut.{lineLen};
-ghost use Rattle.stream.specs.Stream.{push, pushAll, isPast, openLen, openOf, seen, Stepped, answerOf, endReply, closed, freshRecord};
+ghost use Rattle.stream.specs.Stream.{push, pushAll, isStrange, isPast, openLen, openOf, seen, Stepped, answerOf, endReply, closed, freshRecord};
 ghost use Rattle.stream.specs.StreamLaws.{OpenJudged, Running, atTotal, judgedOn};
 use judge::Lines;
 use judge::Reply;
@@ -112,11 +112,18 @@ fn open_len(c: Stream) -> usize
     before_end(&line, n)
 }
 
-// Whether a record is past the limit, or has more lines than bytes.
+// Whether a refusal's number is neither 0 nor one that a line can have, 2 to 15.
+fn is_strange(number: u8) -> bool
+    ensures { λ r. ⌜ r ≡ isStrange number ⌝ }
+{
+    (number == 1) | (15 < number)
+}
+
+// Whether a record is past the limit, or is none that bursts give: with more lines than bytes, or with a strange number.
 fn is_past(c: Stream) -> bool
     ensures { λ r. ⌜ r ≡ isPast c ⌝ }
 {
-    (16777216 < c.total) | (c.total < c.lines)
+    (16777216 < c.total) | (c.total < c.lines) | is_strange(c.number)
 }
 
 // The running length with so many bytes more; past the limit, 16777217.
