@@ -28,13 +28,15 @@ COMMAND = $(wildcard cmd/*.c)
 target/uff: $(COMMAND) cmd/command.h include/uff.h $(ARCHIVE)
 	$(CC) $(WARN) $(CFLAGS) $(CPPFLAGS) -Iinclude -o $@ $(COMMAND) $(ARCHIVE) $(LDFLAGS)
 
-target/canaries: tests/host/canaries.c include/uff.h $(ARCHIVE)
-	$(CC) $(WARN) $(CFLAGS) $(CPPFLAGS) -g -Iinclude -o $@ tests/host/canaries.c $(ARCHIVE) $(LDFLAGS)
+CANARIES = $(wildcard tests/host/canaries/*.c)
+
+target/canaries: $(CANARIES) tests/host/canaries/canaries.h include/uff.h $(ARCHIVE)
+	$(CC) $(WARN) $(CFLAGS) $(CPPFLAGS) -g -Iinclude -o $@ $(CANARIES) $(ARCHIVE) $(LDFLAGS)
 
 check: target/uff target/canaries
 	$(if $(FOUND_CXX),$(CXX) -std=c++11 -Wall -Wextra -Werror -fsyntax-only -x c++ include/uff.h -x none,@echo 'no C++ compiler: the header was not tried with one')
-	target/canaries
-	$(if $(VALGRIND),$(VALGRIND) -q --error-exitcode=1 --leak-check=full target/canaries,@echo 'no valgrind: canaries were run without it')
+	target/canaries samples/bearing.uff
+	$(if $(VALGRIND),$(VALGRIND) -q --error-exitcode=1 --leak-check=full target/canaries samples/bearing.uff,@echo 'no valgrind: canaries were run without it')
 	bash tests/host/command target/uff
 	bash tests/host/watch target/uff
 	bash tests/host/faults target/uff
