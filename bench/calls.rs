@@ -3,7 +3,8 @@
 use crate::common::uff::{self, Row, Word, SETS, STREAM_LINE, STREAM_NUMBERS};
 use std::hint::black_box;
 
-/// The calls of another archive, whose names begin with before_.
+/// The calls of another archive, whose names begin with before_; only some of them are timed.
+#[allow(dead_code)]
 #[cfg(before)]
 mod before {
     crate::common::uff::calls!("before_");

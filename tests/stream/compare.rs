@@ -31,6 +31,22 @@ const ARBITRARY: usize = 6_000;
 /// Cuts of each file.
 const CUTS: usize = 4;
 
+/// Each end must come at least so often, so that the files are known to be of use.
+const LEAST: [(usize, u32); 12] = [
+    (0, 20_000),
+    (1, 4),
+    (2, 100),
+    (3, 100),
+    (4, 100),
+    (5, 100),
+    (6, 100),
+    (7, 100),
+    (8, 100),
+    (12, 100),
+    (13, 100),
+    (16, 4),
+];
+
 /// The most columns of a line.
 const COLUMNS: usize = 80;
 
@@ -56,16 +72,22 @@ impl Record {
     }
 
     fn burst(&mut self, bytes: &[u8]) -> Word {
-        uff::burst(self.numbers.places(), self.line.places(), bytes)
+        without_column(uff::burst(self.numbers.places(), self.line.places(), bytes))
     }
 
     fn end(&mut self) -> Word {
-        uff::end(self.numbers.places(), self.line.places())
+        without_column(uff::end(self.numbers.places(), self.line.places()))
     }
 
     fn margins_stand(&self) -> bool {
         self.numbers.margins_stand() && self.line.margins_stand()
     }
+}
+
+/// The same reply, whose column is 0.
+fn without_column(word: Word) -> Word {
+    assert_eq!(word.column(), 0, "the column");
+    word
 }
 
 /// The answer after these bytes: 1 past the limit; the refusal of the earliest bad line whose LF has
@@ -126,16 +148,16 @@ impl Run {
         }
         let whole = judge::judge(file);
         self.ends[whole.number as usize] += 1;
+        let mut marked = record.clone();
+        marked.numbers.places()[MARK] = 1;
         for ask in ["end", "end asked again"] {
             let answer = record.end();
             self.hold(name, file, at, ask, answer, whole);
+            self.hold_record(name, file, at, ask, &record, &marked);
         }
-        let before = record.clone();
         let answer = record.burst(&file[..file.len().min(9)]);
         self.hold(name, file, at, "burst after the end", answer, LATE);
-        if record != before || !record.margins_stand() {
-            self.fail(name, file, at, "23, or a margin: the record was touched");
-        }
+        self.hold_record(name, file, at, "burst after the end", &record, &marked);
         let answer = record.end();
         self.hold(name, file, at, "end after 23", answer, whole);
     }
@@ -173,6 +195,13 @@ impl Run {
         if proved != Word::from(plain) {
             let what = format!("{call}\nplain:  {}\nproved: {proved}", Word::from(plain));
             self.fail(name, file, at, &what);
+        }
+    }
+
+    /// The record is as it must be, and its margins are as they were.
+    fn hold_record(&self, name: &str, file: &[u8], at: usize, call: &str, record: &Record, due: &Record) {
+        if record != due || !record.margins_stand() {
+            self.fail(name, file, at, &format!("{call}: the record, or a margin, was touched"));
         }
     }
 
@@ -233,6 +262,41 @@ fn too_short() {
     }
 }
 
+/// Generated files, half of them proper and half of them faulty or damaged, and arbitrary bytes.
+fn take_generated(run: &mut Run, random: &mut Random) {
+    for n in 0..FILES + ARBITRARY {
+        let (name, file) = match n {
+            FILES.. => ("arbitrary bytes", generate::arbitrary(random)),
+            _ => ("generated file", generated(random, n % 4)),
+        };
+        for _ in 0..CUTS {
+            run.take(name, &file);
+        }
+    }
+}
+
+/// A file that is faulty (1), damaged (3) or proper.
+fn generated(random: &mut Random, way: usize) -> Vec<u8> {
+    if way == 1 {
+        return generate::faulty(random, 8);
+    }
+    let mut file = generate::proper(random).file;
+    if way == 3 {
+        generate::damage(random, &mut file);
+    }
+    file
+}
+
+/// Prints how often each end came and ends the program if one came too seldom.
+fn check_outcomes(run: &Run) {
+    for (number, came) in run.ends.iter().enumerate() {
+        println!("{number:7} {came:8}");
+    }
+    for (number, least) in LEAST {
+        assert!(run.ends[number] >= least, "{number} came only {} times", run.ends[number]);
+    }
+}
+
 fn main() {
     let mut run = Run { random: Random::new(0x5EED_0C11_0B57_0127), cuts: 0, bursts: 0, ends: [0; 17] };
     for edge in edges::edges() {
@@ -241,33 +305,10 @@ fn main() {
         }
     }
     let mut random = Random::new(0x5EED_0F58_0C11_0151);
-    for n in 0..FILES {
-        let mut file = match n % 4 {
-            0 | 2 => generate::proper(&mut random).file,
-            1 => generate::faulty(&mut random, 8),
-            _ => generate::proper(&mut random).file,
-        };
-        if n % 4 == 3 {
-            generate::damage(&mut random, &mut file);
-        }
-        for _ in 0..CUTS {
-            run.take("generated file", &file);
-        }
-    }
-    for _ in 0..ARBITRARY {
-        let bytes = generate::arbitrary(&mut random);
-        for _ in 0..CUTS {
-            run.take("arbitrary bytes", &bytes);
-        }
-    }
+    take_generated(&mut run, &mut random);
     run.take_long_lines();
     too_short();
     made_up(&mut random, 20_000);
-    for (number, came) in run.ends.iter().enumerate() {
-        println!("{number:7} {came:8}");
-    }
-    for (number, least) in [(0, 20_000), (1, 4), (2, 100), (3, 100), (4, 100), (5, 100), (6, 100), (7, 100), (8, 100), (12, 100), (13, 100), (16, 4)] {
-        assert!(run.ends[number] >= least, "{number} came only {} times", run.ends[number]);
-    }
+    check_outcomes(&run);
     println!("compared {} cuts, {} bursts", run.cuts, run.bursts);
 }

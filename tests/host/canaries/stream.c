@@ -39,12 +39,26 @@ static uint64_t end(struct record *r)
     return uff_end(numbers_of(r), r->number_count, r->line.at, r->line_count);
 }
 
-/* Takes a record back that was written to: canaries, and the bytes past it. */
-static void take_back_record(struct record *r)
+/* What the record holds. */
+static struct uff_stream contents(const struct record *r)
 {
     struct uff_stream now;
     memcpy(now.numbers, r->numbers.at, sizeof now.numbers);
     memcpy(now.line, r->line.at, sizeof now.line);
+    return now;
+}
+
+/* Does the record hold this? */
+static bool holds(const struct record *r, const struct uff_stream *due)
+{
+    return memcmp(r->numbers.at, due->numbers, sizeof due->numbers) == 0 &&
+           memcmp(r->line.at, due->line, sizeof due->line) == 0;
+}
+
+/* Takes a record back that was written to: canaries, and the bytes past it. */
+static void take_back_record(struct record *r)
+{
+    struct uff_stream now = contents(r);
     take_back(&r->numbers, now.numbers, sizeof now.numbers);
     take_back(&r->line, now.line, sizeof now.line);
 }
@@ -99,15 +113,14 @@ static void send(struct record *r, struct text t, size_t size, uint64_t bad, uin
 /* The end's reply, twice, and 23 in between. The end changes the record's mark alone, 23 nothing. */
 static void ask_end(struct record *r, uint64_t number, uint64_t place)
 {
-    uint64_t kept[UFF_STREAM_NUMBERS];
-    memcpy(kept, r->numbers.at, sizeof kept);
-    kept[MARK] = 1;
+    struct uff_stream marked = contents(r);
+    marked.numbers[MARK] = 1;
     check_reply(end(r), number, place);
-    if (memcmp(kept, r->numbers.at, sizeof kept) != 0)
+    if (!holds(r, &marked))
         differs("the end changed more of the record than its mark");
     check_reply(burst(r, (const uint8_t *)"x", 1), 23, 0);
     check_reply(end(r), number, place);
-    if (memcmp(kept, r->numbers.at, sizeof kept) != 0)
+    if (!holds(r, &marked))
         differs("23 changed the record");
 }
 
