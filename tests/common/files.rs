@@ -37,15 +37,21 @@ NONE
          0    0    0    0 NONE                 NONE
          0    0    0    0 NONE                 NONE
 ";
-    let total = held * numbers;
-    for n in 0..total {
-        file += fields[n % fields.len()];
-        if (n + 1) % fields.len() == 0 || n + 1 == total {
-            file.push('\n');
-        }
-    }
+    file += &data_lines(fields, held * numbers);
     file += "    -1\n";
     file.into_bytes()
+}
+
+/// So many numbers in lines of these fields.
+fn data_lines(fields: &[&str], total: usize) -> String {
+    let mut lines = String::new();
+    for n in 0..total {
+        lines += fields[n % fields.len()];
+        if (n + 1) % fields.len() == 0 || n + 1 == total {
+            lines.push('\n');
+        }
+    }
+    lines
 }
 
 /// So many sets without lines, three lines each.

@@ -67,8 +67,7 @@ impl<T: Place> Lent<T> {
     /// Is nothing outside the lent places touched?
     pub fn margins_stand(&self) -> bool {
         let past = self.all.len() - MARGIN;
-        let outside = (0..MARGIN).chain(past..self.all.len());
-        outside.into_iter().all(|n| self.all[n] == T::pattern(n))
+        (0..MARGIN).chain(past..self.all.len()).all(|n| self.all[n] == T::pattern(n))
     }
 
     /// Where they first differ from others, and both from there on; none if they are the same.
@@ -96,10 +95,10 @@ pub fn hold<T: Place>(count: usize, due: &Due<T>, call: impl FnOnce(&mut [T]) ->
         Err(reply) => Word::from(*reply),
     };
     if word != expected_word {
-        return Err(format!("due:    {expected_word}\nproved: {word}"));
+        return Err(format!("due:    {expected_word:?}\nproved: {word:?}"));
     }
     match lent.difference(&expected) {
-        Some(what) => Err(format!("{word}; {what}")),
+        Some(what) => Err(format!("{word:?}; {what}")),
         None => Ok(()),
     }
 }

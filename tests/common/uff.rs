@@ -4,27 +4,30 @@ use crate::judge::Reply;
 use std::fmt;
 use std::sync::atomic::{AtomicBool, Ordering};
 
-const HEADER: &[u8] = include_bytes!("../../include/uff.h");
+const UFF_H: &[u8] = include_bytes!("../../include/uff.h");
 
-/// The number that the header for C defines by this name, of which it has one.
+/// The number that the header for C defines by this name. A name that it has not does not compile.
 const fn defined(name: &str) -> usize {
+    const DEFINE: &[u8] = b"#define ";
     let mut at = 0;
-    while !(is_at(at, b"#define ") && is_at(at + 8, name.as_bytes()) && HEADER[at + 8 + name.len()] == b' ') {
+    let mut past = DEFINE.len() + name.len();
+    while !(stands_at(at, DEFINE) && stands_at(at + DEFINE.len(), name.as_bytes()) && UFF_H[past] == b' ') {
         at += 1;
+        past += 1;
     }
-    at += 9 + name.len();
+    at = past + 1;
     let mut number = 0;
-    while HEADER[at].is_ascii_digit() {
-        number = 10 * number + (HEADER[at] - b'0') as usize;
+    while UFF_H[at].is_ascii_digit() {
+        number = 10 * number + (UFF_H[at] - b'0') as usize;
         at += 1;
     }
     number
 }
 
 /// Do these bytes stand there in the header?
-const fn is_at(at: usize, bytes: &[u8]) -> bool {
+const fn stands_at(at: usize, bytes: &[u8]) -> bool {
     let mut n = 0;
-    while n < bytes.len() && HEADER[at + n] == bytes[n] {
+    while n < bytes.len() && UFF_H[at + n] == bytes[n] {
         n += 1;
     }
     n == bytes.len()
@@ -79,15 +82,9 @@ impl From<Reply> for Word {
     }
 }
 
-impl fmt::Display for Word {
-    fn fmt(&self, f: &mut fmt::Formatter) -> fmt::Result {
-        write!(f, "number {}, column {}, place {}", self.number(), self.column(), self.place())
-    }
-}
-
 impl fmt::Debug for Word {
     fn fmt(&self, f: &mut fmt::Formatter) -> fmt::Result {
-        fmt::Display::fmt(self, f)
+        write!(f, "number {}, column {}, place {}", self.number(), self.column(), self.place())
     }
 }
 

@@ -93,7 +93,7 @@ fn fail(name: &str, file: &[u8], replies: &[(&str, Word)]) -> ! {
     println!("DISAGREEMENT on: {name} ({} bytes)", file.len());
     print_lines(file, 400);
     for (who, reply) in replies {
-        println!("{who:>8}: {reply}");
+        println!("{who:>8}: {reply:?}");
     }
     std::process::exit(1);
 }

@@ -193,7 +193,7 @@ impl Run {
 
     fn hold(&self, name: &str, file: &[u8], at: usize, call: &str, proved: Word, plain: Reply) {
         if proved != Word::from(plain) {
-            let what = format!("{call}\nplain:  {}\nproved: {proved}", Word::from(plain));
+            let what = format!("{call}\nplain:  {:?}\nproved: {proved:?}", Word::from(plain));
             self.fail(name, file, at, &what);
         }
     }
