@@ -19,22 +19,21 @@
 #include <stddef.h>
 #include <stdint.h>
 
-#define UFF_VERSION "1.0"
+#define UFF_VERSION "2.0"
 
-/* The most bytes that a file has, the most sets, and the numbers that the lister gives for a set (once UFF_ROW). */
+/* The most bytes that a file has, the most sets, and the numbers that the lister gives for a set. */
 #define UFF_LONGEST 16777216
 #define UFF_SETS 4096
 #define UFF_ROW_NUMBERS 6
-#define UFF_ROW UFF_ROW_NUMBERS
 
 /* The bytes of an answer of uff_number, the most that uff_value gives, and the most doubles that uff_values gives. */
 #define UFF_NUMBER_BYTES 20
 #define UFF_VALUE_BYTES 24
 #define UFF_DOUBLES 196608
 
-/* The record of the streaming calls: its numbers, and the bytes of its line. */
-#define UFF_STREAM_NUMBERS 12
-#define UFF_STREAM_LINE 82
+/* The record of the streaming calls: its numbers, and the bytes of its line. Some are not used yet; they are 0 and stay 0. */
+#define UFF_STREAM_NUMBERS 16
+#define UFF_STREAM_LINE 96
 
 /*
  * Every call replies with one word: number * 2^57 + column * 2^32 + place. The number is one of the

@@ -117,7 +117,7 @@ unfolding freshRecord
 fresh-fits = record { sets = omega arith; number = omega arith; pending = refl }
 
 -- the end closes the record
-pub end-closes : (ns bs : List ℕ) → 12 ≤ length ns → streamOf (set ns 11 1) bs ≡ closed (streamOf ns bs)
+pub end-closes : (ns bs : List ℕ) → numbersRoom ≤ length ns → streamOf (set ns 11 1) bs ≡ closed (streamOf ns bs)
 unfolding streamOf placeOf closed
 end-closes ns bs h =
     let k : (j : ℕ) → j < 11 → getD (set ns 11 1) j 0 ≡ getD ns j 0 = λ j l. getD-set-other ns 11 j 1 0 (λ e. omega arith) in

@@ -4,8 +4,11 @@
 #include <stdlib.h>
 #include <string.h>
 
-/* Which of the record's numbers says that the end was asked. */
+/* Which of the record's numbers is the refusal's, which says that the end was asked; how many numbers and bytes are used. */
+#define REFUSAL 8
 #define MARK 11
+#define USED_NUMBERS 12
+#define USED_LINE 82
 
 /* A record whose buffers have so many places. */
 struct record {
@@ -169,11 +172,52 @@ static void wild_records(void)
     }
 }
 
+/* What the record does not use is laid as 0, whatever stood there. */
+static void unused_stay(void)
+{
+    static const struct uff_stream zeros;
+    struct record r = lend_record(UFF_STREAM_NUMBERS, UFF_STREAM_LINE);
+    name = "what a record does not use";
+    check_reply(start(&r), 0, 0);
+    memset(numbers_of(&r) + USED_NUMBERS, 0xff, (UFF_STREAM_NUMBERS - USED_NUMBERS) * sizeof(uint64_t));
+    memset(r.line.at + USED_LINE, 0xff, UFF_STREAM_LINE - USED_LINE);
+    check_reply(burst(&r, (const uint8_t *)"    -1\n    ", 11), 127, 1);
+    if (memcmp(numbers_of(&r) + USED_NUMBERS, zeros.numbers, (UFF_STREAM_NUMBERS - USED_NUMBERS) * sizeof(uint64_t)) != 0 ||
+        memcmp(r.line.at + USED_LINE, zeros.line, UFF_STREAM_LINE - USED_LINE) != 0)
+        differs("a number or byte that is not used is not 0");
+    check_reply(end(&r), 4, 2);
+    take_back_record(&r);
+}
+
+/* A record with this refusal number, which no bursts gave: what it answers. */
+static void made_up(uint64_t refusal, uint64_t number, uint64_t place)
+{
+    struct record r = lend_record(UFF_STREAM_NUMBERS, UFF_STREAM_LINE);
+    check_reply(start(&r), 0, 0);
+    numbers_of(&r)[REFUSAL] = refusal;
+    check_reply(burst(&r, (const uint8_t *)"\n", 1), number, place);
+    check_reply(end(&r), number, place);
+    take_back_record(&r);
+}
+
+/* A refusal number that is neither 0 nor one that a line can have counts as past the limit. */
+static void refusal_numbers(void)
+{
+    static const uint64_t others[] = {1, 16, 17, 20, 23, 24, 126, 127, 128, 129, 255, 256, 258, 384, 4294967298, UINT64_MAX};
+    name = "a record with a made-up refusal number";
+    for (size_t i = 0; i < sizeof others / sizeof *others; i++)
+        made_up(others[i], 1, 0);
+    for (uint64_t n = 2; n <= 15; n++)
+        made_up(n, n, 1);
+}
+
 void try_stream(void)
 {
     rooms();
     streams();
     wild_records();
+    unused_stay();
+    refusal_numbers();
 }
 
 /* 1 replaces the refusal of line 1. */
