@@ -5,23 +5,17 @@ use mathlib.Core.Path.{_≡_, refl, _∙_, ap}
 use mathlib.Core.Bool.{Bool, true, false}
 use mathlib.Core.List.{List, [], _∷_, _++_, map, append-assoc, append-nil}
 use mathlib.Core.Logic.{_⊎_, inl, inr, ⊎-map}
-use Prim.Native.Nat.{ℕ, zero, suc, _-_, _≤_}
+use Prim.Native.Nat.{ℕ, _-_, _≤_}
 use native.Mathlib.Omega.{arith}
 use borrow.Author.Tests.{eqb-true, ne-eqb}
 use lib.Dec.{eqb}
-use lib.ListN.{length, getD}
+use lib.ListN.{length}
 use Rattle.laws.specs.Choice.{pick}
 use Rattle.laws.specs.Cut.{text, onto, cut}
 use Rattle.line.specs.Line.{Allowed, none, more, withoutReturn, columns, lineFault, passed}
-use Rattle.line.specs.LineLaws.{columns-crlf, columns-lf, lineFault-complete, lineFault-sound}
+use Rattle.line.specs.LineLaws.{columns-crlf, columns-lf, lineFault-complete, lineFault-sound, allowed-no-return}
 use Rattle.theory.specs.Proper.{Ended}
 use Rattle.ends.specs.Ends.{AllPass, CutInto, joined}
-
--- no allowed byte is a CR
-allowed-no-return : {cs : List ℕ} → Allowed cs → (i : ℕ) → getD cs i 0 ≡ 13 → ⊥
-allowed-no-return none i h = omega arith
-allowed-no-return (more l u a) zero h = omega arith
-allowed-no-return (more l u a) (suc i) h = allowed-no-return a i h
 
 -- allowed bytes before a raw line belong to it: none is an LF
 cut-allowed : {cs : List ℕ} → Allowed cs → (l : List ℕ) (ls : List (List ℕ)) (r bs : List ℕ) → cut bs ≡ text (l ∷ ls) r → cut (cs ++ bs) ≡ text ((cs ++ l) ∷ ls) r

@@ -56,7 +56,7 @@ module _ (s : State) (n : ℕ) where
   end-place (b ∷ bs) p h l e = absurd (omega arith)
 
 -- a refused run stays refused
-pub over-refused : (r : Reply) (ls : List (List ℕ)) → over headerStep headerEnd (refused r) ls ≡ refused r
+pub over-refused : (r : Reply) (ls : List (List ℕ)) → over headerStep (refused r) ls ≡ refused r
 unfolding over
 over-refused r [] = refl
 over-refused r (l ∷ ls) = over-refused r ls
@@ -118,24 +118,24 @@ module _ (b : List ℕ) (at e : ℕ) (a : at ≤ length b) (q : e ≡ at + lineL
       record { within = omega arith; few = rw (take-all (length b) b (omega arith)) (omega arith); full = λ l. absurd (omega arith) }
 
 -- eleven lines at most: the header's step of each is the judge's
-over-same : (s : State) (n : ℕ) (ls : List (List ℕ)) → n + length ls ≤ 11 → over headerStep headerEnd (going s n) ls ≡ over runStep runEnd (going s n) ls
+over-same : (s : State) (n : ℕ) (ls : List (List ℕ)) → n + length ls ≤ 11 → over headerStep (going s n) ls ≡ over runStep (going s n) ls
 unfolding over
 over-same s n [] h = refl
 over-same s n (l ∷ ls) h = rw (lt-ltb n 11 (omega arith)) (go (lineStep s l) (λ t. over-same t (n + 1) ls (omega arith)))
   where
-    go : (o : Outcome) → ((t : State) → over headerStep headerEnd (going t (n + 1)) ls ≡ over runStep runEnd (going t (n + 1)) ls)
-        → over headerStep headerEnd (onOutcome n o) ls ≡ over runStep runEnd (onOutcome n o) ls
+    go : (o : Outcome) → ((t : State) → over headerStep (going t (n + 1)) ls ≡ over runStep (going t (n + 1)) ls)
+        → over headerStep (onOutcome n o) ls ≡ over runStep (onOutcome n o) ls
     go (Next t) ih = ih t
     go (Refused f) ih = over-refused (reply (f .number) (n + 1)) ls ∙ sym (Judge.over-refused (reply (f .number) (n + 1)) ls)
 
 -- a run that goes on counts the lines
-over-count : (s : State) (n : ℕ) (ls : List (List ℕ)) (t : State) (m : ℕ) → going t m ≡ over runStep runEnd (going s n) ls → m ≡ n + length ls
+over-count : (s : State) (n : ℕ) (ls : List (List ℕ)) (t : State) (m : ℕ) → going t m ≡ over runStep (going s n) ls → m ≡ n + length ls
 unfolding over
 over-count s n [] t m e = let z : m ≡ n = cc in omega arith
 over-count s n (l ∷ ls) t m e = go (lineStep s l) (λ t′ e′. over-count t′ (n + 1) ls t m e′) e
   where
-    go : (o : Outcome) → ((t′ : State) → going t m ≡ over runStep runEnd (going t′ (n + 1)) ls → m ≡ n + 1 + length ls)
-        → going t m ≡ over runStep runEnd (onOutcome n o) ls → m ≡ n + suc (length ls)
+    go : (o : Outcome) → ((t′ : State) → going t m ≡ over runStep (going t′ (n + 1)) ls → m ≡ n + 1 + length ls)
+        → going t m ≡ over runStep (onOutcome n o) ls → m ≡ n + suc (length ls)
     go (Next t′) ih e′ = omega (arith, ih t′ e′)
     go (Refused f) ih e′ =
         let u : going t m ≡ refused (reply (f .number) (n + 1)) = e′ ∙ Judge.over-refused (reply (f .number) (n + 1)) ls in
@@ -154,9 +154,9 @@ rest-open (b ∷ l) = go (eqb b 10) refl (cut l .lines) (cut l .rest) (rest-open
     go false e [] r h = rw e (omega arith)
     go false e (l′ ∷ ls) r h = h
 
-judge-append : (x : Run) (a d : List ℕ) → judge headerStep headerEnd x (a ++ d) ≡ judge headerStep headerEnd (over headerStep headerEnd x (cut a .lines)) (cut a .rest ++ d)
+judge-append : (x : Run) (a d : List ℕ) → judge headerStep headerEnd x (a ++ d) ≡ judge headerStep headerEnd (over headerStep x (cut a .lines)) (cut a .rest ++ d)
 unfolding judge
-judge-append x a d = rw (cut-append a d, over-append headerStep headerEnd x (cut a .lines) (cut (cut a .rest ++ d) .lines)) refl
+judge-append x a d = rw (cut-append a d, over-append headerStep x (cut a .lines) (cut (cut a .rest ++ d) .lines)) refl
 
 -- the first eleven lines judged, and what is left of the header
 module _ (b : List ℕ) (k : ℕ) (f : FirstEleven b k) (r : Lines) (j : LinesJudged opened 0 (take k b) 0 r) where

@@ -4,13 +4,14 @@ use mathlib.Core.Bool.{Bool, true, false}
 use mathlib.Core.List.{List, [], _∷_, _++_}
 use Prim.Native.Nat.{ℕ, _+_, _-_, _*_, _≤_, _<_, min}
 use native.Mathlib.Omega.{arith}
-use borrow.Author.Tests.{leb-true, leb-false, eqb-true, lt-ltb, le-leb, lt-leb, ne-eqb}
+use borrow.Author.Tests.{leb-true, leb-false, eqb-true, lt-ltb, lt-leb, ne-eqb}
 use lib.Dec.{leb, eqb}
 use lib.ListN.{length}
-use Rattle.laws.specs.Choice.{pick, and-left, and-right, and-both}
+use Rattle.laws.specs.Choice.{pick}
 use Rattle.laws.specs.Run.{run, run-append}
 use Rattle.text.specs.Blank.{Blanks, none, one}
 use Rattle.text.specs.Parts.{Sign, bare, plus, minus, Digits, Digits.none as no-digit, more, isDigit}
+use Rattle.text.specs.PartsLaws.{isDigit-low, isDigit-high, isDigit-complete}
 use Rattle.integer.specs.Spelling.{IntegerSpelling, spelled, limit}
 use Rattle.integer.specs.Integer.{scan, start, bad, push, stepInteger, endInteger, integerOf}
 use Rattle.integer.specs.declared.Scan.{Scan}
@@ -18,14 +19,6 @@ use Rattle.integer.specs.declared.Integer.{Integer}
 use Rattle.integer.specs.declared.Integer.the-variants.{Blank, Malformed, OutOfRange, Value}
 
 -- Digits and their test.
-
-pub isDigit-bounds : (b : ℕ) → isDigit b ≡ true → (48 ≤ b) × (b ≤ 57)
-unfolding isDigit
-isDigit-bounds b e = (leb-true 48 b (and-left (leb 48 b) (leb b 57) e), leb-true b 57 (and-right (leb 48 b) (leb b 57) e))
-
-isDigit-within : (b : ℕ) → 48 ≤ b → b ≤ 57 → isDigit b ≡ true
-unfolding isDigit
-isDigit-within b lo hi = and-both (leb 48 b) (leb b 57) (le-leb 48 b lo) (le-leb b 57 hi)
 
 -- One byte: a digit; another byte after a sign or a digit; a first byte that begins no integer; a byte of a malformed field.
 
@@ -68,7 +61,7 @@ run-digit : (p : ℕ) (n : Bool) (m b : ℕ) (l : List ℕ) → p < 3 → 48 ≤
 unfolding run
 run-digit p n m b l h lo hi =
     ap (λ (s : Scan). run stepInteger s l)
-    (stepInteger-digit p n (kept m) b h (isDigit-within b lo hi) ∙ ap (scan 2 n) (push-kept m (b - 48)))
+    (stepInteger-digit p n (kept m) b h (isDigit-complete b lo hi) ∙ ap (scan 2 n) (push-kept m (b - 48)))
 
 run-digits : {m v : ℕ} {ds : List ℕ} (n : Bool) → Digits m ds v → run stepInteger (scan 2 n (kept m)) ds ≡ scan 2 n (kept v)
 unfolding run
@@ -137,7 +130,7 @@ data After (m : ℕ) (s : Scan) (l : List ℕ) : Type 0 where
 after-digit : (p : ℕ) (n : Bool) (m k b : ℕ) (l : List ℕ) → p < 3 → isDigit b ≡ true
     → After (m * 10 + (b - 48)) (scan 2 n (push k (b - 48))) l → After m (scan p n k) (b ∷ l)
 unfolding run
-after-digit p n m k b l h e (digits d) = digits (more (isDigit-bounds b e .0) (isDigit-bounds b e .1) d)
+after-digit p n m k b l h e (digits d) = digits (more (isDigit-low b e) (isDigit-high b e) d)
 after-digit p n m k b l h e (refused r) = refused (rw (stepInteger-digit p n k b h e) r)
 
 after-byte : (p : ℕ) (n : Bool) (m k b : ℕ) (l : List ℕ) (t : Bool) → 0 < p → p < 3 → isDigit b ≡ t

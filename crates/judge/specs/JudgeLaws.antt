@@ -61,7 +61,7 @@ module _ (s : State) (n : ℕ) where
   runEnd-accepted rest h e z = sym (rw (ne-eqb (s .sets) 0 z) refl) ∙ runEnd-end rest Outside h e
 
 -- a refused run stays refused
-pub over-refused : (r : Reply) (ls : List (List ℕ)) → over runStep runEnd (refused r) ls ≡ refused r
+pub over-refused : (r : Reply) (ls : List (List ℕ)) → over runStep (refused r) ls ≡ refused r
 unfolding over
 over-refused r [] = refl
 over-refused r (l ∷ ls) = over-refused r ls

@@ -2,4 +2,5 @@ pub mod Judge
 pub mod JudgeLaws
 pub mod Lines
 pub mod LinesLaws
+pub mod Refusal
 pub mod RefusalLaws

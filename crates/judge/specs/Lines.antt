@@ -16,7 +16,7 @@ runOf s n k = pick (eqb k 0) (going s n) (refused (reply k (n + 1)))
 
 -- the finished lines of the bytes from a place on, after n others
 pub record LinesJudged (s : State) (n : ℕ) (b : List ℕ) (at : ℕ) (r : Lines) : Type 0 where
-  pub run : runOf (r .state) (r .lines) (r .number) ≡ over runStep runEnd (going s n) (cut (drop at b) .lines)
+  pub run : runOf (r .state) (r .lines) (r .number) ≡ over runStep (going s n) (cut (drop at b) .lines)
   pub rest : r .number ≡ 0 → drop (r .at) b ≡ cut (drop at b) .rest
   pub within : r .at ≤ length b
   pub few : r .lines ≤ n + (length b - at)

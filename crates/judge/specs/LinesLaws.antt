@@ -34,21 +34,21 @@ module _ (b : List ℕ) (from e : ℕ) (a : from ≤ length b) (q : e ≡ from +
     rest-next = rw cut-next refl
 
     module _ (s : State) (n : ℕ) (o : Outcome) (p : o ≡ lineStep s (take (e - from) (drop from b))) where
-      turn : (x : Outcome) → o ≡ x → over runStep runEnd (going s n) (cut (drop from b) .lines) ≡ over runStep runEnd (onOutcome n x) (cut (drop (e + 1) b) .lines)
+      turn : (x : Outcome) → o ≡ x → over runStep (going s n) (cut (drop from b) .lines) ≡ over runStep (onOutcome n x) (cut (drop (e + 1) b) .lines)
       unfolding over
-      turn x u = rw cut-next (ap (λ (y : Outcome). over runStep runEnd (onOutcome n y) (cut (drop (e + 1) b) .lines)) (sym p ∙ u))
+      turn x u = rw cut-next (ap (λ (y : Outcome). over runStep (onOutcome n y) (cut (drop (e + 1) b) .lines)) (sym p ∙ u))
 
-      pub lines-next : (t : State) → o ≡ Next t → over runStep runEnd (going t (n + 1)) (cut (drop (e + 1) b) .lines) ≡ over runStep runEnd (going s n) (cut (drop from b) .lines)
+      pub lines-next : (t : State) → o ≡ Next t → over runStep (going t (n + 1)) (cut (drop (e + 1) b) .lines) ≡ over runStep (going s n) (cut (drop from b) .lines)
       lines-next t u = sym (turn (Next t) u)
 
-      lines-stop : (f : Refusal) → o ≡ Refused f → refused (reply (f .number) (n + 1)) ≡ over runStep runEnd (going s n) (cut (drop from b) .lines)
+      lines-stop : (f : Refusal) → o ≡ Refused f → refused (reply (f .number) (n + 1)) ≡ over runStep (going s n) (cut (drop from b) .lines)
       lines-stop f u = sym (turn (Refused f) u ∙ over-refused (reply (f .number) (n + 1)) (cut (drop (e + 1) b) .lines))
 
   cut-last : length b ≤ e → cut (drop from b) ≡ text [] (drop from b)
   cut-last h = cut-open (drop from b) (simp length-drop (omega arith))
 
   module _ (s₀ : State) (n₀ at : ℕ) (w : at ≤ length b) (s : State) (n : ℕ) (few : n + at ≤ n₀ + from)
-      (run : over runStep runEnd (going s n) (cut (drop from b) .lines) ≡ over runStep runEnd (going s₀ n₀) (cut (drop at b) .lines)) where
+      (run : over runStep (going s n) (cut (drop from b) .lines) ≡ over runStep (going s₀ n₀) (cut (drop at b) .lines)) where
     pub judged-to-stop : e < length b → (o : Outcome) → o ≡ lineStep s (take (e - from) (drop from b)) → (f : Refusal) → o ≡ Refused f
         → LinesJudged s₀ n₀ b at (record { state = s; lines = n; number = f .number; at = from })
     judged-to-stop h o p f u =
@@ -77,14 +77,14 @@ module _ (s : State) (n : ℕ) (b : List ℕ) (r : Lines) (j : LinesJudged s n b
   pub whole-refused : 0 < r .number → reply (r .number) (r .lines + 1) ≡ judge runStep runEnd (going s n) b
   unfolding judge
   whole-refused z =
-      let e : refused (reply (r .number) (r .lines + 1)) ≡ over runStep runEnd (going s n) (cut b .lines) = rw (ne-eqb (r .number) 0 (λ y. omega arith)) at (j .run) in
+      let e : refused (reply (r .number) (r .lines + 1)) ≡ over runStep (going s n) (cut b .lines) = rw (ne-eqb (r .number) 0 (λ y. omega arith)) at (j .run) in
       ap (λ (x : Run). runEnd x (cut b .rest)) e
 
   pub whole-going : r .number ≤ 0 → runEnd (going (r .state) (r .lines)) (drop (r .at) b) ≡ judge runStep runEnd (going s n) b
   unfolding judge
   whole-going z =
       let z′ : r .number ≡ 0 = omega arith in
-      let e : going (r .state) (r .lines) ≡ over runStep runEnd (going s n) (cut b .lines) = rw (eq-eqb (r .number) 0 z′) at (j .run) in
+      let e : going (r .state) (r .lines) ≡ over runStep (going s n) (cut b .lines) = rw (eq-eqb (r .number) 0 z′) at (j .run) in
       rw (j .rest z′) (ap (λ (x : Run). runEnd x (cut b .rest)) e)
 
 -- bytes with no LF among them, and an LF: one line

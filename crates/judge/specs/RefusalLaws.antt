@@ -1,9 +1,9 @@
--- A line that is refused has a refusal's number: what is not refused goes on.
-use mathlib.Core.Path.{_≡_, refl}
+-- What holds of every refusal that a line gets; that it has a number, so that what is not refused goes on.
+use mathlib.Core.Path.{_≡_, refl, sym, subst}
 use mathlib.Core.Bool.{Bool, true, false}
 use mathlib.Core.List.{List}
-use Prim.{Unit, tt}
-use Prim.Native.Nat.{ℕ, zero, suc, _+_, _<_}
+use Prim.{tt}
+use Prim.Native.Nat.{ℕ, zero, suc, _+_, _≤_, _<_}
 use native.Mathlib.Omega.{arith}
 use lib.Dec.{ltb}
 use lib.ListN.{length}
@@ -12,6 +12,7 @@ use Rattle.line.specs.declared.Refusal.{Refusal}
 use Rattle.line.specs.Line.{refusal, passed, columns, firstBad, lineFault, filled}
 use Rattle.text.specs.Blank.{allBlank}
 use Rattle.kind.specs.Kind.{isDelimiter, datasetNumber}
+use Rattle.rows.specs.Row.{Row}
 use Rattle.record.specs.Check.{rowRefusal}
 use Rattle.walk.specs.declared.Place.{Place}
 use Rattle.walk.specs.declared.Place.the-variants.{Outside, Number, Plain, Typed}
@@ -21,35 +22,57 @@ use Rattle.walk.specs.declared.Outcome.the-variants.{Next, Refused}
 use Rattle.walk.specs.Due.{rowDue, isClosed, after}
 use Rattle.walk.specs.Step.{state, unless, outsideStep, numberStep, plainStep, typedStep, placeStep, stepOf}
 use Rattle.judge.specs.Judge.{lineOutcome, lineStep}
+use Rattle.judge.specs.Refusal.{Refusing}
+
+-- a property of every refusal of a line
+module _ (P : Refusal → Type 0) where
+  picked : (t : Bool) (a b : Outcome) → Refusing P a → Refusing P b → Refusing P (pick t a b)
+  picked true a b p q = p
+  picked false a b p q = q
+
+  by-row : (f : Refusal) (s : State) → (0 < f .number → P f) → Refusing P (unless f s)
+  by-row f s h = go (f .number) refl
+    where
+      go : (n : ℕ) → f .number ≡ n → Refusing P (unless f s)
+      go zero e = rw e tt
+      go (suc n) e = let q : unless f s ≡ Refused f = rw e refl in subst (Refusing P) (sym q) (h (omega arith))
+
+  -- it holds where it holds of those by the place where the line stands, which name column 1, of those by the row due, and of those by the
+  -- line's own bytes and columns
+  module _ (place : (n : ℕ) → 0 < n → n ≤ 15 → P (refusal n 1)) (row : (r : Row) (line : List ℕ) → 0 < rowRefusal r line .number → P (rowRefusal r line))
+      (own : (cs : List ℕ) → 0 < lineFault true cs .number → P (lineFault true cs)) where
+    at-place : (p : Place) (n : ℕ) (line : List ℕ) → Refusing P (placeStep p n line)
+    unfolding outsideStep numberStep plainStep typedStep
+    at-place Outside n line =
+        picked (allBlank line) _ _ tt
+        (picked (isDelimiter line) _ _
+        (picked (ltb n 4096) (Next (state Number (n + 1))) (Refused (refusal 15 1)) tt (place 15 (omega arith) (omega arith)))
+        (place 5 (omega arith) (omega arith)))
+    at-place Number n line = picked (ltb 0 (datasetNumber line)) _ _ tt (place 6 (omega arith) (omega arith))
+    at-place Plain n line = picked (isDelimiter line) (Next (state Outside n)) (Next (state Plain n)) tt tt
+    at-place (Typed d) n line =
+        picked (isDelimiter line) _ _
+        (picked (isClosed d) (Next (state Outside n)) (Refused (refusal 7 1)) tt (place 7 (omega arith) (omega arith)))
+        (picked (isClosed d) (Refused (refusal 8 1)) _ (place 8 (omega arith) (omega arith))
+        (by-row (rowRefusal (rowDue d) line) (state (Typed (after d line)) n) (row (rowDue d) line)))
+
+    on-line : (s : State) (cs : List ℕ) → Refusing P (lineOutcome s (lineFault true cs) cs)
+    unfolding stepOf
+    on-line s cs = go (lineFault true cs .number) refl
+      where
+        go : (n : ℕ) → lineFault true cs .number ≡ n → Refusing P (lineOutcome s (lineFault true cs) cs)
+        go zero e = rw e (at-place (s .place) (s .sets) (filled cs))
+        go (suc n) e =
+            let q : lineOutcome s (lineFault true cs) cs ≡ Refused (lineFault true cs) = rw e refl in
+            subst (Refusing P) (sym q) (own cs (omega arith))
+
+    pub refusal-is : (s : State) (l : List ℕ) (f : Refusal) → lineStep s l ≡ Refused f → P f
+    unfolding lineStep
+    refusal-is s l f e = rw e at (on-line s (columns true l))
 
 -- a refusal has a number
-abbrev pub Sure : Outcome → Type 0
-Sure (Next s) = Unit {0}
-Sure (Refused f) = 0 < f .number
-
-sure-pick : (t : Bool) (a b : Outcome) → Sure a → Sure b → Sure (pick t a b)
-sure-pick true a b p q = p
-sure-pick false a b p q = q
-
-sure-unless : (f : Refusal) (s : State) → Sure (unless f s)
-sure-unless f s = go (f .number) refl
-  where
-    go : (n : ℕ) → f .number ≡ n → Sure (unless f s)
-    go zero e = rw e tt
-    go (suc n) e = rw e (omega arith)
-
-sure-place : (p : Place) (n : ℕ) (line : List ℕ) → Sure (placeStep p n line)
-unfolding outsideStep numberStep plainStep typedStep
-sure-place Outside n line = sure-pick (allBlank line) _ _ tt (sure-pick (isDelimiter line) _ _ (sure-pick (ltb n 4096) (Next (state Number (n + 1))) (Refused (refusal 15 1)) tt (omega arith)) (omega arith))
-sure-place Number n line = sure-pick (ltb 0 (datasetNumber line)) _ _ tt (omega arith)
-sure-place Plain n line = sure-pick (isDelimiter line) (Next (state Outside n)) (Next (state Plain n)) tt tt
-sure-place (Typed d) n line =
-    sure-pick (isDelimiter line) _ _ (sure-pick (isClosed d) (Next (state Outside n)) (Refused (refusal 7 1)) tt (omega arith))
-    (sure-pick (isClosed d) (Refused (refusal 8 1)) _ (omega arith) (sure-unless (rowRefusal (rowDue d) line) (state (Typed (after d line)) n)))
-
-pub sure-step : (s : State) (line : List ℕ) → Sure (stepOf s line)
-unfolding stepOf
-sure-step s line = sure-place (s .place) (s .sets) line
+pub refusal-sure : (s : State) (l : List ℕ) (f : Refusal) → lineStep s l ≡ Refused f → 0 < f .number
+refusal-sure = refusal-is (λ (f : Refusal). 0 < f .number) (λ n p q. p) (λ r line p. p) (λ cs p. p)
 
 -- a line with no refusal of its own passes
 pub no-fault : (cs : List ℕ) → lineFault true cs .number ≡ 0 → lineFault true cs ≡ passed
@@ -61,14 +84,3 @@ no-fault cs h = by (ltb 0 (firstBad 1 cs)) (ltb 80 (length cs)) h
     by true long e = absurd (omega arith)
     by false true e = absurd (omega arith)
     by false false e = refl
-
-sure-own : (s : State) (f : Refusal) (cs : List ℕ) → Sure (lineOutcome s f cs)
-sure-own s f cs = go (f .number) refl
-  where
-    go : (n : ℕ) → f .number ≡ n → Sure (lineOutcome s f cs)
-    go zero e = rw e (sure-step s (filled cs))
-    go (suc n) e = rw e (omega arith)
-
-pub refusal-sure : (s : State) (l : List ℕ) (f : Refusal) → lineStep s l ≡ Refused f → 0 < f .number
-unfolding lineStep
-refusal-sure s l f e = rw e at (sure-own s (lineFault true (columns true l)) (columns true l))

@@ -9,13 +9,12 @@ use borrow.Author.Tests.{eqb-true, le-leb, ne-eqb}
 use lib.Dec.{eqb}
 use lib.ListN.{length, getD, take, drop, replicate, length-append, take-append-drop}
 use lib.Seq.{take-at, drop-at, length-take-le}
-use Rattle.laws.specs.Choice.{pick, and-left, and-right, false-not-true, pick-same}
-use Rattle.laws.specs.Run.{run}
+use Rattle.laws.specs.Choice.{pick, and-left, and-right, false-not-true}
 use Rattle.text.specs.Blank.{Blanks, allBlank}
 use Rattle.text.specs.BlankLaws.{allBlank-complete, allBlank-sound}
-use Rattle.text.specs.Parts.{Digits, none, more, isDigit}
+use Rattle.text.specs.Parts.{Digits, none, more}
 use Rattle.integer.specs.Spelling.{IntegerSpelling, spelled}
-use Rattle.integer.specs.Integer.{push, stepInteger, endInteger, integerOf}
+use Rattle.integer.specs.Integer.{integerOf}
 use Rattle.integer.specs.IntegerLaws.{integerOf-complete, integerOf-value}
 use Rattle.integer.specs.declared.Integer.{Integer}
 use Rattle.integer.specs.declared.Integer.the-variants.{Blank, Malformed, OutOfRange, Value}
@@ -118,10 +117,6 @@ datasetNumber-sound l v n e p = by (allBlank (drop 6 l)) refl e
     by false b h = absurd (omega arith)
 
 -- A delimiter is neither a number line nor blank.
-
-pub delimiter-not-number : (l : List ℕ) → Delimiter l → datasetNumber l ≡ 0
-unfolding datasetNumber integerOf endInteger run stepInteger isDigit push
-delimiter-not-number l (delimiter {bl} b) = pick-same (allBlank bl) 0
 
 pub delimiter-not-blank : (l : List ℕ) → Delimiter l → allBlank l ≡ false
 unfolding allBlank

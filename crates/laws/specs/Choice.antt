@@ -2,7 +2,7 @@
 use mathlib.Core.Path.{_≡_, refl}
 use mathlib.Core.Bool.{Bool, true, false, _&&_}
 use mathlib.Core.Logic.{_⊎_, inl, inr}
-use Prim.Native.Nat.{ℕ, _<_, _≤_}
+use Prim.Native.Nat.{ℕ, suc, _<_, _≤_}
 use native.Mathlib.Omega.{arith}
 use borrow.Author.Tests.{ltb-true, ltb-false}
 use lib.Dec.{ltb}
@@ -33,6 +33,10 @@ and-both a b p q = rw (p, q) refl
 pub pick-same : {A : Type 0} (b : Bool) (a : A) → pick b a a ≡ a
 pick-same true a = refl
 pick-same false a = refl
+
+pub pick-passed : (t : Bool) (n : ℕ) → pick t 0 (suc n) ≡ 0 → t ≡ true
+pick-passed true n h = refl
+pick-passed false n h = absurd (omega arith)
 
 -- of two numbers the first is below the second or not
 pub below-or-not : (a b : ℕ) → (a < b) ⊎ (b ≤ a)

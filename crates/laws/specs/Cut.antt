@@ -96,8 +96,8 @@ len-end l i h = rw drop-of-length-le
 pub tail-part : (l : List ℕ) (at : ℕ) → take (length l - at) (drop at l) ≡ drop at l
 tail-part l at = take-all (length l - at) (drop at l) (simp length-drop (omega arith))
 
--- the judge of a text: a step for each finished line, then the end on the open rest
-module _ {S A : Type 0} (step : S → List ℕ → S) (fin : S → List ℕ → A) where
+-- a step for each line
+module _ {S : Type 0} (step : S → List ℕ → S) where
   unfoldable pub over : S → List (List ℕ) → S
   over s [] = s
   over s (l ∷ ls) = over (step s l) ls
@@ -107,8 +107,10 @@ module _ {S A : Type 0} (step : S → List ℕ → S) (fin : S → List ℕ → 
   over-append s [] y = refl
   over-append s (l ∷ x) y = over-append (step s l) x y
 
+-- the judge of a text: a step for each finished line, then the end on the open rest
+module _ {S A : Type 0} (step : S → List ℕ → S) (fin : S → List ℕ → A) where
   unfoldable pub judge : S → List ℕ → A
-  judge s l = fin (over s (cut l .lines)) (cut l .rest)
+  judge s l = fin (over step s (cut l .lines)) (cut l .rest)
 
   pub judge-line : (s : S) (l : List ℕ) (n : ℕ) → n ≡ lineLen l → n < length l → judge s l ≡ judge (step s (take n l)) (drop (n + 1) l)
   unfolding judge over

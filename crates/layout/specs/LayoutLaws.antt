@@ -2,7 +2,7 @@
 use mathlib.Core.Path.{_≡_, refl, sym, _∙_, ap}
 use mathlib.Core.Bool.{Bool, true, _&&_}
 use mathlib.Core.List.{List, [], map}
-use Prim.Native.Nat.{ℕ, _*_, _≤_, _<_, _/_}
+use Prim.Native.Nat.{ℕ, _+_, _*_, _≤_, _<_, _/_}
 use mathlib.Core.Logic.{⊎-elim}
 use native.Mathlib.Nat.{le-trans}
 use native.Mathlib.Omega.{arith}
@@ -69,6 +69,11 @@ total-inside c =
 
 pub fieldPast-inside : (c k : ℕ) → fieldPast (layoutOf c .widths) k ≤ 80
 fieldPast-inside c k = le-trans (fieldPast-total (layoutOf c .widths) k) (total-inside c)
+
+-- by a field's first column and its width
+pub field-inside : (c k : ℕ) → fieldStart (layoutOf c .widths) k + getD (layoutOf c .widths) k 0 ≤ 80
+unfolding fieldPast
+field-inside c k = fieldPast-inside c k
 
 -- no case has more than six fields
 pub widths-six : (c : ℕ) → length (layoutOf c .widths) ≤ 6

@@ -64,6 +64,15 @@ columns-lf (b ∷ c ∷ l) n =
     ap (_∷_ b) (columns-lf (c ∷ l) (rw e at n))
 
 -- how many columns there are where the last byte is a CR
+-- no allowed byte is a CR, so a line of allowed bytes is its columns
+pub allowed-no-return : {cs : List ℕ} → Allowed cs → (i : ℕ) → getD cs i 0 ≡ 13 → ⊥
+allowed-no-return none i h = omega arith
+allowed-no-return (more l u a) zero h = omega arith
+allowed-no-return (more l u a) (suc i) h = allowed-no-return a i h
+
+pub columns-allowed : {cs : List ℕ} → Allowed cs → columns true cs ≡ cs
+columns-allowed {cs} a = columns-lf cs (allowed-no-return a (length cs - 1))
+
 pub columns-return : (l : List ℕ) → 0 < length l → getD l (length l - 1) 0 ≡ 13 → length (columns true l) ≡ length l - 1
 columns-return l p h =
     let e : l ≡ take (length l - 1) l ++ (13 ∷ []) = sym (take-all (suc (length l - 1)) l (omega arith)) ∙ take-suc l (length l - 1) 0 (omega arith) ∙ rw h refl in

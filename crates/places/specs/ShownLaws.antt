@@ -11,7 +11,7 @@ use Rattle.real.specs.Real.{numberOf, realOf}
 use Rattle.real.specs.RealLaws.{realOf-complete}
 use Rattle.layout.specs.Columns.{fieldStart, fieldPast, lineOf, fieldOf}
 use Rattle.layout.specs.Layout.{layoutOf, fieldsOf, numbersOf}
-use Rattle.layout.specs.LayoutLaws.{fieldPast-inside}
+use Rattle.layout.specs.LayoutLaws.{field-inside}
 use Rattle.field.specs.Item.{Item}
 use Rattle.theory.specs.Sets.{Set}
 use Rattle.parts.specs.Parts as Parts
@@ -35,10 +35,6 @@ span : (p : Parts.Part) (j : ℕ) → Function.pastByte p j - Function.firstByte
 unfolding Function.pastByte Function.firstByte fieldPast
 span p j = omega arith
 
-inside-line : (c k : ℕ) → fieldStart (layoutOf c .widths) k + getD (layoutOf c .widths) k 0 ≤ 80
-unfolding fieldPast
-inside-line c k = fieldPast-inside c k
-
 -- the own columns are bytes of the text
 module _ (file : List ℕ) (p : Parts.Part) (ps : List Parts.Part) (w : Somewhere file p ps) (j : ℕ) where
   abbrev c : ℕ
@@ -55,7 +51,7 @@ module _ (file : List ℕ) (p : Parts.Part) (ps : List Parts.Part) (w : Somewher
   own-bytes i s =
       rw (span p j)
       (field-bytes file (getD (p .body) line []) (Parts.lineStart p line) (fieldStart (layoutOf c .widths) k) (getD (layoutOf c .widths) k 0) (numberOf (s .minus) (s .coefficient) (s .scale))
-      (line-bytes file (w .before) (w .from) p ps (w .stands) line) (inside-line c k) (realOf-complete (s .spelling)))
+      (line-bytes file (w .before) (w .from) p ps (w .stands) line) (field-inside c k) (realOf-complete (s .spelling)))
 
 -- stored number j of the list is the real that the bytes of its own columns spell
 pub stored-shown : {s : Set} {p : Parts.Part} (file : List ℕ) (ps : List Parts.Part) → Somewhere file p ps → Holds s p → s .number ≡ 58 → (j : ℕ) → j < storedCount s

@@ -7,7 +7,6 @@ use lib.ListN.{getD, drop}
 use Rattle.laws.specs.Cut.{cut}
 use Rattle.layout.specs.Columns.{lineOf, fieldOf, fieldStart, fieldPast}
 use Rattle.layout.specs.Layout.{layoutOf, fieldsOf}
-use Rattle.layout.specs.LayoutLaws.{fieldPast-inside}
 use Rattle.parts.specs.Parts.{Part, lineStart, closingStart}
 use Rattle.parts.specs.Scan.{skipTo}
 use Rattle.parts.specs.SetLaws.{Standing, line-at}
@@ -15,11 +14,6 @@ use Rattle.parts.specs.Function.{caseOf, dataLine, firstByte, pastByte}
 use Rattle.reader.specs.declared.Data.{Data}
 use Rattle.reader.specs.declared.Span.{Span}
 use Rattle.reader.specs.Find.{data58, lineAt, spanOf}
-
--- a field's columns stand inside 80
-pub start-inside : (c k : ℕ) → fieldStart (layoutOf c .widths) k + getD (layoutOf c .widths) k 0 ≤ 80
-unfolding fieldPast
-start-inside c k = fieldPast-inside c k
 
 -- by line, first column and width
 pub span-by : (file : List ℕ) (d : Data) (j n at s w : ℕ) → n ≡ fieldsOf (d .case)

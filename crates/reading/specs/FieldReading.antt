@@ -2,11 +2,11 @@
 use mathlib.Core.Path.{_≡_, refl, sym, _∙_}
 use mathlib.Core.Bool.{Bool, true, false}
 use mathlib.Core.List.{List, [], _∷_}
-use Prim.Native.Nat.{ℕ, suc, _+_, _≤_, _<_}
+use Prim.Native.Nat.{ℕ, _+_, _≤_, _<_}
 use native.Mathlib.Omega.{arith}
 use borrow.Author.Tests.{eqb-true, le-leb}
 use lib.Dec.{eqb}
-use Rattle.laws.specs.Choice.{pick}
+use Rattle.laws.specs.Choice.{pick, pick-passed}
 use Rattle.text.specs.Blank.{Blanks, none, one, allBlank}
 use Rattle.text.specs.BlankLaws.{allBlank-complete, allBlank-sound}
 use Rattle.text.specs.Text.{TextIn, text-in, empty, trimmed}
@@ -62,11 +62,6 @@ title-complete may {t} {cols} s n = by (allBlank cols) refl
     by false e = rw e refl
 
 -- Integers.
-
--- a choice between 0 and another number that comes to 0 has its test hold
-pick-passed : (t : Bool) (n : ℕ) → pick t 0 (suc n) ≡ 0 → t ≡ true
-pick-passed true n h = refl
-pick-passed false n h = absurd (omega arith)
 
 -- a spelling in range is read as its value
 integerOf-within : {n : Bool} {v : ℕ} {cols : List ℕ} → IntegerSpelling n v cols → v ≤ limit n → integerOf cols ≡ Value n v

@@ -12,11 +12,12 @@ use lib.Seq.{take-suc, take-all, drop-cons, drop-drop, length-take-le}
 use Rattle.laws.specs.Choice.{and-left, and-right}
 use Rattle.text.specs.Blank.{none, one}
 use Rattle.text.specs.Parts.{Digits, more, Sign, isDigit}
+use Rattle.text.specs.PartsLaws.{isDigit-low, isDigit-high, digits-join}
 use Rattle.real.specs.Spelling.{ExponentSign, plus, minus, TwoOrThree, two, lettered, scale, RealSpelling, spelled}
 use Rattle.real.specs.Real.{at, isLetter, realEnd, realOf}
 use Rattle.real.specs.EndLaws.{realEnd-value}
-use Rattle.real.specs.ByteLaws.{isDigit-low, isDigit-high, isLetter-sound}
-use Rattle.real.specs.RestLaws.{digits-join, digits-length}
+use Rattle.real.specs.ByteLaws.{isLetter-sound}
+use Rattle.real.specs.RestLaws.{digits-length}
 use Rattle.real.specs.RealLaws.{realOf-complete}
 use Rattle.real.specs.Plain.{between, isPlain, Few}
 

@@ -8,6 +8,7 @@ use native.Mathlib.Omega.{arith}
 use lib.IntN.{ℤ}
 use lib.ListN.{length, length-append}
 use Rattle.text.specs.Parts.{Digits, none, more, signed}
+use Rattle.text.specs.PartsLaws.{digits-join}
 use Rattle.real.specs.declared.Number.{Number}
 use Rattle.real.specs.Spelling.{scale, RealSpelling, spelled}
 use Rattle.real.specs.Real.{numberOf}
@@ -20,10 +21,6 @@ digits-split {m} [] es r = (m, none, r)
 digits-split (b ∷ ds) es (more low high r) =
     let t = digits-split ds es r in
     (t .0, more low high (t .1), t .2)
-
-pub digits-join : {m w v : ℕ} {ds es : List ℕ} → Digits m ds w → Digits w es v → Digits m (ds ++ es) v
-digits-join none r = r
-digits-join (more low high l) r = more low high (digits-join l r)
 
 pub digits-length : (ds es : List ℕ) → 0 + length ds + length es ≡ length (ds ++ es)
 digits-length ds es = rw (length-append ds es) (omega arith)

@@ -11,6 +11,7 @@ use lib.Dec.{ltb, eqb}
 use Rattle.laws.specs.Choice.{pick}
 use Rattle.laws.specs.Run.{run}
 use Rattle.text.specs.Parts.{isDigit}
+use Rattle.text.specs.PartsLaws.{isDigit-low, isDigit-high, isDigit-complete}
 use Rattle.real.specs.declared.Number.{Number}
 use Rattle.real.specs.declared.Scan.{Scan}
 use Rattle.real.specs.declared.Real.{Real}
@@ -18,7 +19,7 @@ use Rattle.real.specs.declared.Real.the-variants.{Malformed, Value}
 use Rattle.real.specs.Spelling.{Letter, ExponentSign, plus, minus}
 use Rattle.real.specs.Real.{at, malformed, push, next, onCoefficient, onExponent, onDigit, afterCoefficient, onSign, onPoint, onLetter, onBlank, isLetter, scanStep, realEnd, start}
 use Rattle.real.specs.EndLaws.{malformed-value, realEnd-early}
-use Rattle.real.specs.ByteLaws.{isDigit-low, isDigit-high, isDigit-complete, isLetter-sound}
+use Rattle.real.specs.ByteLaws.{isLetter-sound}
 
 -- what the columns hold, if the rest of them is read from this state
 abbrev pub ended : Scan → List ℕ → Real

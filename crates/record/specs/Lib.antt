@@ -2,4 +2,3 @@ pub mod Check
 pub mod CheckLaws
 pub mod ConditionLaws
 pub mod Written
-pub mod WrittenLaws

@@ -3,5 +3,5 @@ pub mod Body
 pub mod BodyLaws
 pub mod PutLaws
 pub mod PlainLaws
+pub mod Fair
 pub mod RewriterLaws
-pub mod AcceptedLaws

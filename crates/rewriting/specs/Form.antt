@@ -3,17 +3,16 @@
 -- given by its columns, its end left out.
 use mathlib.Core.Path.{_≡_}
 use mathlib.Core.List.{List, [], _∷_, _++_}
-use Prim.Native.Nat.{ℕ}
+use Prim.Native.Nat.{ℕ, _≤_}
 use lib.ListN.{length}
 use Rattle.text.specs.Blank.{Blanks}
 use Rattle.text.specs.Text.{Unpadded, TextIn}
 use Rattle.text.specs.Parts.{Digits}
-use Rattle.line.specs.Line.{filled}
+use Rattle.line.specs.Line.{Allowed, filled}
 use Rattle.kind.specs.Kind.{Delimiter}
 use Rattle.theory.specs.Sets.{Set}
 use Rattle.ends.specs.NoDelimiter.{NoDelimiter}
-use Rattle.theory.specs.Proper.{Inside, BlankLines, Ended}
-use Rattle.ends.specs.Ends.{joined}
+use Rattle.theory.specs.Proper.{BlankLines, Ended}
 
 -- The rewritten form.
 
@@ -37,11 +36,15 @@ pub data PlainSets : List Set → List (List ℕ) → Type 0 where
       → Plainly (s .number) number → length number ≡ 6 → NoDelimiter body → Trimmed body → PlainSets ss after
       → PlainSets (s ∷ ss) (plainDelimiter ∷ number ∷ (body ++ (plainDelimiter ∷ after)))
 
--- a text is in rewritten form, of these sets: its lines are as above, within the rules on bytes and columns; "LF ends": each is its columns and an LF
+-- "LF ends": each line is its columns, within the rules on bytes and columns, and an LF
+pub data LfEnded : List (List ℕ) → List ℕ → Type 0 where
+  none : LfEnded [] []
+  more : {css : List (List ℕ)} (cs bytes : List ℕ) → Allowed cs → length cs ≤ 80 → LfEnded css bytes → LfEnded (cs ∷ css) (cs ++ (10 ∷ bytes))
+
+-- a text is in rewritten form, of these sets: its lines are as above
 pub record InForm (sets : List Set) (bytes : List ℕ) : Type 0 where
   pub columns : List (List ℕ)
-  pub ends : Ended columns bytes
-  pub lf : bytes ≡ joined columns []
+  pub ends : LfEnded columns bytes
   pub plain : PlainSets sets columns
 
 -- Spellings.

@@ -20,13 +20,23 @@ use Rattle.rewriter.specs.Rewriter.{plainNumber, keptOf, linesText, headText, s
 use Rattle.rewriter.specs.BodyLaws.{linesText-most}
 use Rattle.rewriter.specs.PutLaws.{plainNumber-length, setText-length}
 use Rattle.rewriter.specs.PlainLaws.{plainNumber-allowed}
-use Rattle.rewriter.specs.RewriterLaws.{Inner, FairSets, kept-allowed, laid}
-use Rattle.rewriting.specs.Form.{plainDelimiter, Plainly, PlainSets, Own, SameSets}
+use Rattle.rewriter.specs.Fair.{Inner, FairSets, laid}
+use Rattle.rewriter.specs.RewriterLaws.{kept-allowed}
+use Rattle.rewriting.specs.Form.{plainDelimiter, Plainly, PlainSets, LfEnded, Own, SameSets}
 use Rattle.ends.specs.NoDelimiter.{NoDelimiter, set-none}
 use Rattle.rewriting.specs.NumberLaws.{plainNumber-plainly, plainNumber-line, plainNumber-only, delimiter-six, number-six}
 use Rattle.rewriting.specs.KeptLaws.{kept-most, set-kept, body-trimmed, body-same, body-only, lines-same}
 
 -- The text is its lines, each with an LF.
+
+pub lf-ended : {css : List (List ℕ)} {bytes : List ℕ} → LfEnded css bytes → Ended css bytes
+lf-ended LfEnded.none = Ended.none
+lf-ended (LfEnded.more cs bytes a h e) = Ended.lf cs bytes a h (lf-ended e)
+
+pub lf-joined : {css : List (List ℕ)} {bytes : List ℕ} → LfEnded css bytes → bytes ≡ joined css []
+unfolding joined
+lf-joined LfEnded.none = refl
+lf-joined (LfEnded.more cs bytes a h e) = ap (λ (x : List ℕ). cs ++ (10 ∷ x)) (lf-joined e)
 
 lines-joined : (ls rest : List (List ℕ)) → joined (map keptOf ls ++ rest) [] ≡ linesText ls ++ joined rest []
 unfolding joined linesText
@@ -46,18 +56,18 @@ delimiter-allowed = blank-byte (blank-byte (blank-byte (blank-byte (byte {b = 45
     blank-byte : {bs : List ℕ} → Allowed bs → Allowed (32 ∷ bs)
     blank-byte a = byte {b = 32} (omega arith) (omega arith) a
 
-body-ended : {ls rest : List (List ℕ)} → Inner ls → Ended rest (joined rest []) → Ended (map keptOf ls ++ rest) (joined (map keptOf ls ++ rest) [])
+body-ended : {ls rest : List (List ℕ)} → Inner ls → LfEnded rest (joined rest []) → LfEnded (map keptOf ls ++ rest) (joined (map keptOf ls ++ rest) [])
 unfolding joined
 body-ended Inner.none e = e
-body-ended (Inner.more {l} f c i) e = Ended.lf (keptOf l) _ (kept-allowed l f) (kept-most l (f .short)) (body-ended i e)
+body-ended (Inner.more {l} f c i) e = LfEnded.more (keptOf l) _ (kept-allowed l f) (kept-most l (f .short)) (body-ended i e)
 
-pub laid-ended : {ps : List Part} → FairSets ps → Ended (laid ps) (joined (laid ps) [])
+pub laid-ended : {ps : List Part} → FairSets ps → LfEnded (laid ps) (joined (laid ps) [])
 unfolding laid joined
-laid-ended FairSets.none = Ended.none
+laid-ended FairSets.none = LfEnded.none
 laid-ended (FairSets.more {p} i s) =
-    Ended.lf plainDelimiter _ delimiter-allowed (omega arith)
-    (Ended.lf (plainNumber (numberOf p)) _ (plainNumber-allowed (numberOf p)) (omega (arith, plainNumber-length (numberOf p)))
-    (body-ended i (Ended.lf plainDelimiter _ delimiter-allowed (omega arith) (laid-ended s))))
+    LfEnded.more plainDelimiter _ delimiter-allowed (omega arith)
+    (LfEnded.more (plainNumber (numberOf p)) _ (plainNumber-allowed (numberOf p)) (omega (arith, plainNumber-length (numberOf p)))
+    (body-ended i (LfEnded.more plainDelimiter _ delimiter-allowed (omega arith) (laid-ended s))))
 
 -- One set.
 

@@ -1,7 +1,7 @@
 -- A number has one plain spelling in so many columns. A delimiter and a number line have at least six columns.
 use mathlib.Core.Path.{_≡_, refl, sym, ap, subst, _∙_}
 use mathlib.Core.Logic.{⊎-elim}
-use mathlib.Core.Bool.{Bool, true}
+use mathlib.Core.Bool.{Bool, false}
 use mathlib.Core.List.{List, [], _∷_, _++_, append-assoc, append-nil}
 use Prim.Native.Nat.{ℕ, zero, suc, _+_, _-_, _*_, _/_, _%_, _^_, _≤_, _<_}
 use native.Mathlib.Nat.{pow-succ', add-zero}
@@ -10,19 +10,24 @@ use lib.ListN.{length, getD, replicate, length-append, getD-replicate, List·get
 use lib.Seq.{getD-append-add}
 use Rattle.laws.specs.Choice.{below-or-not}
 use Rattle.text.specs.Blank.{Blanks, none, one}
-use Rattle.text.specs.Parts.{Digits, Digits.none as no-digit, more}
+use Rattle.text.specs.BlankLaws.{blanks-replicate}
+use Rattle.text.specs.Parts.{bare, Digits, Digits.none as no-digit, more}
+use Rattle.text.specs.PartsLaws.{digits-join}
 use Rattle.integer.specs.Spelling.{IntegerSpelling, spelled}
-use Rattle.line.specs.Line.{columns, filled}
-use Rattle.line.specs.LineLaws.{filled-short, filled-length}
-use Rattle.kind.specs.Kind.{Delimiter, delimiter, NumberLine, number-line}
-use Rattle.kind.specs.KindLaws.{datasetNumber-sound}
+use Rattle.line.specs.Line.{filled}
+use Rattle.line.specs.LineLaws.{filled-short, columns-allowed}
+use Rattle.kind.specs.Kind.{Delimiter, delimiter, NumberLine, number-line, datasetNumber}
+use Rattle.kind.specs.KindLaws.{datasetNumber-complete}
 use Rattle.parts.specs.Parts.{columnsIn}
 use Rattle.rewriter.specs.Rewriter.{plainIn, plainNumber}
-use Rattle.rewriter.specs.PutLaws.{plainIn-length}
-use Rattle.rewriter.specs.PlainLaws.{columns-allowed, digits-join, digit-last, plain-blank, digit-of, plainNumber-allowed, plainNumber-again}
+use Rattle.rewriter.specs.PutLaws.{plainIn-length, plainNumber-length}
+use Rattle.rewriter.specs.PlainLaws.{plain-blank, digit-of, plainNumber-allowed}
 use Rattle.rewriting.specs.Form.{Plainly, plainly}
 
 -- What is laid out is spelled plainly.
+
+digit-last : (m b v : ℕ) → 48 ≤ b → b ≤ 57 → m * 10 + (b - 48) ≡ v → Digits m (b ∷ []) v
+digit-last m b v low high e = subst (Digits m (b ∷ [])) e (more low high no-digit)
 
 -- a first digit, a digit more
 plainly-first : {bl : List ℕ} (b v : ℕ) → Blanks bl → 48 < b → b ≤ 57 → b - 48 ≡ v → Plainly v (bl ++ (b ∷ []))
@@ -49,10 +54,21 @@ unfolding plainNumber
 plainNumber-plainly v p h = plainIn-plainly 6 v p (omega arith)
 
 -- and is a number line
+plainly-spelled : {v : ℕ} {l : List ℕ} → Plainly v l → IntegerSpelling false v l
+plainly-spelled (plainly {v} {d} bl ds r n g) = spelled bl [] (d ∷ ds) r bare g (omega arith)
+
+plain-filled : (v : ℕ) → filled (plainNumber v) ≡ plainNumber v ++ replicate 74 32
+plain-filled v =
+    let n : length (plainNumber v) ≡ 6 = plainNumber-length v in
+    rw (filled-short (plainNumber v) (omega arith), n) refl
+
 pub plainNumber-line : (v : ℕ) → 1 ≤ v → v ≤ 999999 → NumberLine v (filled (plainNumber v))
 plainNumber-line v p h =
-    subst (λ (x : List ℕ). NumberLine v (filled x)) (columns-allowed (plainNumber-allowed v))
-    (datasetNumber-sound (columnsIn (plainNumber v)) v (omega (arith, filled-length (columns true (plainNumber v)))) (plainNumber-again v h) p)
+    rw (plain-filled v) (number-line (plainNumber v) (replicate 74 32) (plainNumber-length v) (plainly-spelled (plainNumber-plainly v p h)) p h (blanks-replicate 74))
+
+-- which is read back
+pub plainNumber-again : (v : ℕ) → 1 ≤ v → v ≤ 999999 → datasetNumber (columnsIn (plainNumber v)) ≡ v
+plainNumber-again v p h = rw (columns-allowed (plainNumber-allowed v)) (datasetNumber-complete (plainNumber-line v p h))
 
 -- What is spelled plainly is laid out so.
 

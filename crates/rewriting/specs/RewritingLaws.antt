@@ -6,7 +6,7 @@ use native.Mathlib.Omega.{arith}
 use lib.ListN.{length}
 use Rattle.laws.specs.Cut.{cut}
 use Rattle.theory.specs.Sets.{Set}
-use Rattle.theory.specs.Proper.{Ended, Proper}
+use Rattle.theory.specs.Proper.{Proper}
 use Rattle.ends.specs.Ends.{AllPass, joined}
 use Rattle.ends.specs.EndsLaws.{ended-complete}
 use Rattle.ends.specs.ShortLaws.{ended-short}
@@ -15,10 +15,11 @@ use Rattle.parts.specs.PartsLaws.{lines-past}
 use Rattle.places.specs.Holds.{Stand}
 use Rattle.places.specs.HoldsLaws.{lines-stand}
 use Rattle.rewriter.specs.Rewriter.{rewrittenFile}
-use Rattle.rewriter.specs.RewriterLaws.{FairLines, fair-passed, file-fair, laid}
-use Rattle.rewriting.specs.Form.{InForm, OwnLines, SameSets, KeepsSpellings}
+use Rattle.rewriter.specs.Fair.{FairLines, laid}
+use Rattle.rewriter.specs.RewriterLaws.{fair-passed, file-fair}
+use Rattle.rewriting.specs.Form.{InForm, LfEnded, OwnLines, SameSets, KeepsSpellings}
 use Rattle.rewriting.specs.OwnLaws.{own-only}
-use Rattle.rewriting.specs.LaidLaws.{laid-joined, laid-ended, bodyOf, keptIn, stand-own, laid-lines, laid-plain, laid-own, kept-same, laid-short, sets-same, bodiesOf, plain-own, plain-only}
+use Rattle.rewriting.specs.LaidLaws.{lf-ended, lf-joined, laid-joined, laid-ended, bodyOf, keptIn, stand-own, laid-lines, laid-plain, laid-own, kept-same, laid-short, sets-same, bodiesOf, plain-own, plain-only}
 
 -- lines that pass are fair
 pass-fair : {ls : List (List ℕ)} → AllPass ls → FairLines ls
@@ -40,7 +41,7 @@ module _ {sets : List Set} {bytes : List ℕ} (p : Proper sets bytes) where
   proper-own = record { columns = p .columns; ends = p .ends; own = rw (ended-complete (p .ends) .same) at (stand-own proper-stand) }
 
   -- the lines that they are laid out in
-  rewritten-ends : Ended (laid (partsOf bytes)) (rewrittenFile bytes)
+  rewritten-ends : LfEnded (laid (partsOf bytes)) (rewrittenFile bytes)
   rewritten-ends = rw (laid-joined (partsOf bytes)) (laid-ended (file-fair bytes (pass-fair (ended-complete (p .ends) .pass))))
 
   -- what a proper writing is rewritten to is no longer
@@ -51,7 +52,7 @@ module _ {sets : List Set} {bytes : List ℕ} (p : Proper sets bytes) where
   pub rewritten-proper : Proper sets (rewrittenFile bytes)
   rewritten-proper = record {
     columns = laid (partsOf bytes);
-    ends = rewritten-ends;
+    ends = lf-ended rewritten-ends;
     lines = laid-lines proper-stand;
     some = p .some;
     most = p .most;
@@ -60,7 +61,7 @@ module _ {sets : List Set} {bytes : List ℕ} (p : Proper sets bytes) where
 
   -- FORM: it is in rewritten form.
   pub rewritten-form : InForm sets (rewrittenFile bytes)
-  rewritten-form = record { columns = laid (partsOf bytes); ends = rewritten-ends; lf = laid-joined (partsOf bytes); plain = laid-plain proper-stand }
+  rewritten-form = record { columns = laid (partsOf bytes); ends = rewritten-ends; plain = laid-plain proper-stand }
 
   -- SPELLINGS: it keeps the file's spellings.
   pub rewritten-keeps : KeepsSpellings bytes (rewrittenFile bytes)
@@ -68,7 +69,7 @@ module _ {sets : List Set} {bytes : List ℕ} (p : Proper sets bytes) where
     before = map bodyOf (partsOf bytes);
     after = map keptIn (partsOf bytes);
     in-old = proper-own;
-    in-new = record { columns = laid (partsOf bytes); ends = rewritten-ends; own = laid-own proper-stand };
+    in-new = record { columns = laid (partsOf bytes); ends = lf-ended rewritten-ends; own = laid-own proper-stand };
     same = kept-same (partsOf bytes);
   }
 
@@ -76,9 +77,9 @@ module _ {sets : List Set} {bytes : List ℕ} (p : Proper sets bytes) where
   pub rewritten-only : (new : List ℕ) → InForm sets new → KeepsSpellings bytes new → new ≡ rewrittenFile bytes
   rewritten-only new f k =
       let a : k .before ≡ map bodyOf (partsOf bytes) = own-only (k .in-old) proper-own in
-      let b : k .after ≡ bodiesOf (f .plain) = own-only (k .in-new) (record { columns = f .columns; ends = f .ends; own = plain-own (f .plain) }) in
+      let b : k .after ≡ bodiesOf (f .plain) = own-only (k .in-new) (record { columns = f .columns; ends = lf-ended (f .ends); own = plain-own (f .plain) }) in
       let s : SameSets (map bodyOf (partsOf bytes)) (bodiesOf (f .plain)) = rw (a, b) at (k .same) in
-      f .lf ∙ ap (λ (x : List (List ℕ)). joined x []) (plain-only proper-stand (f .plain) s) ∙ sym (laid-joined (partsOf bytes))
+      lf-joined (f .ends) ∙ ap (λ (x : List (List ℕ)). joined x []) (plain-only proper-stand (f .plain) s) ∙ sym (laid-joined (partsOf bytes))
 
   -- SAME: a proper writing in rewritten form is rewritten to itself.
   pub rewritten-same : InForm sets bytes → rewrittenFile bytes ≡ bytes

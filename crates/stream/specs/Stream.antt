@@ -48,7 +48,7 @@ unfoldable pub stepOf : Seen → List ℕ → Seen
 stepOf past b = past
 stepOf (inLimit r q n) b =
     pick (ltb 16777216 (n + length b)) past
-    (kept (over runStep runEnd r (cut (q ++ b) .lines)) (cut (q ++ b) .rest) (n + length b))
+    (kept (over runStep r (cut (q ++ b) .lines)) (cut (q ++ b) .rest) (n + length b))
 
 -- past the limit; so is a record with more lines than bytes, which no bursts give
 unfoldable pub isPast : Stream → Bool

@@ -28,7 +28,7 @@ use Rattle.stream.specs.SqueezeLaws.{push-append, squeezed-again, run-sq
 
 -- what is seen after bytes whose lines come after n others
 unfoldable pub judgedOn : State → ℕ → List ℕ → ℕ → Seen
-judgedOn s n l total = kept (over runStep runEnd (going s n) (cut l .lines)) (cut l .rest) total
+judgedOn s n l total = kept (over runStep (going s n) (cut l .lines)) (cut l .rest) total
 
 -- the record at another running length
 abbrev pub atTotal : Stream → ℕ → Stream
@@ -140,11 +140,11 @@ module _ (s : State) (n : ℕ) (q b : List ℕ) (total : ℕ) (o : Open q) (shor
   judged-still h = rw (cut-still q b o h) (ap (λ (x : List ℕ). inLimit (going s n) x total) (squeezed-more q b short))
 
   module _ (h : lineLen b < length b) where
-    first-line : judgedOn s n (q ++ b) total ≡ kept (over runStep runEnd (onOutcome n (lineStep s (pushAll q (take (lineLen b) b)))) (cut (drop (lineLen b + 1) b) .lines)) (cut (drop (lineLen b + 1) b) .rest) total
+    first-line : judgedOn s n (q ++ b) total ≡ kept (over runStep (onOutcome n (lineStep s (pushAll q (take (lineLen b) b)))) (cut (drop (lineLen b + 1) b) .lines)) (cut (drop (lineLen b + 1) b) .rest) total
     unfolding judgedOn over
     first-line =
         rw (cut-first q b o h, ← squeezed-more q (take (lineLen b) b) short)
-        (ap (λ (x : Run). kept (over runStep runEnd x (cut (drop (lineLen b + 1) b) .lines)) (cut (drop (lineLen b + 1) b) .rest) total) (sym (run-squeezed (going s n) (q ++ take (lineLen b) b))))
+        (ap (λ (x : Run). kept (over runStep x (cut (drop (lineLen b + 1) b) .lines)) (cut (drop (lineLen b + 1) b) .rest) total) (sym (run-squeezed (going s n) (q ++ take (lineLen b) b))))
 
     judged-next : (t : State) (m : ℕ) → going t m ≡ onOutcome n (lineStep s (pushAll q (take (lineLen b) b))) → judgedOn s n (q ++ b) total ≡ judgedOn t m (drop (lineLen b + 1) b) total
     unfolding judgedOn
@@ -374,7 +374,7 @@ module _ (c : Stream) (b : List ℕ) where
 
       pub stepped-going : (r : Stream) → c .number ≤ 0 → seen r ≡ judgedOn (c .state) (c .lines) (openOf c ++ b) total → r .ended ≡ false → Stepped c b r
       unfolding judgedOn
-      stepped-going r z q k = stepped r (q ∙ rw (t .within l .1) (sym (step-going c b stays (rw (t .within l .1) at l) (omega arith)))) (λ p. kept-within (over runStep runEnd (going (c .state) (c .lines)) (cut (openOf c ++ b) .lines)) (cut (openOf c ++ b) .rest) total (sym q ∙ p)) (k ∙ sym e)
+      stepped-going r z q k = stepped r (q ∙ rw (t .within l .1) (sym (step-going c b stays (rw (t .within l .1) at l) (omega arith)))) (λ p. kept-within (over runStep (going (c .state) (c .lines)) (cut (openOf c ++ b) .lines)) (cut (openOf c ++ b) .rest) total (sym q ∙ p)) (k ∙ sym e)
 
 -- what a fresh record says
 pub fresh-says : (seen freshRecord ≡ inLimit (going start 0) [] 0) × (freshRecord .ended ≡ false)

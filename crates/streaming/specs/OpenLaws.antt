@@ -13,7 +13,7 @@ use Rattle.stream.specs.StreamLaws.{Open, rest-open, pushAll-open, cut-still, c
 
 -- the run over a text's finished lines, with its rest
 abbrev pub keptText : Run → Text → ℕ → Seen
-keptText r t n = kept (over runStep runEnd r (t .lines)) (t .rest) n
+keptText r t n = kept (over runStep r (t .lines)) (t .rest) n
 
 -- bytes after a squeezed line
 squeezed-append : (q l : List ℕ) → squeezed (squeezed q ++ l) ≡ squeezed (q ++ l)
@@ -41,7 +41,7 @@ open-squeezed r q b n o =
     (below-or-not (lineLen b) (length b))
 
 -- a run over bytes that come in two parts
-pub kept-append : (r : Run) (a b : List ℕ) (n : ℕ) → keptText r (cut (a ++ b)) n ≡ keptText (over runStep runEnd r (cut a .lines)) (cut (cut a .rest ++ b)) n
+pub kept-append : (r : Run) (a b : List ℕ) (n : ℕ) → keptText r (cut (a ++ b)) n ≡ keptText (over runStep r (cut a .lines)) (cut (cut a .rest ++ b)) n
 kept-append r a b n =
     ap (λ (t : Text). keptText r t n) (cut-append a b)
-    ∙ ap (λ (x : Run). kept x (cut (cut a .rest ++ b) .rest) n) (over-append runStep runEnd r (cut a .lines) (cut (cut a .rest ++ b) .lines))
+    ∙ ap (λ (x : Run). kept x (cut (cut a .rest ++ b) .rest) n) (over-append runStep r (cut a .lines) (cut (cut a .rest ++ b) .lines))

@@ -14,7 +14,7 @@ use Rattle.stream.specs.Stream.{Seen, past, kept, Stepped}
 
 -- the finished lines of the bytes so far, judged
 unfoldable pub finished : List ℕ → Run
-finished bytes = over runStep runEnd (going start 0) (cut bytes .lines)
+finished bytes = over runStep (going start 0) (cut bytes .lines)
 
 -- what a record is to say after these bytes
 unfoldable pub after : List ℕ → Seen

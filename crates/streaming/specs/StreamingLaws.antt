@@ -98,7 +98,7 @@ step-counts : (r : Run) (l : List ℕ) (n : ℕ) → Counts r n → Counts (runS
 step-counts (going s m) l n h = rw (← h) (outcome-counts (lineStep s l) m)
 step-counts (refused p) l n h = tt
 
-over-counts : (r : Run) (ls : List (List ℕ)) (n : ℕ) → Counts r n → Counts (over runStep runEnd r ls) (n + length ls)
+over-counts : (r : Run) (ls : List (List ℕ)) (n : ℕ) → Counts r n → Counts (over runStep r ls) (n + length ls)
 unfolding over
 over-counts r [] n h = let e : n + 0 ≡ n = omega arith in rw e h
 over-counts r (l ∷ ls) n h =
@@ -156,7 +156,7 @@ told-stays a b n p h l =
     let m : length a ≤ 16777216 = omega (arith, length-append a b) in
     let t : runAnswer (finished a) ≡ Refused n p = rw (le-ltb 16777216 (length a) m) at h in
     let e : finished a ≡ refused (reply n p) = run-told (finished a) n p t in
-    rw (le-ltb 16777216 (length (a ++ b)) l, cut-append a b, over-append runStep runEnd (going start 0) (cut a .lines) (cut (cut a .rest ++ b) .lines), e, over-refused (reply n p) (cut (cut a .rest ++ b) .lines)) refl
+    rw (le-ltb 16777216 (length (a ++ b)) l, cut-append a b, over-append runStep (going start 0) (cut a .lines) (cut (cut a .rest ++ b) .lines), e, over-refused (reply n p) (cut (cut a .rest ++ b) .lines)) refl
 
 -- asking for the end again changes nothing
 pub closed-again : (r : Stream) → closed (closed r) ≡ closed r
@@ -176,7 +176,7 @@ past-stays b = refl
 -- and until then the running length grows by the burst's, so it never falls.
 pub length-grows : {r′ : Run} {q′ : List ℕ} {n′ : ℕ} (r : Run) (q : List ℕ) (n : ℕ) (b : List ℕ) → stepOf (inLimit r q n) b ≡ inLimit r′ q′ n′ → n′ ≡ n + length b
 unfolding stepOf
-length-grows {r′} {q′} {n′} r q n b h = go (ltb 16777216 (n + length b)) (over runStep runEnd r (cut (q ++ b) .lines)) h
+length-grows {r′} {q′} {n′} r q n b h = go (ltb 16777216 (n + length b)) (over runStep r (cut (q ++ b) .lines)) h
   where
     go : (t : Bool) (x : Run) → pick t past (kept x (cut (q ++ b) .rest) (n + length b)) ≡ inLimit r′ q′ n′ → n′ ≡ n + length b
     go true x h = cc

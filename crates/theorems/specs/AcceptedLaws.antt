@@ -75,7 +75,7 @@ module _ (bytes : List ℕ) (n : ℕ) where
   accepted-runEnd (Ran.stopped z f) c = absurd (standing-not-bad tt (sym (c .read) ∙ f (c .pass)))
 
   -- the judge's run over the whole file
-  file-ran : Ran raw (outside []) 0 (Cut.over runStep runEnd (going start 0) raw)
+  file-ran : Ran raw (outside []) 0 (Cut.over runStep (going start 0) raw)
   file-ran = runOver-ran raw (outside []) 0 tt
 
   pub judged-accepted : judged bytes ≡ reply 0 n → Accepted bytes n

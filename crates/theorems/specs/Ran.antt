@@ -14,7 +14,7 @@ use Rattle.theorems.specs.Image.{Standing, image}
 
 -- the judge's run over raw lines
 abbrev pub runOver : Run → List (List ℕ) → Run
-runOver = Cut.over runStep runEnd
+runOver = Cut.over runStep
 
 -- the reading of the columns of raw lines
 abbrev pub readOver : Reading → List (List ℕ) → Reading

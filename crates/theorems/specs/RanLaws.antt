@@ -15,7 +15,8 @@ use Rattle.walk.specs.declared.Outcome.{Outcome}
 use Rattle.judge.specs.declared.Reply.{Reply}
 use Rattle.judge.specs.Judge.{reply, lineStep, Run, going, refused, onOutcome}
 use Rattle.ends.specs.Ends.{AllPass}
-use Rattle.theorems.specs.Reader.{Reading, bad, readLine, readLines}
+use Rattle.theorems.specs.Reader.{Reading, readLine, readLines}
+use Rattle.theorems.specs.ReaderSound.{bad-stays}
 use Rattle.theorems.specs.Image.{Standing, image, Agrees}
 use Rattle.theorems.specs.ImageLaws.{step-image}
 use Rattle.theorems.specs.Ran.{runOver, Ran}
@@ -25,12 +26,6 @@ runOver-refused : (p : Reply) (ls : List (List ℕ)) → runOver (refused p) ls 
 unfolding Cut.over
 runOver-refused p [] = refl
 runOver-refused p (l ∷ ls) = runOver-refused p ls
-
--- a refused reading stays refused
-readLines-bad : (css : List (List ℕ)) → readLines bad css ≡ bad
-unfolding readLines
-readLines-bad [] = refl
-readLines-bad (cs ∷ css) = readLines-bad css
 
 allPass-first : {l : List ℕ} {ls : List (List ℕ)} → AllPass (l ∷ ls) → lineFault true (columns true l) ≡ passed
 allPass-first (AllPass.more p a) = p
@@ -59,7 +54,7 @@ ran-agrees :
     (Standing r → Ran ls r (k + 1) (runOver (going (image r) (k + 1)) ls)) →
     Ran ls r (k + 1) (runOver (onOutcome k o) ls)
 ran-agrees ls k (Agrees.stands r s) next = next s
-ran-agrees ls k (Agrees.refused n) next = rw runOver-refused (Ran.stopped n (λ a. readLines-bad _))
+ran-agrees ls k (Agrees.refused n) next = rw runOver-refused (Ran.stopped n (λ a. bad-stays _))
 
 module _ (l : List ℕ) (ls : List (List ℕ)) (r : Reading) (k : ℕ) where
   abbrev after : Reading

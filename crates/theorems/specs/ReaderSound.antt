@@ -130,7 +130,7 @@ not-outside : {A : Type 0} (r : Reading) (m : List Set) → unfinished r ≡ 1 �
 not-outside r m u h = absurd (omega (arith, ap unfinished h))
 
 -- a refused line is not taken back
-bad-stays : (css : List (List ℕ)) → readLines bad css ≡ bad
+pub bad-stays : (css : List (List ℕ)) → readLines bad css ≡ bad
 unfolding readLines
 bad-stays [] = refl
 bad-stays (cs ∷ css) = bad-stays css

@@ -26,7 +26,7 @@ use Rattle.reader.specs.ReaderLaws.{start-most}
 use Rattle.values.specs.Values.{allValues, allReply, allPlaces}
 use Rattle.rewriter.specs.Rewriter.{rewrittenFile, rewriteReply, rewriteOut}
 use Rattle.rewriting.specs.Form.{InForm, KeepsSpellings}
-use Rattle.rewriting.specs.RewritingLaws.{rewritten-proper, rewritten-form, rewritten-keeps, rewritten-only}
+use Rattle.rewriting.specs.RewritingLaws.{rewritten-proper, rewritten-form, rewritten-keeps, rewritten-only, rewritten-same}
 use Rattle.header.specs.declared.Header.{Header}
 use Rattle.header.specs.Header.{headerOf}
 use Rattle.writer.specs.Writer.{writtenSet, writeReply, writeOut}
@@ -337,6 +337,10 @@ rewriter-keeps p = (rewritten-proper p, (rewritten-form p, rewritten-keeps p))
 
 pub rewriter-only : {sets : List Set} {bytes : List ℕ} → Proper sets bytes → (new : List ℕ) → InForm sets new → KeepsSpellings bytes new → new ≡ rewrittenFile bytes
 rewriter-only p new f k = rewritten-only p new f k
+
+-- Rewriting again changes nothing.
+pub rewriter-again : {sets : List Set} {bytes : List ℕ} → Proper sets bytes → rewrittenFile (rewrittenFile bytes) ≡ rewrittenFile bytes
+rewriter-again p = rewritten-same (rewritten-proper p) (rewritten-form p)
 
 -- It answers the length, and the bytes lent hold that text and then their own rest.
 pub rewriter-answers : {sets : List Set} {bytes : List ℕ} → Proper sets bytes → (out : List ℕ) → length (rewrittenFile bytes) ≤ length out

@@ -10,7 +10,7 @@ use lib.ListN.{length, getD, take, drop, replicate, length-append, length-drop, 
 use lib.Seq.{take-at, drop-at, drop-drop, getD-drop, getD-append-add}
 use Rattle.text.specs.Parts.{signed}
 use Rattle.line.specs.Line.{columns, filled}
-use Rattle.line.specs.LineLaws.{filled-short}
+use Rattle.line.specs.LineLaws.{filled-short, columns-allowed}
 use Rattle.real.specs.declared.Number.{Number}
 use Rattle.real.specs.declared.Real.{Real}
 use Rattle.real.specs.declared.Real.the-variants.{Value}
@@ -44,8 +44,8 @@ use Rattle.places.specs.DeclaredLaws.{typed-line, typed-58, lineOf-columns, num
 use Rattle.places.specs.Stored.{storedCount, storedItem}
 use Rattle.places.specs.StoredLaws.{ownColumns, stored-spelled}
 use Rattle.places.specs.FieldLaws.{Spelled}
-use Rattle.rewriter.specs.PlainLaws.{columns-allowed, plainNumber-again}
 use Rattle.writer.specs.Writer.{decimalsOf, widthAt, fitsAt}
+use Rattle.rewriting.specs.NumberLaws.{plainNumber-again}
 use Rattle.writing.specs.DataLines.{fieldsText, dataLines}
 use Rattle.writing.specs.HeaderRun.{Says, Passed}
 use Rattle.writing.specs.DataTextLaws.{field-at}
@@ -210,7 +210,7 @@ module _ (header : List ℕ) (p : Passed header) (xs ss : List ℤ) (stored : le
   module _ (s : Set) (h : Holds s lent) where
     pub set-number : s .number ≡ 58
     unfolding Parts.numberOf
-    set-number = sym (number-held h) ∙ plainNumber-again 58 (omega arith)
+    set-number = sym (number-held h) ∙ plainNumber-again 58 (omega arith) (omega arith)
 
     -- the items of its first eleven lines are written in the header's lines
     pub set-header : (i : ℕ) → i < 11 → Written (recordOf (getD (sequence 0) i 30)) (getD (s .lines) i []) (Parts.columnsIn (getD (cut header .lines) i []))

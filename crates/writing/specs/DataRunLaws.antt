@@ -13,7 +13,7 @@ use Rattle.laws.specs.Choice.{pick, and-left, and-right}
 use Rattle.laws.specs.Ranges.{in-range}
 use Rattle.laws.specs.Cut.{over}
 use Rattle.line.specs.Line.{Allowed, filled}
-use Rattle.line.specs.LineLaws.{filled-length, filled-short}
+use Rattle.line.specs.LineLaws.{filled-length, filled-short, columns-allowed}
 use Rattle.text.specs.BlankLaws.{blanks-replicate}
 use Rattle.layout.specs.Columns.{fieldOf, total}
 use Rattle.layout.specs.ColumnsLaws.{fieldOf-inside}
@@ -33,8 +33,7 @@ use Rattle.walk.specs.Step.{state, stepOf, typedStep}
 use Rattle.judge.specs.Judge.{lineStep, Run, going, runStep, runEnd}
 use Rattle.places.specs.StoredLaws.{map-take}
 use Rattle.rewriter.specs.Rewriter.{keptOf}
-use Rattle.rewriter.specs.RewriterLaws.{Fair}
-use Rattle.rewriter.specs.PlainLaws.{columns-allowed}
+use Rattle.rewriter.specs.Fair.{Fair}
 use Rattle.parts.specs.Parts.{closes}
 use Rattle.writer.specs.Writer.{decimalsOf, widthAt, fitsAt}
 use Rattle.writing.specs.DataLines.{fieldsText, dataLines}
@@ -173,7 +172,7 @@ pub data Neat : List (List ℕ) → Type 0 where
 -- so many lines are judged from one state to another
 pub record Ran (c left n : ℕ) (ls : List (List ℕ)) : Type 0 where
   pub neat : Neat ls
-  pub run : over runStep runEnd (going (state (Typed (dataDue c left)) 1) n) ls ≡ going (state (Typed (dataDue c 0)) 1) (n + length ls)
+  pub run : over runStep (going (state (Typed (dataDue c left)) 1) n) ls ≡ going (state (Typed (dataDue c 0)) 1) (n + length ls)
 
 ran-none : (c n : ℕ) → Ran c 0 n []
 unfolding over

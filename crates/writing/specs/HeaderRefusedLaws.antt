@@ -27,7 +27,7 @@ use Rattle.judge.specs.JudgeLaws as Judge
 use Rattle.header.specs.HeaderLaws.{over-refused}
 use Rattle.parts.specs.Parts.{columnsIn}
 use Rattle.rewriter.specs.Rewriter.{headText, plainNumber}
-use Rattle.rewriter.specs.RewriterLaws.{plainDelimiter}
+use Rattle.rewriter.specs.Fair.{plainDelimiter}
 use Rattle.writing.specs.HeaderRun.{Passed}
 use Rattle.writing.specs.HeaderRunLaws.{Stood, Taken, Met, Met.taken, Met.stopped, not-closed, after-stood, line-met, ended, opened-stood, header-passed}
 use Rattle.writing.specs.LentLaws.{cut-after, over-line, cut-head, opens, numbered}
@@ -38,7 +38,7 @@ twelfthNumber l = pastNumber (lineFault true (columns true l) .number)
 
 -- a file from the same line on: it counts two lines more, the delimiter and the number line
 abbrev filed : Due → ℕ → List (List ℕ) → List ℕ → Reply
-filed d n ls rest = runEnd (over runStep runEnd (going (state (Typed d) 1) (n + 2)) ls) rest
+filed d n ls rest = runEnd (over runStep (going (state (Typed d) 1) (n + 2)) ls) rest
 
 -- the answer h to a refused header whose lines from n on are these, and the reply r to the file
 record Halted (n : ℕ) (ls : List (List ℕ)) (h : Header) (r : Reply) : Type 0 where
@@ -157,15 +157,15 @@ step-alike : (s : State) (n : ℕ) (l : List ℕ) → n < 11 → headerStep (goi
 step-alike s n l h = rw (lt-ltb n 11 h) refl
 
 steps-alike : (ls more : List (List ℕ)) (s : State) (n : ℕ) → length ls + n ≤ 11
-    → over headerStep headerEnd (going s n) (ls ++ more) ≡ over headerStep headerEnd (over runStep runEnd (going s n) ls) more
+    → over headerStep (going s n) (ls ++ more) ≡ over headerStep (over runStep (going s n) ls) more
 unfolding over
 steps-alike [] more s n h = refl
 steps-alike (l ∷ ls) more s n h =
-    ap (λ (r : Run). over headerStep headerEnd r (ls ++ more)) (step-alike s n l (omega arith)) ∙ by (lineStep s l) (λ t. steps-alike ls more t (n + 1) (omega arith))
+    ap (λ (r : Run). over headerStep r (ls ++ more)) (step-alike s n l (omega arith)) ∙ by (lineStep s l) (λ t. steps-alike ls more t (n + 1) (omega arith))
   where
     by : (o : Outcome)
-        → ((t : State) → over headerStep headerEnd (going t (n + 1)) (ls ++ more) ≡ over headerStep headerEnd (over runStep runEnd (going t (n + 1)) ls) more)
-        → over headerStep headerEnd (onOutcome n o) (ls ++ more) ≡ over headerStep headerEnd (over runStep runEnd (onOutcome n o) ls) more
+        → ((t : State) → over headerStep (going t (n + 1)) (ls ++ more) ≡ over headerStep (over runStep (going t (n + 1)) ls) more)
+        → over headerStep (onOutcome n o) (ls ++ more) ≡ over headerStep (over runStep (onOutcome n o) ls) more
     by (Next t) ih = ih t
     by (Refused f) ih =
         let r : Reply = reply (f .number) (n + 1) in

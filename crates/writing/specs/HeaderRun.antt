@@ -13,7 +13,7 @@ use Rattle.judge.specs.Judge.{Run, going, runStep, runEnd}
 use Rattle.header.specs.declared.Header.{Header}
 use Rattle.header.specs.Header.{opened, headerOf}
 use Rattle.parts.specs.Parts.{columnsIn}
-use Rattle.rewriter.specs.RewriterLaws.{Inner}
+use Rattle.rewriter.specs.Fair.{Inner}
 
 -- what line 7, given by its 80 columns, says: the case, and how many numbers are stored
 pub record Says (line : List ℕ) (d : Due) : Type 0 where
@@ -26,7 +26,7 @@ pub record Passed (header : List ℕ) : Type 0 where
   pub rest : cut header .rest ≡ []
   pub lines : length (cut header .lines) ≡ 11
   pub inner : Inner (cut header .lines)
-  pub run : (n : ℕ) → over runStep runEnd (going opened n) (cut header .lines) ≡ going (state (Typed due) 1) (n + 11)
+  pub run : (n : ℕ) → over runStep (going opened n) (cut header .lines) ≡ going (state (Typed due) 1) (n + 11)
   pub kind : due .kind ≡ 0
   pub at : due .at ≡ 11
   pub second : due .second ≡ 0

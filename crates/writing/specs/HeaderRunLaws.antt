@@ -10,7 +10,7 @@ use borrow.Author.Tests.{leb-true, ltb-true, ltb-false, eqb-true, eqb-false, lt-
 use lib.Dec.{leb, ltb, eqb}
 use lib.IntN.{ℤ, pos, negsuc}
 use lib.ListN.{length, getD, take, drop}
-use Rattle.laws.specs.Choice.{pick, and-left, and-right, false-not-true, below-or-not}
+use Rattle.laws.specs.Choice.{pick, and-left, and-right, false-not-true, below-or-not, pick-passed}
 use Rattle.laws.specs.Ranges.{in-range}
 use Rattle.laws.specs.Cut.{cut, over, judge}
 use Rattle.text.specs.Parts.{signed}
@@ -35,20 +35,15 @@ use Rattle.walk.specs.Due.{due, recordDue, rowDue, isClosed, opening, numberIn,
 use Rattle.walk.specs.DueLaws.{numbersOf-few, rowRefusal-record}
 use Rattle.walk.specs.Step.{state, unless, typedStep, stepOf}
 use Rattle.walk.specs.StepLaws.{unless-here, unless-on}
-use Rattle.judge.specs.declared.Reply.{Reply}
-use Rattle.judge.specs.Judge.{reply, lineStep, Run, going, refused, runStep, runEnd}
+use Rattle.judge.specs.Judge.{reply, lineStep, Run, going, refused, runStep}
 use Rattle.header.specs.declared.Header.{Header}
 use Rattle.header.specs.HeaderLaws.{over-refused}
 use Rattle.header.specs.Header.{answer, pastNumber, headerStep, headerEnd, headerOf}
 use Rattle.parts.specs.Parts.{columnsIn, closes}
-use Rattle.rewriter.specs.RewriterLaws.{Fair, fair-passed, Inner, Inner.none as no-line, Inner.more as one-line}
+use Rattle.rewriter.specs.Fair.{Fair, Inner, Inner.none as no-line, Inner.more as one-line}
+use Rattle.rewriter.specs.RewriterLaws.{fair-passed}
 use Rattle.judge.specs.RefusalLaws.{no-fault}
 use Rattle.writing.specs.HeaderRun.{Says, Passed}
-
--- a test that gives no refusal holds
-test-passed : (t : Bool) (m : ℕ) → pick t 0 (suc m) ≡ 0 → t ≡ true
-test-passed true m h = refl
-test-passed false m h = absurd (omega arith)
 
 -- an integer that passes keeps its rule; here a rule that takes nothing below zero
 kept-value : (r : Rule) → ((v : ℕ) → keeps r (negsuc v) ≡ false) → (z : ℤ) → keeps r z ≡ true → keeps r (pos (natural (Item.integer z))) ≡ true
@@ -59,7 +54,7 @@ kept : (r : Rule) → ((v : ℕ) → keeps r (negsuc v) ≡ false) → (i : Inte
 kept r m Blank h = absurd (omega arith)
 kept r m Malformed h = absurd (omega arith)
 kept r m OutOfRange h = absurd (omega arith)
-kept r m (Value n v) h = kept-value r m (signed n v) (test-passed (keeps r (signed n v)) 10 h)
+kept r m (Value n v) h = kept-value r m (signed n v) (pick-passed (keeps r (signed n v)) 10 h)
 
 -- what passes has no refusal of its own, and none follows
 orElse-first : (n c : ℕ) (rest : Refusal) → orElse n c rest .number ≡ 0 → n ≡ 0
@@ -255,7 +250,7 @@ module _ (d : Due) (l : List ℕ) (c : isClosed d ≡ false) where
 
 -- after a refusal no header passes
 not-passed : {A : Type 0} (n m : ℕ) (ls : List (List ℕ)) (rest : List ℕ) → 0 < n
-    → headerEnd (over headerStep headerEnd (refused (reply n m)) ls) rest .number ≡ 0 → A
+    → headerEnd (over headerStep (refused (reply n m)) ls) rest .number ≡ 0 → A
 not-passed n m ls rest p h =
     let z : n ≡ 0 = sym (ap (λ (x : Run). headerEnd x rest .number) (over-refused (reply n m) ls)) ∙ h in
     absurd (omega arith)
@@ -266,7 +261,7 @@ past-some (suc m) = omega arith
 
 -- the lines of a header that passes, from line n on
 abbrev pub ended : Due → ℕ → List (List ℕ) → List ℕ → Header
-ended d n ls rest = headerEnd (over headerStep headerEnd (going (state (Typed d) 1) n) ls) rest
+ended d n ls rest = headerEnd (over headerStep (going (state (Typed d) 1) n) ls) rest
 
 record Ran (d : Due) (n : ℕ) (ls : List (List ℕ)) (rest : List ℕ) : Type 0 where
   due : Due
@@ -276,7 +271,7 @@ record Ran (d : Due) (n : ℕ) (ls : List (List ℕ)) (rest : List ℕ) : Type 0
   inner : Inner ls
   seventh : n ≤ 6 → Says (columnsIn (getD ls (6 - n) [])) due
   kept : 7 ≤ n → (due .case ≡ d .case) × (due .left ≡ d .left)
-  run : (m k : ℕ) → k ≡ m + length ls → over runStep runEnd (going (state (Typed d) 1) m) ls ≡ going (state (Typed due) 1) k
+  run : (m k : ℕ) → k ≡ m + length ls → over runStep (going (state (Typed d) 1) m) ls ≡ going (state (Typed due) 1) k
   ends : ended d n ls rest ≡ answer 0 0 (due .case) (due .left)
 
 -- no line more: they are eleven, and nothing is left

@@ -37,11 +37,12 @@ use Rattle.ends.specs.EndsLaws.{cut-joined}
 use Rattle.parts.specs.Parts.{Part, part, Stand, outside, inside, partsFrom, partsOf, numberOf}
 use Rattle.output.specs.Output.{ended}
 use Rattle.rewriter.specs.Rewriter.{plainIn, digitOrBlank, plainNumber, delimiterLine, keptOf, linesText, headText, setText, rewrittenSet, rewritten, rewrittenFile}
-use Rattle.rewriter.specs.RewriterLaws.{Fair, Inner, inner-append, plainDelimiter, delimiter-closes, cut-lines}
-use Rattle.rewriter.specs.PlainLaws.{plainNumber-again}
+use Rattle.rewriter.specs.Fair.{Fair, Inner, plainDelimiter}
+use Rattle.rewriter.specs.RewriterLaws.{inner-append, delimiter-closes, cut-lines}
 use Rattle.decimal.specs.Decimal.{fieldText}
 use Rattle.decimal.specs.DecimalLaws.{fieldText-length}
 use Rattle.writer.specs.Writer.{decimalsOf, widthAt, lineEnd, dataText, writtenSet}
+use Rattle.rewriting.specs.NumberLaws.{plainNumber-again}
 use Rattle.writing.specs.HeaderRun.{Passed}
 use Rattle.writing.specs.DataLines.{dataLines, lentFile}
 use Rattle.writing.specs.DataTextLaws.{field-zero, data-joined}
@@ -70,13 +71,13 @@ linesText-append (l ∷ a) b = rw (linesText-append a b) (sym (append-assoc (end
 pub cut-after : (a t : List ℕ) → cut a .rest ≡ [] → cut (a ++ t) ≡ text (cut a .lines ++ cut t .lines) (cut t .rest)
 cut-after a t e = cut-append a t ∙ rw e refl
 
-over-end : (r : Run) → over runStep runEnd r [] ≡ r
+over-end : (r : Run) → over runStep r [] ≡ r
 unfolding over
 over-end r = refl
 
-pub over-line : (s : State) {t : State} (n : ℕ) (l : List ℕ) → lineStep s l ≡ Next t → (ls : List (List ℕ)) → over runStep runEnd (going s n) (l ∷ ls) ≡ over runStep runEnd (going t (n + 1)) ls
+pub over-line : (s : State) {t : State} (n : ℕ) (l : List ℕ) → lineStep s l ≡ Next t → (ls : List (List ℕ)) → over runStep (going s n) (l ∷ ls) ≡ over runStep (going t (n + 1)) ls
 unfolding over
-over-line s n l e ls = ap (λ (o : Outcome). over runStep runEnd (onOutcome n o) ls) e
+over-line s n l e ls = ap (λ (o : Outcome). over runStep (onOutcome n o) ls) e
 
 -- the lines that open and close a set
 pub cut-head : (t : List ℕ) → cut (headText 58 ++ t) ≡ text (plainDelimiter ∷ plainNumber 58 ∷ cut t .lines) (cut t .rest)
@@ -177,14 +178,14 @@ module _ (header : List ℕ) (p : Passed header) (xs ss : List ℤ) (stored : le
   data-due : p .due ≡ dataDue c (length xs)
   data-due = due-is (p .due) 0 11 c (length xs) 0 (p .kind) (p .at) (p .case) (p .left ∙ sym stored) (p .second)
 
-  lent-run : over runStep runEnd (going start 0) (plainDelimiter ∷ plainNumber 58 ∷ (cut header .lines ++ (lines ++ (plainDelimiter ∷ []))))
+  lent-run : over runStep (going start 0) (plainDelimiter ∷ plainNumber 58 ∷ (cut header .lines ++ (lines ++ (plainDelimiter ∷ []))))
       ≡ going (state Outside 1) (2 + 11 + length lines + 1)
   lent-run =
       over-line start 0 plainDelimiter opens _ ∙ over-line (state Number 1) 1 (plainNumber 58) numbered _
-      ∙ over-append runStep runEnd (going Header.opened 2) (cut header .lines) (lines ++ (plainDelimiter ∷ []))
-      ∙ ap (λ (r : Run). over runStep runEnd r (lines ++ (plainDelimiter ∷ []))) (p .run 2 ∙ ap (λ (d : Due). going (state (Typed d) 1) (2 + 11)) data-due)
-      ∙ over-append runStep runEnd (going (state (Typed (dataDue c (length xs))) 1) (2 + 11)) lines (plainDelimiter ∷ [])
-      ∙ ap (λ (r : Run). over runStep runEnd r (plainDelimiter ∷ [])) (ran (2 + 11) .run)
+      ∙ over-append runStep (going Header.opened 2) (cut header .lines) (lines ++ (plainDelimiter ∷ []))
+      ∙ ap (λ (r : Run). over runStep r (lines ++ (plainDelimiter ∷ []))) (p .run 2 ∙ ap (λ (d : Due). going (state (Typed d) 1) (2 + 11)) data-due)
+      ∙ over-append runStep (going (state (Typed (dataDue c (length xs))) 1) (2 + 11)) lines (plainDelimiter ∷ [])
+      ∙ ap (λ (r : Run). over runStep r (plainDelimiter ∷ [])) (ran (2 + 11) .run)
       ∙ over-line (state (Typed (dataDue c 0)) 1) (2 + 11 + length lines) plainDelimiter (closed c) []
       ∙ over-end (going (state Outside 1) (2 + 11 + length lines + 1))
 
@@ -233,5 +234,5 @@ module _ (header : List ℕ) (p : Passed header) (xs ss : List ℤ) (stored : le
   pub lent-rewritten : rewrittenFile (lentFile header c xs ss) ≡ writtenSet header c xs ss
   unfolding rewritten rewrittenSet setText numberOf writtenSet
   lent-rewritten =
-      rw (lent-parts, plainNumber-again 58 (omega arith), append-nil, linesText-append (cut header .lines) lines, ← data-lines)
+      rw (lent-parts, plainNumber-again 58 (omega arith) (omega arith), append-nil, linesText-append (cut header .lines) lines, ← data-lines)
       (ap (λ (t : List ℕ). headText 58 ++ t) (append-assoc (linesText (cut header .lines)) (dataText c 0 xs ss) delimiterLine))

@@ -11,7 +11,7 @@ use Rattle.text.specs.BlankLaws.{blanks-replicate}
 use Rattle.text.specs.Text.{Unpadded, last, Unpadded.more as byte, TextIn, text-in, trimmed}
 use Rattle.text.specs.TextLaws.{trimmed-complete}
 use Rattle.line.specs.Line.{Allowed, Allowed.none as no-byte, columns, filled, lineFault, passed}
-use Rattle.line.specs.LineLaws.{filled-short, lineFault-complete}
+use Rattle.line.specs.LineLaws.{filled-short, lineFault-complete, columns-allowed}
 use Rattle.kind.specs.Kind.{Delimiter, delimiter, isDelimiter}
 use Rattle.kind.specs.KindLaws.{isDelimiter-sound}
 use Rattle.real.specs.Real.{realOf}
@@ -24,8 +24,8 @@ use Rattle.reading.specs.FieldReading.{real-sound}
 use Rattle.decimal.specs.Decimal.{fits, fieldText}
 use Rattle.decimal.specs.DecimalLaws.{fieldText-length, ReadBack, fits-read}
 use Rattle.rewriter.specs.Rewriter.{keptOf}
-use Rattle.rewriter.specs.RewriterLaws.{Fair}
-use Rattle.rewriter.specs.PlainLaws.{allowed-append, columns-allowed}
+use Rattle.rewriter.specs.Fair.{Fair}
+use Rattle.rewriter.specs.PlainLaws.{allowed-append}
 use Rattle.parts.specs.Parts.{closes}
 use Rattle.writer.specs.Writer.{decimalsOf}
 use Rattle.writing.specs.DataLines.{fieldsText}

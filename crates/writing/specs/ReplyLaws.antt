@@ -11,7 +11,6 @@ use lib.ListN.{length}
 use Rattle.laws.specs.Choice.{pick, and-left, and-right}
 use Rattle.judge.specs.declared.Reply.{Reply}
 use Rattle.judge.specs.Judge.{reply}
-use Rattle.header.specs.declared.Header.{Header}
 use Rattle.header.specs.Header.{headerOf}
 use Rattle.writer.specs.Writer.{fitsAt, firstUnfit, writtenSet, laidReply, writeReply}
 use Rattle.writing.specs.DataRunLaws.{AllFit}
@@ -20,17 +19,6 @@ use Rattle.writing.specs.DataRunLaws.{AllFit}
 pub data Coefficients : List ℤ → Type 0 where
   none : Coefficients []
   more : {x : ℤ} {xs : List ℤ} → natAbs x ≤ 9223372036854775808 → Coefficients xs → Coefficients (x ∷ xs)
-
--- no index of a number that can't be written is below the number looked from
-unfit-least : (c j : ℕ) (xs ss : List ℤ) → j ≤ firstUnfit c j xs ss
-unfolding firstUnfit
-unfit-least c j [] ss = omega arith
-unfit-least c j (x ∷ xs) [] = omega arith
-unfit-least c j (x ∷ xs) (s ∷ ss) = by (fitsAt c j x s) (unfit-least c (suc j) xs ss)
-  where
-    by : (t : Bool) → suc j ≤ firstUnfit c (suc j) xs ss → j ≤ pick t (firstUnfit c (suc j) xs ss) j
-    by true h = omega arith
-    by false h = omega arith
 
 -- all numbers fit where no index is found
 pub all-fit : (c j : ℕ) (xs ss : List ℤ) → Coefficients xs → length xs ≡ length ss → j + length xs ≤ firstUnfit c j xs ss → AllFit c j xs ss

@@ -4,7 +4,7 @@ use native.Mathlib.Omega.{arith}
 use borrow.Author.Tests.{le-ltb, lt-ltb, eq-eqb, ne-eqb}
 use borrow.Author.Needs.{needs}
 use Rattle.integer.specs.Integer.{stepInteger}
-use Rattle.integer.specs.IntegerLaws.{isDigit-bounds}
+use Rattle.text.specs.PartsLaws.{isDigit-low}
 use Rattle.integer.proofs.scan_step.Statement.{statement}
 use Rattle.integer.proofs.scan_step.Tie as tie
 
@@ -12,7 +12,7 @@ is-digit-requires : tie.Need-is-digit-requires
 is-digit-requires c κs = search needs
 
 sub-pushed : tie.Need-sub-pushed
-sub-pushed c = omega (arith, isDigit-bounds _ (sym (c .before .before .before .is-digit .ensures) ∙ c .before .before .if1 .taken))
+sub-pushed c = omega (arith, isDigit-low _ (sym (c .before .before .before .is-digit .ensures) ∙ c .before .before .if1 .taken))
 
 pushed-requires : tie.Need-pushed-requires
 pushed-requires c κs = search needs

@@ -11,7 +11,7 @@ use Rattle.judge.proofs.judge_lines.Statement.{statement}
 use Rattle.judge.proofs.judge_lines.Tie as tie
 
 abbrev Inv-loop : tie.InvT-loop
-Inv-loop lines bytes at s₀ n₀ from₀ end₀ s n from end = (from ≤ length bytes) × ((end ≡ from + lineLen (drop from bytes)) × ((end ≤ length bytes) × ((n + at ≤ lines + from) × ((over runStep runEnd (going s n) (cut (drop from bytes) .lines) ≡ over runStep runEnd (going s₀ lines) (cut (drop at bytes) .lines)) × (cut (drop from bytes) .rest ≡ cut (drop at bytes) .rest)))))
+Inv-loop lines bytes at s₀ n₀ from₀ end₀ s n from end = (from ≤ length bytes) × ((end ≡ from + lineLen (drop from bytes)) × ((end ≤ length bytes) × ((n + at ≤ lines + from) × ((over runStep (going s n) (cut (drop from bytes) .lines) ≡ over runStep (going s₀ lines) (cut (drop at bytes) .lines)) × (cut (drop from bytes) .rest ≡ cut (drop at bytes) .rest)))))
 
 abbrev μ-loop : tie.MeasureT-loop
 μ-loop lines bytes at s₀ n₀ from₀ end₀ s n from end = length bytes - from

@@ -4,7 +4,8 @@ use native.Mathlib.Nat.{div-le-self}
 use lib.ListN.{getD}
 use Rattle.layout.specs.Layout.{layoutOf}
 use Rattle.layout.specs.LayoutLaws.{fieldsOf-some}
-use Rattle.reader.specs.SpanLaws.{start-inside, span-by}
+use Rattle.layout.specs.LayoutLaws.{field-inside}
+use Rattle.reader.specs.SpanLaws.{span-by}
 use borrow.Author.Needs.{needs}
 use Rattle.reader.proofs.span_of.Statement.{statement}
 use Rattle.reader.proofs.span_of.Tie as tie
@@ -32,13 +33,13 @@ field-start-requires c κs = search needs
 add-first : tie.Need-add-first
 add-first c =
     let at-start = c .before .before .before .before in
-    let h : c .field-start .result + getD (layoutOf (at-start .args .d .case) .widths) (at-start .args .j % c .before .before .fields-of .result) 0 ≤ 80 = rw (c .field-start .ensures) (start-inside _ _) in search needs
+    let h : c .field-start .result + getD (layoutOf (at-start .args .d .case) .widths) (at-start .args .j % c .before .before .fields-of .result) 0 ≤ 80 = rw (c .field-start .ensures) (field-inside _ _) in search needs
 
 field-width-requires : tie.Need-field-width-requires
 field-width-requires c κs = search needs
 
 add-t8 : tie.Need-add-t8
-add-t8 c = let h : c .before .field-start .result + c .field-width .result ≤ 80 = rw (c .before .field-start .ensures, c .field-width .ensures) (start-inside _ _) in search needs
+add-t8 c = let h : c .before .field-start .result + c .field-width .result ≤ 80 = rw (c .before .field-start .ensures, c .field-width .ensures) (field-inside _ _) in search needs
 
 returns : tie.Need-returns
 returns c = span-by _ _ _ _ _ _ _ (c .before .before .before .fields-of .ensures) (c .before .before .line-start .ensures .0) (c .before .field-start .ensures) (c .field-width .ensures)

@@ -8,7 +8,7 @@ use borrow.Author.Tests.{not-false}
 use lib.ListN.{length, take}
 use lib.Seq.{take-all}
 use Rattle.text.specs.Parts.{Digits, none}
-use Rattle.real.specs.ByteLaws.{isDigit-low, isDigit-high}
+use Rattle.text.specs.PartsLaws.{isDigit-low, isDigit-high}
 use Rattle.real.specs.StepLaws.{digit-below, below-more}
 use Rattle.real.specs.PlainLaws.{digits-next}
 use Rattle.real.proofs.push_digits.Statement.{statement}

@@ -1,10 +1,10 @@
 -- `real::scan_step` meets its contract.
-use Rattle.real.specs.ByteLaws.{isDigit-low}
 use Rattle.real.specs.Real.{scanStep}
 use borrow.Author.Tests.{eq-eqb, ne-eqb}
 use mathlib.Core.Path.{sym, _∙_}
 use native.Mathlib.Omega.{arith}
 use borrow.Author.Needs.{needs}
+use Rattle.text.specs.PartsLaws.{isDigit-low}
 use Rattle.real.proofs.scan_step.Statement.{statement}
 use Rattle.real.proofs.scan_step.Tie as tie
 

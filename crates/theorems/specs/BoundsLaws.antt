@@ -2,7 +2,6 @@
 use mathlib.Core.Path.{_≡_, refl}
 use mathlib.Core.Bool.{Bool, true, false}
 use mathlib.Core.List.{List, [], _∷_}
-use Prim.{Unit, tt}
 use Prim.Native.Nat.{ℕ, zero, suc, _+_, _≤_}
 use native.Mathlib.Nat.{add-zero}
 use native.Mathlib.Omega.{arith}
@@ -21,8 +20,7 @@ use Rattle.real.specs.declared.Real.{Real}
 use Rattle.real.specs.declared.Real.the-variants as R
 use Rattle.real.specs.Real.{realOf}
 use Rattle.line.specs.declared.Refusal.{Refusal}
-use Rattle.line.specs.Line.{refusal, passed, columns, firstBad, lineFault, filled}
-use Rattle.kind.specs.Kind.{isDelimiter, datasetNumber}
+use Rattle.line.specs.Line.{refusal, passed, firstBad, lineFault}
 use Rattle.codes.specs.Rule.{Rule, keeps}
 use Rattle.codes.specs.Form.{Form, skip, text, identification, real, integer}
 use Rattle.field.specs.Field.{mayBlank, integerNumber, realNumber, fieldNumber}
@@ -33,10 +31,10 @@ use Rattle.walk.specs.declared.Place.the-variants.{Outside, Number, Plain, Type
 use Rattle.walk.specs.declared.State.{State}
 use Rattle.walk.specs.declared.Outcome.{Outcome}
 use Rattle.walk.specs.declared.Outcome.the-variants.{Next, Refused}
-use Rattle.walk.specs.Due.{rowDue, isClosed, after}
-use Rattle.walk.specs.Step.{state, start, unless, outsideStep, numberStep, plainStep, typedStep, placeStep, stepOf}
+use Rattle.walk.specs.Step.{start}
 use Rattle.judge.specs.declared.Reply.{Reply}
-use Rattle.judge.specs.Judge.{judged, reply, lineOutcome, lineStep, Run, going, refused, onOutcome, runStep, atEnd, runEnd}
+use Rattle.judge.specs.RefusalLaws.{refusal-is}
+use Rattle.judge.specs.Judge.{judged, reply, lineStep, Run, going, refused, onOutcome, runStep, atEnd, runEnd}
 
 -- a field's number
 test-most : (t : Bool) (a b : ℕ) → a ≤ 12 → b ≤ 12 → pick t a b ≤ 12
@@ -92,31 +90,6 @@ row-most r line =
     (orElse-most 14 (f .number) (f .column) s (fields-most (r .fields) 0 line) (stray-most (stray (r .fields) 0 line)))
     (breach-most (r .fields) (breach (r .condition) (itemsOf (r .fields) 0 line)))
 
--- a line's number by its place
-abbrev Few : Outcome → Type 0
-Few (Next s) = Unit {0}
-Few (Refused f) = f .number ≤ 15
-
-few-pick : (t : Bool) (a b : Outcome) → Few a → Few b → Few (pick t a b)
-few-pick true a b p q = p
-few-pick false a b p q = q
-
-few-unless : (f : Refusal) (s : State) → f .number ≤ 14 → Few (unless f s)
-few-unless f s h = go (f .number) refl
-  where
-    go : (n : ℕ) → f .number ≡ n → Few (unless f s)
-    go zero e = rw e tt
-    go (suc n) e = rw e (omega arith)
-
-few-place : (p : Place) (n : ℕ) (line : List ℕ) → Few (placeStep p n line)
-unfolding outsideStep numberStep plainStep typedStep
-few-place Outside n line = few-pick (allBlank line) _ _ tt (few-pick (isDelimiter line) _ _ (few-pick (ltb n 4096) (Next (state Number (n + 1))) (Refused (refusal 15 1)) tt (omega arith)) (omega arith))
-few-place Number n line = few-pick (ltb 0 (datasetNumber line)) _ _ tt (omega arith)
-few-place Plain n line = few-pick (isDelimiter line) (Next (state Outside n)) (Next (state Plain n)) tt tt
-few-place (Typed d) n line =
-    few-pick (isDelimiter line) _ _ (few-pick (isClosed d) (Next (state Outside n)) (Refused (refusal 7 1)) tt (omega arith))
-    (few-pick (isClosed d) (Refused (refusal 8 1)) _ (omega arith) (few-unless (rowRefusal (rowDue d) line) (state (Typed (after d line)) n) (row-most (rowDue d) line)))
-
 -- a line's own number
 fault-most : (ended : Bool) (cs : List ℕ) → lineFault ended cs .number ≤ 4
 unfolding lineFault
@@ -128,16 +101,10 @@ fault-most ended cs = go (ltb 0 (firstBad 1 cs)) (ltb 80 (length cs)) ended
     go false false true = omega arith
     go false false false = omega arith
 
-few-line : (s : State) (l : List ℕ) → Few (lineStep s l)
-unfolding lineStep stepOf
-few-line s l = go (lineFault true (columns true l)) (fault-most true (columns true l))
-  where
-    go : (f : Refusal) → f .number ≤ 4 → Few (lineOutcome s f (columns true l))
-    go f h = own (f .number) refl
-      where
-        own : (n : ℕ) → f .number ≡ n → Few (lineOutcome s f (columns true l))
-        own zero e = rw e (few-place (s .place) (s .sets) (filled (columns true l)))
-        own (suc n) e = rw e (omega arith)
+-- the refusals of lines are below 16, so "so far", 127, is none of them
+pub refusal-few : (s : State) (l : List ℕ) (f : Refusal) → lineStep s l ≡ Refused f → f .number ≤ 15
+refusal-few =
+    refusal-is (λ (f : Refusal). f .number ≤ 15) (λ n p q. q) (λ r line p. omega (arith, row-most r line)) (λ cs p. omega (arith, fault-most true cs))
 
 -- a run of lines, after n of them
 abbrev Bounded : ℕ → Run → Type 0
@@ -145,14 +112,14 @@ Bounded m (going s n) = n ≤ m
 Bounded m (refused r) = (r .number ≤ 15) × (r .place ≤ m)
 
 step-bounded : (r : Run) (l : List ℕ) (m : ℕ) → Bounded m r → Bounded (m + 1) (runStep r l)
-step-bounded (going s n) l m b = go (lineStep s l) (few-line s l)
+step-bounded (going s n) l m b = go (lineStep s l) refl
   where
-    go : (o : Outcome) → Few o → Bounded (m + 1) (onOutcome n o)
-    go (Next t) f = omega arith
-    go (Refused f) h = (h, omega arith)
+    go : (o : Outcome) → lineStep s l ≡ o → Bounded (m + 1) (onOutcome n o)
+    go (Next t) e = omega arith
+    go (Refused f) e = (refusal-few s l f e, omega arith)
 step-bounded (refused r) l m b = (b .0, omega (arith, b .1))
 
-run-bounded : (ls : List (List ℕ)) (r : Run) (m : ℕ) → Bounded m r → Bounded (m + length ls) (over runStep runEnd r ls)
+run-bounded : (ls : List (List ℕ)) (r : Run) (m : ℕ) → Bounded m r → Bounded (m + length ls) (over runStep r ls)
 unfolding over
 run-bounded [] r m b = rw add-zero b
 run-bounded (l ∷ ls) r m b = let z : m + suc (length ls) ≡ m + 1 + length ls = omega arith in rw z (run-bounded ls (runStep r l) (m + 1) (step-bounded r l m b))
@@ -191,10 +158,6 @@ end-bounded (going s n) [] m b = ends-bounded (s .place) (s .sets) n m b
 end-bounded (going s n) (x ∷ xs) m b = (omega (arith, fault-most false (x ∷ xs)), omega arith)
 end-bounded (refused r) rest m b = (omega (arith, b .0), omega (arith, b .1))
 
--- the refusals of lines are below 16, so "so far", 127, is none of them
-pub refusal-few : (s : State) (l : List ℕ) (f : Refusal) → lineStep s l ≡ Refused f → f .number ≤ 15
-refusal-few s l f e = rw e at (few-line s l)
-
 -- a reply fits the word that carries it: 7 bits for the number, 32 for the place
 pub judged-bounds : (bytes : List ℕ) → (judged bytes .number ≤ 16) × (judged bytes .place ≤ 16777217)
 unfolding judged judge
@@ -204,6 +167,6 @@ judged-bounds bytes = go (ltb 16777216 (length bytes)) refl
         × (pick t (reply 1 0) (judge runStep runEnd (going start 0) bytes) .place ≤ 16777217)
     go true e = (omega arith, omega arith)
     go false e =
-        let r : Run = over runStep runEnd (going start 0) (cut bytes .lines) in
+        let r : Run = over runStep (going start 0) (cut bytes .lines) in
         let b = end-bounded r (cut bytes .rest) (0 + length (cut bytes .lines)) (run-bounded (cut bytes .lines) (going start 0) 0 (omega arith)) in
         (b .0, omega (arith, b .1, lines-most bytes, ltb-false 16777216 (length bytes) e))
