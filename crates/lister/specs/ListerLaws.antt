@@ -22,7 +22,8 @@ use Rattle.lister.specs.Lister.{listReply, listRows, entry, rowsOf}
 use Rattle.lister.specs.Found.{declaredAt, dataAt, entryAt}
 use Rattle.parts.specs.ScanLaws.{First, found-none}
 use Rattle.parts.specs.SetLaws.{remaining, line-at}
-use Rattle.parts.specs.TurnLaws.{Turn, closing-from}
+use Rattle.parts.specs.Turn.{Turn}
+use Rattle.parts.specs.TurnLaws.{closing-from}
 
 -- all of them are left at first
 pub sets-all : (file : List ℕ) → 0 + length (remaining file 0 0) ≡ length (partsOf file)
@@ -126,7 +127,6 @@ rows-left file n at i e t =
 
 -- the places of a set are in the file
 pub record Places (file : List ℕ) (e : Extent) : Type 0 where
-  pub body : e .body ≤ length file
   pub lines : e .lines < e .past
   pub first : e .first ≤ e .past
 
@@ -140,7 +140,6 @@ rows-places file n at e t =
     let a : f .set .lines < throughOf (f .set) = through-more (f .set) in
     let b : f .set .bytes ≤ closingStart (f .set) = closing-from (f .set) in
     record {
-      body = omega (arith, f .body, t .stands .inside);
       lines = omega (arith, f .lines, f .through, t .lines);
       first = omega (arith, f .first, f .past, t .stands .later);
     }

@@ -4,5 +4,6 @@ pub mod Scan
 pub mod Function
 pub mod ScanLaws
 pub mod SetLaws
+pub mod Turn
 pub mod TurnLaws
 pub mod FunctionLaws

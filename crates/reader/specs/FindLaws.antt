@@ -13,7 +13,8 @@ use Rattle.parts.specs.Parts.{Part, partsOf, numberOf, isFunction, lineOf, clos
 use Rattle.parts.specs.Scan.{lineFrom, firstOf}
 use Rattle.parts.specs.ScanLaws.{First, found-first, found-none}
 use Rattle.parts.specs.SetLaws.{remaining, Somewhere, somewhere}
-use Rattle.parts.specs.TurnLaws as Turns
+use Rattle.parts.specs.Turn.{Between}
+use Rattle.parts.specs.TurnLaws.{turn, between-none}
 use Rattle.parts.specs.Function.{caseOf, countOf}
 use Rattle.parts.specs.FunctionLaws.{lineFrom-own}
 use Rattle.reader.specs.Reader.{setsFrom}
@@ -24,30 +25,23 @@ pub sets-remain : (file : List ℕ) → partsOf file ≡ remaining file 0 0
 unfolding partsOf
 sets-remain file = refl
 
--- a set more is passed
-pub record Turn (file : List ℕ) (i n at : ℕ) : Type 0 where
-  pub within : at ≤ length file
-  pub lines : n ≤ at
-  pub sets : drop (i + 1) (partsOf file) ≡ remaining file n at
-
 -- one turn of the loop over sets, after i of them
-module _ (file : List ℕ) (i n at : ℕ) (e : Extent) (a : at ≤ length file) (q : drop i (partsOf file) ≡ remaining file n at) (f : e ≡ firstOf (remaining file n at)) where
-  pub turn : n ≤ at → e .found ≡ true → Turn file i (e .through) (e .past)
-  turn h t =
-      let w = Turns.turn file n at e a h f t in
-      record { within = w .within; lines = w .lines; sets = sym (drop-drop 1 i (partsOf file)) ∙ ap (drop 1) (q ∙ w .first .sets) ∙ w .others }
+module _ (file : List ℕ) (i n at : ℕ) (e : Extent) (b : Between file n at e) (q : drop i (partsOf file) ≡ remaining file n at) where
+  -- a set more is passed
+  pub sets-left : e .found ≡ true → drop (i + 1) (partsOf file) ≡ remaining file (e .through) (e .past)
+  sets-left t = let w = turn file n at e b t in sym (drop-drop 1 i (partsOf file)) ∙ ap (drop 1) (q ∙ w .first .sets) ∙ w .others
 
   -- no set is left
   pub no-set : (k : ℕ) → i ≤ k → e .found ≡ false → e ≡ firstOf (drop k (partsOf file))
   no-set k h t =
       let z : i + (k - i) ≡ k = omega arith in
-      let r : drop i (partsOf file) ≡ [] = q ∙ found-none (remaining file n at) e f t in
+      let r : drop i (partsOf file) ≡ [] = q ∙ between-none file n at e b t in
       let d : drop k (partsOf file) ≡ [] = ap (λ (x : ℕ). drop x (partsOf file)) (sym z) ∙ sym (drop-drop (k - i) i (partsOf file)) ∙ ap (drop (k - i)) r ∙ drop-nil (k - i) in
-      f ∙ ap firstOf (found-none (remaining file n at) e f t ∙ sym d)
+      b .next ∙ ap firstOf (between-none file n at e b t ∙ sym d)
 
   -- the set asked for
   pub set-found : (k : ℕ) → i ≤ k → k ≤ i → e ≡ firstOf (drop k (partsOf file))
-  set-found k h l = let z : k ≡ i = omega arith in f ∙ ap firstOf (sym q ∙ ap (λ (x : ℕ). drop x (partsOf file)) (sym z))
+  set-found k h l = let z : k ≡ i = omega arith in b .next ∙ ap firstOf (sym q ∙ ap (λ (x : ℕ). drop x (partsOf file)) (sym z))
 
 -- the set asked for stands in the file
 pub stands : (file : List ℕ) (set : ℕ) (p : Part) (ps : List Part) → setsFrom file set ≡ p ∷ ps → Somewhere file p ps

@@ -11,10 +11,9 @@ use lib.Seq.{drop-cons, drop-set-lt, getD-set-same, drop-length}
 use Rattle.parts.specs.Parts.{bytesIn, Part, partsOf, numberOf, lineStart, closingStart, pastOf, throughOf}
 use Rattle.parts.specs.PartsLaws.{bytesIn-append}
 use Rattle.parts.specs.declared.Extent.{Extent}
-use Rattle.parts.specs.Scan.{firstOf}
-use Rattle.parts.specs.ScanLaws.{found-none}
 use Rattle.parts.specs.SetLaws.{remaining, Standing, standing}
-use Rattle.parts.specs.TurnLaws as Turns
+use Rattle.parts.specs.Turn.{Between, Turn}
+use Rattle.parts.specs.TurnLaws.{between-none}
 use Rattle.judge.specs.declared.Reply.{Reply}
 use Rattle.judge.specs.Judge.{judged, reply}
 use Rattle.output.specs.Output.{Put, ended, placed}
@@ -145,40 +144,25 @@ pub file-most : (file : List ℕ) → length (rewrittenFile file) ≤ 7 * length
 file-most file = omega (arith, rewritten-most file 0 0 (partsOf file) (omega arith) (remaining-file file))
 
 -- one turn of the loop over sets: from the byte at on, the set that stands where e says
-pub record Turn (file : List ℕ) (n at : ℕ) (e : Extent) : Type 0 where
-  pub text : rewritten (remaining file n at) ≡ setText (e .number) (linesIn (e .closing) (e .body) file) ++ rewritten (remaining file (e .through) (e .past))
-  pub body : e .body ≤ length file
-  pub later : at < e .past
-  pub past : e .past ≤ length file
-  pub lines : e .through ≤ e .past
-
-module _ (file : List ℕ) (n at : ℕ) (e : Extent) (a : at ≤ length file) (q : e ≡ firstOf (remaining file n at)) where
+module _ (file : List ℕ) (n at : ℕ) (e : Extent) where
   text-of : (p : Part) (ps : List Part) → remaining file n at ≡ p ∷ ps → Standing file n at p ps → ps ≡ remaining file (e .through) (e .past)
       → e .number ≡ numberOf p → e .body ≡ lineStart p 0 → e .closing ≡ closingStart p
       → rewritten (remaining file n at) ≡ setText (e .number) (linesIn (e .closing) (e .body) file) ++ rewritten (remaining file (e .through) (e .past))
   unfolding rewritten rewrittenSet
   text-of p ps sets s rest number body closing = rw (sets, ← rest, number, body, closing, lines-own file n at p ps s) refl
 
-  pub set-turn : n ≤ at → e .found ≡ true → Turn file n at e
-  set-turn l h =
-      let t = Turns.turn file n at e a l q h in
-      let f = t .first in
-      record {
-        text = text-of (f .set) (f .others) (f .sets) (t .stands) (t .others) (f .number) (f .body) (f .closing);
-        body = subst (λ (x : ℕ). x ≤ length file) (sym (f .body)) (t .stands .inside);
-        later = t .onward;
-        past = t .within;
-        lines = t .lines;
-      }
+  pub turn-text : Turn file n at e
+      → rewritten (remaining file n at) ≡ setText (e .number) (linesIn (e .closing) (e .body) file) ++ rewritten (remaining file (e .through) (e .past))
+  turn-text t = let f = t .first in text-of (f .set) (f .others) (f .sets) (t .stands) (t .others) (f .number) (f .body) (f .closing)
 
-  pub set-none : e .found ≡ false → rewritten (remaining file n at) ≡ []
+  pub turn-none : Between file n at e → e .found ≡ false → rewritten (remaining file n at) ≡ []
   unfolding rewritten
-  set-none h = rw (found-none (remaining file n at) e q h) refl
+  turn-none b h = rw (between-none file n at e b h) refl
 
 pub turn-length : (file : List ℕ) (n at : ℕ) (e : Extent) → Turn file n at e
     → length (rewritten (remaining file n at)) ≡ (length (bodyText (e .closing) (e .body) file) + 21) + length (rewritten (remaining file (e .through) (e .past)))
 turn-length file n at e t =
-    omega (arith, ap length (t .text), length-append (setText (e .number) (linesIn (e .closing) (e .body) file)) (rewritten (remaining file (e .through) (e .past))), setText-length (e .number) (linesIn (e .closing) (e .body) file))
+    omega (arith, ap length (turn-text file n at e t), length-append (setText (e .number) (linesIn (e .closing) (e .body) file)) (rewritten (remaining file (e .through) (e .past))), setText-length (e .number) (linesIn (e .closing) (e .body) file))
 
 -- the set that stands there, put into the buffer
 module _ (file out : List ℕ) (fits : length (rewrittenFile file) ≤ length out) (n at : ℕ) (e : Extent) (t : Turn file n at e) (past : ℕ) (now : List ℕ)
@@ -186,14 +170,14 @@ module _ (file out : List ℕ) (fits : length (rewrittenFile file) ≤ length ou
   pub set-room : past + length (setText (e .number) (linesIn (e .closing) (e .body) file)) ≤ length now
   set-room =
       put-room 0 (rewrittenFile file) out past (rewritten (remaining file n at)) now p (omega arith) (setText (e .number) (linesIn (e .closing) (e .body) file))
-      (rewritten (remaining file (e .through) (e .past))) (t .text)
+      (rewritten (remaining file (e .through) (e .past))) (turn-text file n at e t)
 
   pub set-next : (r : ℕ) (then : List ℕ) → r ≡ past + length (setText (e .number) (linesIn (e .closing) (e .body) file))
       → then ≡ placed past (setText (e .number) (linesIn (e .closing) (e .body) file)) now
       → Put 0 (rewrittenFile file) out r (rewritten (remaining file (e .through) (e .past))) then
   set-next r then q o =
       put-next 0 (rewrittenFile file) out past (rewritten (remaining file n at)) now p (omega arith) (setText (e .number) (linesIn (e .closing) (e .body) file))
-      (rewritten (remaining file (e .through) (e .past))) (t .text) r then q o
+      (rewritten (remaining file (e .through) (e .past))) (turn-text file n at e t) r then q o
 
 -- the buffer after a refusal, and after a text
 refused-out : (file out : List ℕ) (r : Reply) → r ≡ rewriteReply file (length out) → 0 < r .number → out ≡ rewriteOut file out

@@ -1,13 +1,14 @@
 -- `lister::put_rows` meets its contract.
-use mathlib.Core.Path.{_≡_, refl, sym, _∙_}
+use mathlib.Core.Path.{_≡_, refl, _∙_}
 use mathlib.Core.List.{List, _++_}
 use Prim.Native.Nat.{ℕ, _≤_, _-_, _+_, _*_}
 use lib.ListN.{length, take, drop}
 use borrow.Rule.Slice.PartMut.{same-len-mid}
+use Rattle.parts.specs.declared.Extent.{Extent}
 use Rattle.parts.specs.Parts.{partsOf}
-use Rattle.parts.specs.Scan.{firstOf}
 use Rattle.parts.specs.SetLaws.{remaining}
-use Rattle.parts.specs.TurnLaws.{Turn, turn}
+use Rattle.parts.specs.Turn.{Between}
+use Rattle.parts.specs.TurnLaws.{turn, between-start, between-next}
 use Rattle.lister.specs.Lister.{rowsOf}
 use Rattle.lister.specs.ListerLaws.{rows-count, rows-start, rows-room, rows-places, rows-left, rows-turn, rows-kept, rows-done, row-length}
 use borrow.Author.Needs.{needs}
@@ -15,9 +16,16 @@ use native.Mathlib.Omega.{arith}
 use Rattle.lister.proofs.put_rows.Statement.{statement}
 use Rattle.lister.proofs.put_rows.Tie as tie
 
+-- the rows up to place i are laid out, the places from there on are as they were
+record Laid (file rows₀ rows : List ℕ) (i lines at : ℕ) (e : Extent) : Type 0 where
+  between : Between file lines at e
+  same : length rows ≡ length rows₀
+  left : i + 6 * length (remaining file lines at) ≡ 6 * length (partsOf file)
+  laid : take i rows ++ rowsOf (remaining file lines at) ≡ rowsOf (partsOf file)
+  kept : drop i rows ≡ drop i rows₀
+
 abbrev Inv-loop : tie.InvT-loop
-Inv-loop file rows₀ i₀ at₀ lines₀ e₀ rows i at lines e =
-    (at ≤ length file) × ((lines ≤ at) × ((e ≡ firstOf (remaining file lines at)) × ((length rows ≡ length rows₀) × ((i + 6 * length (remaining file lines at) ≡ 6 * length (partsOf file)) × ((take i rows ++ rowsOf (remaining file lines at) ≡ rowsOf (partsOf file)) × (drop i rows ≡ drop i rows₀))))))
+Inv-loop file rows₀ i₀ at₀ lines₀ e₀ rows i at lines e = Laid file rows₀ rows i lines at e
 
 abbrev μ-loop : tie.MeasureT-loop
 μ-loop file rows₀ i₀ at₀ lines₀ e₀ rows i at lines e = length file - at
@@ -28,12 +36,14 @@ next-set-requires c κs = search needs
 loop-holds : tie.Need-loop-holds Inv-loop μ-loop
 loop-holds c =
     let at-start = c .before .before .before in
-    (search needs, (search needs, (c .next-set .ensures, (refl, (rows-count (at-start .args .file .now), (rows-start (at-start .args .file .now) (at-start .args .rows .now), refl))))))
+    let file : List ℕ = at-start .args .file .now in
+    record { between = between-start file _ (c .next-set .ensures); same = refl; left = rows-count file; laid = rows-start file (at-start .args .rows .now); kept = refl }
 
 add-past : tie.Need-add-past Inv-loop μ-loop
 add-past c =
+    let inv = c .before .loop .inv in
     let at-pre = c .before .before .before .before .before in
-    omega (arith, rows-room _ _ _ _ _ _ (turn _ _ _ _ (c .before .loop .inv .0) (c .before .loop .inv .1 .0) (c .before .loop .inv .1 .1 .0) (c .loop-test .taken)) (c .before .loop .inv .1 .1 .1 .1 .0) (at-pre .pre .1), c .before .loop .inv .1 .1 .1 .0)
+    omega (arith, rows-room _ _ _ _ _ _ (turn _ _ _ _ (inv .between) (c .loop-test .taken)) (inv .left) (at-pre .pre .1), inv .same)
 
 mul-put-row : tie.Need-mul-put-row Inv-loop μ-loop
 mul-put-row c = search needs
@@ -46,61 +56,58 @@ part-put-row-start c = search needs
 
 part-put-row-end : tie.Need-part-put-row-end Inv-loop μ-loop
 part-put-row-end c =
+    let inv = c .before .loop .inv in
     let at-pre = c .before .before .before .before .before in
-    omega (arith, rows-room _ _ _ _ _ _ (turn _ _ _ _ (c .before .loop .inv .0) (c .before .loop .inv .1 .0) (c .before .loop .inv .1 .1 .0) (c .loop-test .taken)) (c .before .loop .inv .1 .1 .1 .1 .0) (at-pre .pre .1), c .before .loop .inv .1 .1 .1 .0)
+    omega (arith, rows-room _ _ _ _ _ _ (turn _ _ _ _ (inv .between) (c .loop-test .taken)) (inv .left) (at-pre .pre .1), inv .same)
 
 put-row-requires : tie.Need-put-row-requires Inv-loop μ-loop
 put-row-requires c κs =
     let at-loop = c .before .before in
+    let inv = at-loop .loop .inv in
     let at-pre = at-loop .before .before .before .before in
-    let t = turn _ _ _ _ (at-loop .loop .inv .0) (at-loop .loop .inv .1 .0) (at-loop .loop .inv .1 .1 .0) (c .before .loop-test .taken) in
+    let t = turn _ _ _ _ (inv .between) (c .before .loop-test .taken) in
     let p = rows-places _ _ _ _ t in
-    (row-length (at-loop .loop .rows) (at-loop .loop .i) (omega (arith, rows-room _ _ _ _ _ _ (turn _ _ _ _ (at-loop .loop .inv .0) (at-loop .loop .inv .1 .0) (at-loop .loop .inv .1 .1 .0) (c .before .loop-test .taken)) (at-loop .loop .inv .1 .1 .1 .1 .0) (at-pre .pre .1), at-loop .loop .inv .1 .1 .1 .0)), (at-pre .pre .0, (p .body, (p .lines, (p .first, t .within)))))
+    let room : at-loop .loop .i + 6 ≤ length (at-loop .loop .rows) = omega (arith, rows-room _ _ _ _ _ _ t (inv .left) (at-pre .pre .1), inv .same) in
+    (row-length (at-loop .loop .rows) (at-loop .loop .i) room, (at-pre .pre .0, (t .body, (p .lines, (p .first, t .within)))))
 
 next-set-requires-2 : tie.Need-next-set-requires-2 Inv-loop μ-loop
 next-set-requires-2 c κs =
     let at-loop-test = c .before .before .before .before in
-    let at-loop = at-loop-test .before in
-    let t = turn _ _ _ _ (at-loop .loop .inv .0) (at-loop .loop .inv .1 .0) (at-loop .loop .inv .1 .1 .0) (at-loop-test .loop-test .taken) in (t .within, t .lines)
+    let t = turn _ _ _ _ (at-loop-test .before .loop .inv .between) (at-loop-test .loop-test .taken) in (t .within, t .lines)
 
 loop-less : tie.Need-loop-less Inv-loop μ-loop
 loop-less c =
     let at-loop-test = c .before .before .before .before .before in
-    let at-loop = at-loop-test .before in
-    let t = turn _ _ _ _ (at-loop .loop .inv .0) (at-loop .loop .inv .1 .0) (at-loop .loop .inv .1 .1 .0) (at-loop-test .loop-test .taken) in omega (arith, t .onward, t .within)
+    let t = turn _ _ _ _ (at-loop-test .before .loop .inv .between) (at-loop-test .loop-test .taken) in omega (arith, t .onward, t .within)
 
 loop-again : tie.Need-loop-again Inv-loop μ-loop
 loop-again c =
     let at-put-row = c .before .before .before in
     let at-loop-test = at-put-row .before .before in
     let at-loop = at-loop-test .before in
+    let inv = at-loop .loop .inv in
     let at-pre = at-loop .before .before .before .before in
-    let t = turn _ _ _ _ (at-loop .loop .inv .0) (at-loop .loop .inv .1 .0) (at-loop .loop .inv .1 .1 .0) (at-loop-test .loop-test .taken) in
-    let l : at-loop .loop .i + 6 ≤ length (at-loop .loop .rows) = omega (arith, rows-room _ _ _ _ _ _ t (at-loop .loop .inv .1 .1 .1 .1 .0) (at-pre .pre .1), at-loop .loop .inv .1 .1 .1 .0) in (
-      t .within,
-      (
-        t .lines,
-        (
-          c .next-set2 .ensures,
-          (
-            same-len-mid {X = ℕ} (at-loop .loop .i) (at-loop .loop .i + 6 - at-loop .loop .i) (at-loop .loop .rows) (at-put-row .put-row .last .0) (at-put-row .put-row .kept .0) ∙ at-loop .loop .inv .1 .1 .1 .0,
-            (
-              rows-left _ _ _ _ _ t ∙ at-loop .loop .inv .1 .1 .1 .1 .0,
-              (
-                rows-turn _ _ _ _ _ _ _ t l (at-put-row .put-row .ensures) ∙ at-loop .loop .inv .1 .1 .1 .1 .1 .0,
-                rows-kept _ _ _ _ _ _ _ t l (at-put-row .put-row .ensures) _ (at-loop .loop .inv .1 .1 .1 .1 .1 .1),
-              ),
-            ),
-          ),
-        ),
-      ),
-    )
+    let found = at-loop-test .loop-test .taken in
+    let row = at-put-row .put-row .ensures in
+    let t = turn _ _ _ _ (inv .between) found in
+    let i : ℕ = at-loop .loop .i in
+    let rows : List ℕ = at-loop .loop .rows in
+    let l : i + 6 ≤ length rows = omega (arith, rows-room _ _ _ _ _ _ t (inv .left) (at-pre .pre .1), inv .same) in
+    record {
+      between = between-next _ _ _ _ (inv .between) found _ (c .next-set2 .ensures);
+      same = same-len-mid {X = ℕ} i (i + 6 - i) rows (at-put-row .put-row .last .0) (at-put-row .put-row .kept .0) ∙ inv .same;
+      left = rows-left _ _ _ _ _ t ∙ inv .left;
+      laid = rows-turn _ _ _ _ _ _ _ t l row ∙ inv .laid;
+      kept = rows-kept _ _ _ _ _ _ _ t l row _ (inv .kept);
+    }
 
 same-length : tie.Need-same-length Inv-loop μ-loop
-same-length c = c .before .loop .inv .1 .1 .1 .0
+same-length c = c .before .loop .inv .same
 
 returns : tie.Need-returns Inv-loop μ-loop
-returns c = rows-done _ _ _ _ _ _ _ (c .before .loop .inv .1 .1 .0) (c .loop-test .left) (c .before .loop .inv .1 .1 .1 .1 .0) (c .before .loop .inv .1 .1 .1 .1 .1 .0) (c .before .loop .inv .1 .1 .1 .1 .1 .1)
+returns c =
+    let inv = c .before .loop .inv in
+    rows-done _ _ _ _ _ _ _ (inv .between .next) (c .loop-test .left) (inv .left) (inv .laid) (inv .kept)
 
 pub put-rows-spec : {M : Type 1} → statement M
 put-rows-spec =

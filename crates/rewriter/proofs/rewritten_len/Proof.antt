@@ -1,18 +1,26 @@
 -- `rewriter::rewritten_len` meets its contract.
 use mathlib.Core.Path.{_≡_, ap}
-use Prim.Native.Nat.{_≤_, _+_, _-_}
+use mathlib.Core.List.{List}
+use Prim.Native.Nat.{ℕ, _+_, _-_}
 use lib.ListN.{length}
-use Rattle.parts.specs.Scan.{firstOf}
+use Rattle.parts.specs.declared.Extent.{Extent}
 use Rattle.parts.specs.SetLaws.{remaining}
+use Rattle.parts.specs.Turn.{Between}
+use Rattle.parts.specs.TurnLaws.{turn, between-start, between-next}
 use Rattle.rewriter.specs.Rewriter.{rewritten, rewrittenFile}
-use Rattle.rewriter.specs.PutLaws.{rewritten-start, file-most, set-turn, set-none, turn-length}
+use Rattle.rewriter.specs.PutLaws.{rewritten-start, file-most, turn-none, turn-length}
 use borrow.Author.Needs.{needs}
 use native.Mathlib.Omega.{arith}
 use Rattle.rewriter.proofs.rewritten_len.Statement.{statement}
 use Rattle.rewriter.proofs.rewritten_len.Tie as tie
 
+-- n is the length of the sets passed
+record Measured (file : List ℕ) (n lines at : ℕ) (set : Extent) : Type 0 where
+  between : Between file lines at set
+  measured : n + length (rewritten (remaining file lines at)) ≡ length (rewrittenFile file)
+
 abbrev Inv-loop : tie.InvT-loop
-Inv-loop file n₀ at₀ lines₀ set₀ n at lines set = (at ≤ length file) × ((lines ≤ at) × ((set ≡ firstOf (remaining file lines at)) × (n + length (rewritten (remaining file lines at)) ≡ length (rewrittenFile file))))
+Inv-loop file n₀ at₀ lines₀ set₀ n at lines set = Measured file n lines at set
 
 abbrev μ-loop : tie.MeasureT-loop
 μ-loop file n₀ at₀ lines₀ set₀ n at lines set = length file - at
@@ -21,40 +29,48 @@ next-set-requires : tie.Need-next-set-requires Inv-loop μ-loop
 next-set-requires c κs = search needs
 
 loop-holds : tie.Need-loop-holds Inv-loop μ-loop
-loop-holds c = (search needs, (search needs, (c .next-set .ensures, omega (arith, ap length (rewritten-start (c .before .before .args .file .now))))))
+loop-holds c =
+    let file : List ℕ = c .before .before .args .file .now in
+    record { between = between-start file _ (c .next-set .ensures); measured = omega (arith, ap length (rewritten-start file)) }
 
 body-len-requires : tie.Need-body-len-requires Inv-loop μ-loop
-body-len-requires c κs = set-turn _ _ _ _ (c .before .loop .inv .0) (c .before .loop .inv .1 .1 .0) (c .before .loop .inv .1 .0) (c .loop-test .taken) .body
+body-len-requires c κs = turn _ _ _ _ (c .before .loop .inv .between) (c .loop-test .taken) .body
 
 add-n : tie.Need-add-n Inv-loop μ-loop
 add-n c =
-    let at-loop = c .before .before in
-    let at-pre = at-loop .before .before .before in
-    omega (arith, c .body-len .ensures, at-loop .loop .inv .1 .1 .1, at-pre .pre, turn-length _ _ _ _ (set-turn _ _ _ _ (at-loop .loop .inv .0) (at-loop .loop .inv .1 .1 .0) (at-loop .loop .inv .1 .0) (c .before .loop-test .taken)), file-most (at-pre .args .file .now))
+    let inv = c .before .before .loop .inv in
+    let at-pre = c .before .before .before .before .before in
+    let t = turn _ _ _ _ (inv .between) (c .before .loop-test .taken) in
+    omega (arith, c .body-len .ensures, inv .measured, at-pre .pre, turn-length _ _ _ _ t, file-most (at-pre .args .file .now))
 
 add-n-2 : tie.Need-add-n-2 Inv-loop μ-loop
 add-n-2 c =
-    let at-loop = c .before .before in
-    let at-pre = at-loop .before .before .before in
-    omega (arith, c .body-len .ensures, at-loop .loop .inv .1 .1 .1, at-pre .pre, turn-length _ _ _ _ (set-turn _ _ _ _ (at-loop .loop .inv .0) (at-loop .loop .inv .1 .1 .0) (at-loop .loop .inv .1 .0) (c .before .loop-test .taken)), file-most (at-pre .args .file .now))
+    let inv = c .before .before .loop .inv in
+    let at-pre = c .before .before .before .before .before in
+    let t = turn _ _ _ _ (inv .between) (c .before .loop-test .taken) in
+    omega (arith, c .body-len .ensures, inv .measured, at-pre .pre, turn-length _ _ _ _ t, file-most (at-pre .args .file .now))
 
 next-set-requires-2 : tie.Need-next-set-requires-2 Inv-loop μ-loop
-next-set-requires-2 c κs =
-    let at-loop = c .before .before in
-    let t = set-turn _ _ _ _ (at-loop .loop .inv .0) (at-loop .loop .inv .1 .1 .0) (at-loop .loop .inv .1 .0) (c .before .loop-test .taken) in (t .past, t .lines)
+next-set-requires-2 c κs = let t = turn _ _ _ _ (c .before .before .loop .inv .between) (c .before .loop-test .taken) in (t .within, t .lines)
 
 loop-less : tie.Need-loop-less Inv-loop μ-loop
 loop-less c =
-    let at-loop = c .before .before .before in
-    let t = set-turn _ _ _ _ (at-loop .loop .inv .0) (at-loop .loop .inv .1 .1 .0) (at-loop .loop .inv .1 .0) (c .before .before .loop-test .taken) in omega (arith, t .later, t .past)
+    let t = turn _ _ _ _ (c .before .before .before .loop .inv .between) (c .before .before .loop-test .taken) in omega (arith, t .onward, t .within)
 
 loop-again : tie.Need-loop-again Inv-loop μ-loop
 loop-again c =
-    let at-loop = c .before .before .before in
-    let t = set-turn _ _ _ _ (at-loop .loop .inv .0) (at-loop .loop .inv .1 .1 .0) (at-loop .loop .inv .1 .0) (c .before .before .loop-test .taken) in (t .past, (t .lines, (c .next-set2 .ensures, omega (arith, c .before .body-len .ensures, at-loop .loop .inv .1 .1 .1, turn-length _ _ _ _ t))))
+    let inv = c .before .before .before .loop .inv in
+    let found = c .before .before .loop-test .taken in
+    let t = turn _ _ _ _ (inv .between) found in
+    record {
+      between = between-next _ _ _ _ (inv .between) found _ (c .next-set2 .ensures);
+      measured = omega (arith, c .before .body-len .ensures, inv .measured, turn-length _ _ _ _ t);
+    }
 
 returns : tie.Need-returns Inv-loop μ-loop
-returns c = omega (arith, c .before .loop .inv .1 .1 .1, ap length (set-none _ _ _ _ (c .before .loop .inv .0) (c .before .loop .inv .1 .1 .0) (c .loop-test .left)))
+returns c =
+    let inv = c .before .loop .inv in
+    omega (arith, inv .measured, ap length (turn-none _ _ _ _ (inv .between) (c .loop-test .left)))
 
 pub rewritten-len-spec : {M : Type 1} → statement M
 rewritten-len-spec =
