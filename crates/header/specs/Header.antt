@@ -13,6 +13,7 @@ use Rattle.walk.specs.declared.State.{State}
 use Rattle.walk.specs.Due.{opening}
 use Rattle.walk.specs.Step.{state}
 use Rattle.judge.specs.Judge.{lineStep, Run, going, refused, onOutcome, reply}
+use Rattle.rows.specs.Sequence.{headerLines, kind58}
 use Rattle.header.specs.declared.Header.{Header}
 
 -- number and place, and where the number is 0 the case of the 58 and how many numbers it stores
@@ -21,7 +22,7 @@ answer n p c s = record { number = n; place = p; case = c; stored = s }
 
 -- a 58 opens, before its line 1
 abbrev pub opened : State
-opened = state (Typed (opening 0)) 1
+opened = state (Typed (opening kind58)) 1
 
 -- the number of a line past the eleventh: its own refusal's, otherwise 8
 abbrev pub pastNumber : ℕ → ℕ
@@ -30,7 +31,7 @@ pastNumber (suc m) = suc m
 
 -- one line more
 abbrev pub headerStep : Run → List ℕ → Run
-headerStep (going s n) l = pick (ltb n 11) (onOutcome n (lineStep s l)) (refused (reply (pastNumber (lineFault true (columns true l) .number)) (n + 1)))
+headerStep (going s n) l = pick (ltb n headerLines) (onOutcome n (lineStep s l)) (refused (reply (pastNumber (lineFault true (columns true l) .number)) (n + 1)))
 headerStep (refused r) l = refused r
 
 -- what eleven lines leave due: the numbers of the data lines. No other place is left (`writing`: `refused-place`)
@@ -42,7 +43,7 @@ leaves (Typed d) = answer 0 0 (d .case) (d .left)
 
 -- at the end, with the bytes after the last LF
 abbrev pub headerEnd : Run → List ℕ → Header
-headerEnd (going s n) [] = pick (ltb n 11) (answer 7 (n + 1) 0 0) (leaves (s .place))
+headerEnd (going s n) [] = pick (ltb n headerLines) (answer 7 (n + 1) 0 0) (leaves (s .place))
 headerEnd (going s n) (b ∷ bs) = answer (lineFault false (b ∷ bs) .number) (n + 1) 0 0
 headerEnd (refused r) rest = answer (r .number) (r .place) 0 0
 

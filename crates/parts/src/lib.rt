@@ -7,6 +7,7 @@ ghost use Rattle.kind.specs.Kind.{datasetNumber};
 ghost use lib.ListN.{length, drop};
 ghost use Rattle.laws.specs.Cut.{cut};
 ghost use Rattle.parts.specs.Parts.{columnsIn, closes, outside, partsFrom};
+ghost use Rattle.rows.specs.Sequence.{lineSeven};
 ghost use Rattle.walk.specs.Due.{numberIn, caseIn};
 ghost use Rattle.parts.specs.Scan.{lineFrom, firstOf, seenStep, skipTo, columnsAt};
 
@@ -193,19 +194,19 @@ pub fn put_line_at(row: &mut [u8; 80], file: &[u8], from: usize, closing: usize,
 // The count that the seventh of these lines declares, as in a 58.
 pub fn count_in(file: &[u8], from: usize, closing: usize) -> u32
     requires { ⌜ from ≤ length (now file) ⌝ }
-    ensures { λ r. ⌜ r ≡ numberIn 10 20 (lineFrom closing from (now (file .entry)) 6) ⌝ }
+    ensures { λ r. ⌜ r ≡ numberIn 10 20 (lineFrom closing from (now (file .entry)) lineSeven) ⌝ }
 {
     let mut row = [32u8; 80];
-    put_line_at(&mut row, file, from, closing, 6);
+    put_line_at(&mut row, file, from, closing, rows::LINE_SEVEN);
     walk::number_in(&row, 10, 20)
 }
 
 // The case that the seventh of these lines names, as in a 58.
 pub fn case_in(file: &[u8], from: usize, closing: usize) -> usize
     requires { ⌜ from ≤ length (now file) ⌝ }
-    ensures { λ r. ⌜ r ≡ caseIn (lineFrom closing from (now (file .entry)) 6) ⌝ }
+    ensures { λ r. ⌜ r ≡ caseIn (lineFrom closing from (now (file .entry)) lineSeven) ⌝ }
 {
     let mut row = [32u8; 80];
-    put_line_at(&mut row, file, from, closing, 6);
+    put_line_at(&mut row, file, from, closing, rows::LINE_SEVEN);
     walk::case_in(&row)
 }

@@ -22,6 +22,7 @@ use Rattle.rows.specs.Records.{I, X, records, recordOf}
 use Rattle.record.specs.Written.{Stands, a-text, a-identification, an-integer, a-blank, a-real, FieldsIn, rest, skipped, stands, Written}
 use Rattle.theory.specs.Sets.{Set, numberAt}
 use Rattle.theory.specs.Proper.{SetLines}
+use Rattle.rows.specs.Sequence.{lineSeven}
 use Rattle.places.specs.Declared.{declared, caseOf}
 use Rattle.places.specs.DeclaredLaws.{seventh, typed-58}
 
@@ -115,7 +116,7 @@ record-case is line w =
 
 pub case-eight : {s : Set} {css : List (List ℕ)} → SetLines s css → s .number ≡ 58 → caseOf s < 8
 unfolding caseOf numberAt
-case-eight (SetLines.typed {n} {iss} {css} t l) e = record-case (getD iss 6 []) (filled (getD css 6 [])) (seventh iss css (rw e at l))
+case-eight (SetLines.typed {n} {iss} {css} t l) e = record-case (getD iss lineSeven []) (filled (getD css lineSeven [])) (seventh iss css (rw e at l))
 case-eight (SetLines.plain {n} t l) e = false-not-true (sym (rw e at t) ∙ typed-58)
 
 -- and declares one to 65,536 values
@@ -133,7 +134,7 @@ record-counted is line w =
 
 declared-counted : {s : Set} {css : List (List ℕ)} → SetLines s css → s .number ≡ 58 → (1 ≤ declared s) × (declared s ≤ 65536)
 unfolding declared numberAt
-declared-counted (SetLines.typed {n} {iss} {css} t l) e = rw e (record-counted (getD iss 6 []) (filled (getD css 6 [])) (seventh iss css (rw e at l)))
+declared-counted (SetLines.typed {n} {iss} {css} t l) e = rw e (record-counted (getD iss lineSeven []) (filled (getD css lineSeven [])) (seventh iss css (rw e at l)))
 declared-counted (SetLines.plain {n} t l) e = false-not-true (sym (rw e at t) ∙ typed-58)
 
 pub declared-some : {s : Set} {css : List (List ℕ)} → SetLines s css → s .number ≡ 58 → 1 ≤ declared s

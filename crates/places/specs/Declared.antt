@@ -4,11 +4,12 @@ use lib.Dec.{eqb}
 use Rattle.laws.specs.Choice.{pick}
 use Rattle.layout.specs.Layout as Layout
 use Rattle.theory.specs.Sets.{Set, numberAt}
+use Rattle.rows.specs.Sequence.{lineSeven}
 
 -- the declared count; 0 unless it is a 58
 unfoldable pub declared : Set → ℕ
-declared s = pick (eqb (s .number) 58) (numberAt (s .lines) 6 1) 0
+declared s = pick (eqb (s .number) 58) (numberAt (s .lines) lineSeven 1) 0
 
 -- the case, from 0
 unfoldable pub caseOf : Set → ℕ
-caseOf s = Layout.caseOf (numberAt (s .lines) 6 0) (numberAt (s .lines) 6 2)
+caseOf s = Layout.caseOf (numberAt (s .lines) lineSeven 0) (numberAt (s .lines) lineSeven 2)

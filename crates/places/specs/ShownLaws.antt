@@ -17,6 +17,7 @@ use Rattle.theory.specs.Sets.{Set}
 use Rattle.parts.specs.Parts as Parts
 use Rattle.parts.specs.Function as Function
 use Rattle.parts.specs.SetLaws.{Standing, Somewhere, line-bytes}
+use Rattle.rows.specs.Sequence.{headerLines}
 use Rattle.places.specs.Holds.{Holds}
 use Rattle.places.specs.Declared.{declared, caseOf}
 use Rattle.places.specs.DeclaredLaws.{declared-held, case-held}
@@ -48,7 +49,7 @@ module _ (file : List ℕ) (p : Parts.Part) (ps : List Parts.Part) (w : Somewher
   k = fieldOf (fieldsOf c) j
 
   abbrev line : ℕ
-  line = 11 + lineOf (fieldsOf c) j
+  line = headerLines + lineOf (fieldsOf c) j
 
   own-bytes : (i : Item) → Spelled i (ownColumns c p j) → ownColumns c p j ≡ take (Function.pastByte p j - Function.firstByte p j) (drop (Function.firstByte p j) file)
   unfolding ownColumns Parts.lineOf Function.firstByte Function.pastByte Function.dataLine

@@ -7,6 +7,7 @@ use Rattle.layout.specs.Columns.{lineOf, fieldOf}
 use Rattle.layout.specs.Layout.{fieldsOf, numbersOf}
 use Rattle.field.specs.Item.{Item, blank}
 use Rattle.theory.specs.Sets.{Set}
+use Rattle.rows.specs.Sequence.{headerLines}
 use Rattle.places.specs.Declared.{declared, caseOf}
 
 -- how many there are
@@ -15,4 +16,4 @@ storedCount s = declared s * numbersOf (caseOf s)
 
 -- number j
 unfoldable pub storedItem : Set → ℕ → Item
-storedItem s j = getD (getD (s .lines) (11 + lineOf (fieldsOf (caseOf s)) j) []) (fieldOf (fieldsOf (caseOf s)) j) blank
+storedItem s j = getD (getD (s .lines) (headerLines + lineOf (fieldsOf (caseOf s)) j) []) (fieldOf (fieldsOf (caseOf s)) j) blank

@@ -13,6 +13,7 @@ use Rattle.layout.specs.Layout.{layoutOf, fieldsOf, numbersOf}
 use Rattle.parts.specs.Parts.{Part, isFunction, lineStart, closingStart}
 use Rattle.parts.specs.Scan.{skipTo}
 use Rattle.parts.specs.Function.{caseOf, countOf}
+use Rattle.rows.specs.Sequence.{headerLines}
 use Rattle.reader.specs.declared.Read.{Read}
 use Rattle.reader.specs.declared.Data.{Data}
 use Rattle.reader.specs.declared.Span.{Span}
@@ -32,7 +33,7 @@ dataOf (p ∷ ps) = pick (isFunction p && ltb (caseOf p) 8) (data58 (lineStart p
 
 -- the first byte of the data line of stored number j
 unfoldable pub lineAt : List ℕ → Data → ℕ → ℕ
-lineAt file d j = skipTo (11 + lineOf (fieldsOf (d .case)) j) (d .closing) (d .body) (cut (drop (d .body) file) .lines)
+lineAt file d j = skipTo (headerLines + lineOf (fieldsOf (d .case)) j) (d .closing) (d .body) (cut (drop (d .body) file) .lines)
 
 -- its own columns
 unfoldable pub spanOf : List ℕ → Data → ℕ → Span

@@ -12,6 +12,7 @@ use Rattle.parts.specs.Parts.{Part, lineStart, closingStart}
 use Rattle.parts.specs.Scan.{skipTo}
 use Rattle.parts.specs.SetLaws.{Standing, line-at}
 use Rattle.parts.specs.Function.{caseOf, dataLine, firstByte, pastByte}
+use Rattle.rows.specs.Sequence.{headerLines}
 use Rattle.reader.specs.declared.Data.{Data}
 use Rattle.reader.specs.declared.Span.{Span}
 use Rattle.reader.specs.Find.{data58, lineAt, spanOf}
@@ -23,7 +24,7 @@ start-inside c k = fieldPast-inside c k
 
 -- by line, first column and width
 pub span-by : (file : List ℕ) (d : Data) (j n at s w : ℕ) → n ≡ fieldsOf (d .case)
-    → at ≡ skipTo (11 + j / n) (d .closing) (d .body) (cut (drop (d .body) file) .lines)
+    → at ≡ skipTo (headerLines + j / n) (d .closing) (d .body) (cut (drop (d .body) file) .lines)
     → s ≡ fieldStart (layoutOf (d .case) .widths) (j % n) → w ≡ getD (layoutOf (d .case) .widths) (j % n) 0
     → _≡_ {A = Span} (record { first = at + s; past = at + s + w }) (spanOf file d j)
 unfolding spanOf lineAt fieldPast lineOf fieldOf

@@ -97,6 +97,10 @@ records =
     ∷ plain (E 15 ∷ E 15 ∷ E 15 ∷ E 15 ∷ E 15 ∷ [])
     ∷ []
 
+-- how many they are; as a record's number it stands for none
+abbrev pub noRecord : ℕ
+noRecord = 30
+
 unfoldable pub recordOf : ℕ → Row
 recordOf k = getD records k (plain [])
 

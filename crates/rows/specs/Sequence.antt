@@ -6,13 +6,42 @@ use lib.Dec.{ltb, eqb}
 use lib.ListN.{getD}
 use Rattle.laws.specs.Choice.{pick}
 
--- "Typed sets are 58, 82, 151, 164 and 1815. A set of any other number is kept as plain lines": the typed sets by place from 0, 5 for
--- any other
+-- the kinds of sets
+abbrev pub kind58 : ℕ
+kind58 = 0
+
+abbrev pub kind82 : ℕ
+kind82 = 1
+
+abbrev pub kind151 : ℕ
+kind151 = 2
+
+abbrev pub kind164 : ℕ
+kind164 = 3
+
+abbrev pub kind1815 : ℕ
+kind1815 = 4
+
+abbrev pub untyped : ℕ
+untyped = 5
+
+-- how many records a 58 has before its data, how many before those of its axes, and the place of the one that says what the data are,
+-- its line 7, from 0
+abbrev pub headerLines : ℕ
+headerLines = 11
+
+abbrev pub beforeAxes : ℕ
+beforeAxes = 7
+
+abbrev pub lineSeven : ℕ
+lineSeven = 6
+
+-- "Typed sets are 58, 82, 151, 164 and 1815. A set of any other number is kept as plain lines"
 unfoldable pub kindOf : ℕ → ℕ
-kindOf n = pick (eqb n 58) 0 (pick (eqb n 82) 1 (pick (eqb n 151) 2 (pick (eqb n 164) 3 (pick (eqb n 1815) 4 5))))
+kindOf n = pick (eqb n 58) kind58 (pick (eqb n 82) kind82 (pick (eqb n 151) kind151 (pick (eqb n 164) kind164 (pick (eqb n 1815) kind1815 untyped))))
 
 unfoldable pub isTyped : ℕ → Bool
-isTyped n = ltb (kindOf n) 5
+isTyped n = ltb (kindOf n) untyped
 
 -- 58: lines 1 to 11; 82: the trace and its text; 151: "Seven lines"; 164: units, factors, offset; 1815: records 1 to 24
 unfoldable pub sequences : List (List ℕ)

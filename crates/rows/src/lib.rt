@@ -43,6 +43,29 @@ pub const DATA_FORM: usize = 3;
 
 pub const FACTORS: usize = 10;
 
+// How many records there are; as a record's number it stands for none.
+pub const NO_RECORD: usize = 30;
+
+// The kinds of sets: the typed ones, and any other.
+pub const KIND_58: usize = 0;
+
+pub const KIND_82: usize = 1;
+
+pub const KIND_151: usize = 2;
+
+pub const KIND_164: usize = 3;
+
+pub const KIND_1815: usize = 4;
+
+pub const UNTYPED: usize = 5;
+
+// How many records a 58 has before its data, how many before those of its axes, and the place of its line 7, from 0.
+pub const HEADER_LINES: usize = 11;
+
+pub const BEFORE_AXES: usize = 7;
+
+pub const LINE_SEVEN: usize = 6;
+
 // A record's fields: their forms, and their widths, which a width of 0 ends.
 pub struct RowNumbers {
     pub forms: [u8; 12],

@@ -11,6 +11,8 @@ use Rattle.field.specs.Item.{Item, blank, natural}
 use Rattle.rows.specs.Row.{Row}
 use Rattle.walk.specs.Due.{due, recordDue, rowDue, isClosed, settled, afterList, next}
 use Rattle.walk.specs.declared.Due.{Due}
+use Rattle.rows.specs.Records.{noRecord}
+use Rattle.rows.specs.Sequence.{kind58, kind82, kind1815, lineSeven, beforeAxes}
 
 -- the number at a place of a line's items, from 0
 unfoldable pub numberOf : List Item → ℕ → ℕ
@@ -23,17 +25,17 @@ caseFrom is = caseOf (numberOf is 0) (numberOf is 2)
 -- after a record: `afterRecord` by items
 unfoldable pub afterRecordItems : Due → List Item → Due
 afterRecordItems d is =
-    pick (eqb (d .kind) 0)
-    (pick (eqb (d .at) 6) (due 0 7 (caseFrom is) (numberOf is 1 * numbersOf (caseFrom is)) 0) (next d))
-    (pick (eqb (d .kind) 1)
-    (pick (eqb (d .at) 0) (due 1 1 0 (numberOf is 1) 0) (next d))
-    (pick (eqb (d .kind) 4)
-    (pick (eqb (d .at) 23) (settled (due 4 24 0 (numberOf is 0) (numberOf is 1))) (next d))
+    pick (eqb (d .kind) kind58)
+    (pick (eqb (d .at) lineSeven) (due kind58 beforeAxes (caseFrom is) (numberOf is 1 * numbersOf (caseFrom is)) 0) (next d))
+    (pick (eqb (d .kind) kind82)
+    (pick (eqb (d .at) 0) (due kind82 1 0 (numberOf is 1) 0) (next d))
+    (pick (eqb (d .kind) kind1815)
+    (pick (eqb (d .at) 23) (settled (due kind1815 24 0 (numberOf is 0) (numberOf is 1))) (next d))
     (next d)))
 
 -- after a line that passes: `after` by items
 unfoldable pub afterItems : Due → List Item → Due
-afterItems d is = pick (ltb (recordDue d) 30) (afterRecordItems d is) (afterList d)
+afterItems d is = pick (ltb (recordDue d) noRecord) (afterRecordItems d is) (afterList d)
 
 -- from this state, lines of these items have these rows, and after them the set is closed
 pub data Follows : Due → List (List Item) → List Row → Type 0 where

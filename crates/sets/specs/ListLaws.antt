@@ -11,6 +11,7 @@ use Rattle.laws.specs.Choice.{pick, and-right}
 use Rattle.field.specs.Item.{Item}
 use Rattle.walk.specs.Due.{due, recordDue, listRow, rowDue, isClosed, settled, afterList}
 use Rattle.walk.specs.declared.Due.{Due}
+use Rattle.rows.specs.Records.{noRecord}
 use Rattle.sets.specs.Follows.{afterItems}
 use Rattle.sets.specs.LinesForLaws.{listRows-none, listRows-more}
 use Rattle.sets.specs.Owed.{rowsLeft, Listing, Owes, Next}
@@ -31,7 +32,7 @@ unfolding rowsLeft listRow
 rowsLeft-settled d = settled-cases (λ (s : Due). rowsLeft s ≡ rowsLeft d) d (λ z. rw z (simp (listRows-none, append-nil))) (λ n. refl)
 
 -- a settled state with its records done stands in its lists
-pub listing-settled : (d : Due) → recordDue d ≡ 30 → 0 < length (listRow d .fields) → Listing (settled d)
+pub listing-settled : (d : Due) → recordDue d ≡ noRecord → 0 < length (listRow d .fields) → Listing (settled d)
 unfolding recordDue listRow
 listing-settled d p w =
     settled-cases
@@ -45,7 +46,7 @@ module _ (d : Due) (l : Listing d) where
   pub lists-closed : isClosed d ≡ true → rowsLeft d ≡ []
   unfolding isClosed rowsLeft
   lists-closed h =
-      let z : d .left ≡ 0 = eqb-true (d .left) 0 (and-right (leb 30 (recordDue d)) (eqb (d .left) 0) h) in
+      let z : d .left ≡ 0 = eqb-true (d .left) 0 (and-right (leb noRecord (recordDue d)) (eqb (d .left) 0) h) in
       rw (z, l .none z, listRows-none) refl
 
   -- a set that is not closed owes some numbers

@@ -7,8 +7,8 @@ use lib.ListN.{length, getD, drop}
 use Rattle.laws.specs.Choice.{pick}
 use Rattle.field.specs.Item.{Item}
 use Rattle.rows.specs.Row.{Row}
-use Rattle.rows.specs.Records.{recordOf}
-use Rattle.rows.specs.Sequence.{sequence}
+use Rattle.rows.specs.Records.{recordOf, noRecord}
+use Rattle.rows.specs.Sequence.{sequence, untyped}
 use Rattle.theory.specs.Due.{listRows, listsOf}
 use Rattle.walk.specs.Due.{due, opening, recordDue, listRow, rowDue}
 use Rattle.walk.specs.declared.Due.{Due}
@@ -20,7 +20,7 @@ Stands k a d = d ≡ due k a (d .case) (d .left) (d .second)
 
 -- the record that counts what follows the records, by its place from 0; 30, past them all, where a kind has none
 unfoldable pub countPlace : ℕ → ℕ
-countPlace k = getD (6 ∷ 0 ∷ 30 ∷ 30 ∷ 23 ∷ []) k 30
+countPlace k = getD (6 ∷ 0 ∷ noRecord ∷ noRecord ∷ 23 ∷ []) k noRecord
 
 -- what is known of the lists when this many records have come, of a set with these lines: nothing up to the record that counts
 unfoldable pub counted : ℕ → List (List Item) → ℕ → Due
@@ -36,14 +36,14 @@ rowsLeft d = listRows (listRow d) (d .left) ++ listRows (listRow d) (d .second)
 
 -- a state in the lists: the records are done, the first list is done only where the second is, and a full line holds some number
 pub record Listing (d : Due) : Type 0 where
-  pub past : recordDue d ≡ 30
+  pub past : recordDue d ≡ noRecord
   pub none : d .left ≡ 0 → d .second ≡ 0
   pub wide : 0 < d .left → 0 < length (listRow d .fields)
 
 -- the rows owed from a state, if lines of these items come: the records and lists that document 01 gives, or the lists alone
 pub data Owes : Due → List (List Item) → List Row → Type 0 where
   records : (k a : ℕ) (ls : List (List Item)) {iss : List (List Item)}
-      → k < 5 → a < length (sequence k) → drop a ls ≡ iss → Owes (reached k ls a) iss (map recordOf (drop a (sequence k)) ++ listsOf k ls)
+      → k < untyped → a < length (sequence k) → drop a ls ≡ iss → Owes (reached k ls a) iss (map recordOf (drop a (sequence k)) ++ listsOf k ls)
   lists : {d : Due} {iss : List (List Item)} → Listing d → Owes d iss (rowsLeft d)
 
 -- one line owed: its row, and what is owed after it

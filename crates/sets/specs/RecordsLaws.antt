@@ -16,8 +16,8 @@ use Rattle.laws.specs.Ranges.{allAre, in-range}
 use Rattle.field.specs.Item.{Item}
 use Rattle.layout.specs.Layout.{numbersOf, fieldsOf}
 use Rattle.layout.specs.LayoutLaws.{fieldsOf-some}
-use Rattle.rows.specs.Records.{records, recordOf, dataRow}
-use Rattle.rows.specs.Sequence.{sequences, sequence}
+use Rattle.rows.specs.Records.{records, recordOf, dataRow, noRecord}
+use Rattle.rows.specs.Sequence.{sequences, sequence, untyped}
 use Rattle.theory.specs.Sets.{numberAt}
 use Rattle.theory.specs.Due.{listsOf}
 use Rattle.walk.specs.Due.{due, opening, recordDue, listRow, rowDue, isClosed, settled}
@@ -28,7 +28,7 @@ use Rattle.sets.specs.LinesForLaws.{listRows-none}
 use Rattle.sets.specs.ListLaws.{settled-cases, rowsLeft-settled, listing-settled}
 
 -- the five kinds of typed sets, one by one
-kinds : (P : ℕ → Type 0) → P 0 → P 1 → P 2 → P 3 → P 4 → (k : ℕ) → k < 5 → P k
+kinds : (P : ℕ → Type 0) → P 0 → P 1 → P 2 → P 3 → P 4 → (k : ℕ) → k < untyped → P k
 kinds P a b c d e zero h = a
 kinds P a b c d e (suc zero) h = b
 kinds P a b c d e (suc (suc zero)) h = c
@@ -38,25 +38,25 @@ kinds P a b c d e (suc (suc (suc (suc (suc k))))) h = absurd (omega arith)
 
 -- the records of a kind are numbered below 30
 abbrev allBelow : ℕ → Bool
-allBelow k = allAre (λ (a : ℕ). ltb (getD (sequence k) a 30) 30) true 0 (length (sequence k))
+allBelow k = allAre (λ (a : ℕ). ltb (getD (sequence k) a noRecord) noRecord) true 0 (length (sequence k))
 
-sequence-below : (k a : ℕ) → k < 5 → a < length (sequence k) → ltb (getD (sequence k) a 30) 30 ≡ true
+sequence-below : (k a : ℕ) → k < untyped → a < length (sequence k) → ltb (getD (sequence k) a noRecord) noRecord ≡ true
 unfolding sequence sequences
 sequence-below k a h l =
-    in-range (λ (i : ℕ). ltb (getD (sequence k) i 30) 30) true 0 (length (sequence k)) a (in-range allBelow true 0 5 k refl (omega arith) (omega arith)) (omega arith) (omega arith)
+    in-range (λ (i : ℕ). ltb (getD (sequence k) i noRecord) noRecord) true 0 (length (sequence k)) a (in-range allBelow true 0 untyped k refl (omega arith) (omega arith)) (omega arith) (omega arith)
 
 -- and there are some
-sequence-some : (k : ℕ) → k < 5 → 0 < length (sequence k)
+sequence-some : (k : ℕ) → k < untyped → 0 < length (sequence k)
 unfolding sequence sequences
-sequence-some k h = ltb-true 0 (length (sequence k)) (in-range (λ (i : ℕ). ltb 0 (length (sequence i))) true 0 5 k refl (omega arith) (omega arith))
+sequence-some k h = ltb-true 0 (length (sequence k)) (in-range (λ (i : ℕ). ltb 0 (length (sequence i))) true 0 untyped k refl (omega arith) (omega arith))
 
 -- the line of a record is read as one
-afterItems-record : (k a c l s : ℕ) (is : List Item) → k < 5 → a < length (sequence k) → afterItems (due k a c l s) is ≡ afterRecordItems (due k a c l s) is
+afterItems-record : (k a c l s : ℕ) (is : List Item) → k < untyped → a < length (sequence k) → afterItems (due k a c l s) is ≡ afterRecordItems (due k a c l s) is
 unfolding afterItems recordDue
 afterItems-record k a c l s is h p = rw (sequence-below k a h p) refl
 
 -- a record that counts nothing only moves the place
-afterRecordItems-moves : (k a c l s : ℕ) (is : List Item) → k < 5 → (a ≡ countPlace k → ⊥) → afterRecordItems (due k a c l s) is ≡ due k (suc a) c l s
+afterRecordItems-moves : (k a c l s : ℕ) (is : List Item) → k < untyped → (a ≡ countPlace k → ⊥) → afterRecordItems (due k a c l s) is ≡ due k (suc a) c l s
 unfolding afterRecordItems countPlace
 afterRecordItems-moves k a c l s is h =
     kinds
@@ -82,7 +82,7 @@ settled-stands : (d : Due) → Stands (d .kind) (d .at) (settled d)
 settled-stands d = settled-cases (Stands (d .kind) (d .at)) d (λ z. refl) (λ n. refl)
 
 -- the record that counts moves the place too
-afterRecordItems-counts : (k : ℕ) (is : List Item) → k < 5 → countPlace k < length (sequence k)
+afterRecordItems-counts : (k : ℕ) (is : List Item) → k < untyped → countPlace k < length (sequence k)
     → Stands k (suc (countPlace k)) (afterRecordItems (due k (countPlace k) 0 0 0) is)
 unfolding afterRecordItems countPlace sequence sequences
 afterRecordItems-counts k is h =
@@ -105,7 +105,7 @@ dataRow-wide c n p =
     (λ (h : 8 ≤ c). let z : 0 < n * 0 = rw (le-ltb c 8 h) at p in absurd (omega arith))
     (below-or-not c 8)
 
-module _ (k : ℕ) (h : k < 5) (ls : List (List Item)) where
+module _ (k : ℕ) (h : k < untyped) (ls : List (List Item)) where
   -- the state after the record that counts
   reached-counts : countPlace k < length (sequence k) → afterItems (reached k ls (countPlace k)) (getD ls (countPlace k) []) ≡ reached k ls (suc (countPlace k))
   unfolding counted
@@ -156,11 +156,11 @@ module _ (k : ℕ) (h : k < 5) (ls : List (List Item)) where
 drop-first : {A : Type 0} (ls : List A) (a : ℕ) (x d : A) (xs : List A) → drop a ls ≡ x ∷ xs → (getD ls a d ≡ x) × (drop (suc a) ls ≡ xs)
 drop-first ls a x d xs e = (sym (rw (e, add-zero) at (getD-drop a ls 0 d)), sym (rw (e, add-one) at (drop-drop 1 a ls)))
 
-module _ (k a : ℕ) (ls : List (List Item)) (h : k < 5) (p : a < length (sequence k)) where
+module _ (k a : ℕ) (ls : List (List Item)) (h : k < untyped) (p : a < length (sequence k)) where
   -- a set that waits for a record is not closed
   pub records-open : isClosed (reached k ls a) ≡ false
   unfolding isClosed recordDue
-  records-open = rw (lt-leb 30 (getD (sequence k) a 30) (ltb-true (getD (sequence k) a 30) 30 (sequence-below k a h p))) refl
+  records-open = rw (lt-leb noRecord (getD (sequence k) a noRecord) (ltb-true (getD (sequence k) a noRecord) noRecord (sequence-below k a h p))) refl
 
   -- what is owed after this record: the next ones, or the lists
   records-after : (iss : List (List Item)) → drop (suc a) ls ≡ iss → Owes (reached k ls (suc a)) iss (map recordOf (drop (suc a) (sequence k)) ++ listsOf k ls)
@@ -177,13 +177,13 @@ module _ (k a : ℕ) (ls : List (List Item)) (h : k < 5) (p : a < length (sequen
   unfolding rowDue recordDue
   records-next iss e = record {
     rest = map recordOf (drop (suc a) (sequence k)) ++ listsOf k ls;
-    first = rw (drop-cons (sequence k) a 30 p, sequence-below k a h p) refl;
+    first = rw (drop-cons (sequence k) a noRecord p, sequence-below k a h p) refl;
     then = λ is iss′ f.
         let q : (getD ls a [] ≡ is) × (drop (suc a) ls ≡ iss′) = drop-first ls a is [] iss′ (e ∙ f) in
         rw (← (q .0), reached-next k h ls a p) (records-after iss′ (q .1));
   }
 
 -- a set that opens owes its records, and the lists after them
-pub records-opening : (k : ℕ) (ls : List (List Item)) → k < 5 → Owes (opening k) ls (map recordOf (sequence k) ++ listsOf k ls)
+pub records-opening : (k : ℕ) (ls : List (List Item)) → k < untyped → Owes (opening k) ls (map recordOf (sequence k) ++ listsOf k ls)
 unfolding counted
 records-opening k ls h = rw (le-leb 0 (countPlace k) (omega arith)) at (Owes.records k 0 ls h (sequence-some k h) refl)

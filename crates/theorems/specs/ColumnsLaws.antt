@@ -17,6 +17,7 @@ use Rattle.places.specs.DeclaredLaws.{number-held}
 use Rattle.places.specs.Declared.{declared, caseOf}
 use Rattle.places.specs.Stored.{storedCount}
 use Rattle.places.specs.WholeLaws.{Owned}
+use Rattle.rows.specs.Sequence.{headerLines}
 use Rattle.theorems.specs.Columns.{Within, OfValue}
 
 -- a byte's number
@@ -24,7 +25,7 @@ pub owned-within : {p : Part} {count x : ℕ} → Owned p count x → (j : ℕ) 
 owned-within o = (o .index, (o .some, record { from = o .from; past = o .past }))
 
 -- the data lines of a 58 begin at its twelfth line
-pub data-start : {s : Set} {p : Part} → Holds s p → s .number ≡ 58 → dataStart p ≡ lineStart p 11
+pub data-start : {s : Set} {p : Part} → Holds s p → s .number ≡ 58 → dataStart p ≡ lineStart p headerLines
 unfolding dataStart
 data-start h e = rw (number-held h, e) refl
 

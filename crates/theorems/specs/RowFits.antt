@@ -15,7 +15,7 @@ use Rattle.layout.specs.Columns.{total}
 use Rattle.layout.specs.Layout.{layoutOf}
 use Rattle.layout.specs.LayoutLaws.{total-inside}
 use Rattle.rows.specs.Row.{Field, Row, cut}
-use Rattle.rows.specs.Records.{E, records, recordOf, dataRow}
+use Rattle.rows.specs.Records.{E, records, recordOf, dataRow, noRecord}
 use Rattle.rows.specs.TabledLaws.{recordOf-past}
 use Rattle.record.specs.CheckLaws.{total-take}
 use Rattle.walk.specs.Due.{recordDue, listRow, rowDue}
@@ -37,9 +37,9 @@ recordOf-fits : (k : ℕ) → Fits (recordOf k)
 unfolding recordOf records total
 recordOf-fits k =
     ⊎-elim
-    (λ h. leb-true _ _ (in-range narrow true 0 30 k refl (omega arith) (omega arith)))
+    (λ h. leb-true _ _ (in-range narrow true 0 noRecord k refl (omega arith) (omega arith)))
     (λ h. rw (recordOf-past k h) (omega arith))
-    (below-or-not k 30)
+    (below-or-not k noRecord)
 
 -- the fields of a data line have its layout's widths
 widths-data : (ws : List ℕ) → widths (map E ws) ≡ ws
@@ -75,5 +75,5 @@ listRow-fits d =
 pub rowDue-fits : (d : Due) → total (map (λ (f : Field). f .width) (rowDue d .fields)) ≤ 80
 unfolding rowDue
 rowDue-fits d =
-    pick-fits (ltb (recordDue d) 30) (recordOf (recordDue d)) (cut (d .left) (listRow d)) (recordOf-fits (recordDue d))
+    pick-fits (ltb (recordDue d) noRecord) (recordOf (recordDue d)) (cut (d .left) (listRow d)) (recordOf-fits (recordDue d))
     (cut-fits (d .left) (listRow d) (listRow-fits d))

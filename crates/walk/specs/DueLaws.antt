@@ -19,8 +19,8 @@ use Rattle.layout.specs.Layout.{layouts, layoutOf, fieldsOf, numbersOf}
 use Rattle.field.specs.Item.{natural}
 use Rattle.field.specs.Field.{integerItem}
 use Rattle.rows.specs.Row.{Row, none, breach}
-use Rattle.rows.specs.Records.{records, recordOf, dataRow}
-use Rattle.rows.specs.Sequence.{sequences, sequence}
+use Rattle.rows.specs.Records.{records, recordOf, dataRow, noRecord}
+use Rattle.rows.specs.Sequence.{sequences, sequence, untyped}
 use Rattle.record.specs.Check.{orElse, otherwise, strayFault, fieldsFault, stray, fieldsRefusal, conditionFault, rowRefusal}
 use Rattle.walk.specs.declared.Due.{Due}
 use Rattle.walk.specs.Due.{due, recordDue, listRow, rowDue, settled, afterList}
@@ -29,31 +29,31 @@ use Rattle.walk.specs.Due.{due, recordDue, listRow, rowDue, settled, aft
 abbrev short : ℕ → Bool
 short k = leb (length (sequence k)) 24
 
-sequence-past : (k : ℕ) → 5 ≤ k → sequence k ≡ []
+sequence-past : (k : ℕ) → untyped ≤ k → sequence k ≡ []
 unfolding sequence sequences
 sequence-past k h = List·getD-eq-default sequences [] h
 
 sequence-short : (k : ℕ) → length (sequence k) ≤ 24
 unfolding sequence sequences
 sequence-short k =
-    ⊎-elim (λ h. leb-true _ _ (in-range short true 0 5 k refl (omega arith) (omega arith))) (λ h. rw (sequence-past k h) (omega arith)) (below-or-not k 5)
+    ⊎-elim (λ h. leb-true _ _ (in-range short true 0 untyped k refl (omega arith) (omega arith))) (λ h. rw (sequence-past k h) (omega arith)) (below-or-not k untyped)
 
 module _ (d : Due) where
-  pub recordDue-kind-past : 5 ≤ d .kind → recordDue d ≡ 30
+  pub recordDue-kind-past : untyped ≤ d .kind → recordDue d ≡ noRecord
   unfolding recordDue
   recordDue-kind-past h = rw (sequence-past (d .kind) h) refl
 
-  pub recordDue-at-past : 24 ≤ d .at → recordDue d ≡ 30
+  pub recordDue-at-past : 24 ≤ d .at → recordDue d ≡ noRecord
   unfolding recordDue
-  recordDue-at-past h = let s : length (sequence (d .kind)) ≤ 24 = sequence-short (d .kind) in List·getD-eq-default (sequence (d .kind)) 30 (omega arith)
+  recordDue-at-past h = let s : length (sequence (d .kind)) ≤ 24 = sequence-short (d .kind) in List·getD-eq-default (sequence (d .kind)) noRecord (omega arith)
 
   -- a record is due only before the 24th has come
-  pub recordDue-at : recordDue d < 30 → d .at < 24
+  pub recordDue-at : recordDue d < noRecord → d .at < 24
   recordDue-at h =
-      ⊎-elim (λ l. l) (λ l. let e : recordDue d ≡ 30 = recordDue-at-past l in absurd (omega arith)) (below-or-not (d .at) 24)
+      ⊎-elim (λ l. l) (λ l. let e : recordDue d ≡ noRecord = recordDue-at-past l in absurd (omega arith)) (below-or-not (d .at) 24)
 
   -- the code's sequence of a kind
-  pub recordDue-sequence : (rs : List ℕ) (k : ℕ) → rs ≡ sequence k → d .kind ≡ k → getD rs (d .at) 30 ≡ recordDue d
+  pub recordDue-sequence : (rs : List ℕ) (k : ℕ) → rs ≡ sequence k → d .kind ≡ k → getD rs (d .at) noRecord ≡ recordDue d
   unfolding recordDue
   recordDue-sequence rs k e h = rw (e, h) refl
 
@@ -120,10 +120,10 @@ listRow-none d = go (eqb (d .kind) 0) (eqb (d .kind) 1)
 
 -- the row due: a record, or the first fields of a list's line
 module _ (d : Due) (line : List ℕ) where
-  pub rowRefusal-record : recordDue d < 30 → rowRefusal (rowDue d) line ≡ rowRefusal (recordOf (recordDue d)) line
+  pub rowRefusal-record : recordDue d < noRecord → rowRefusal (rowDue d) line ≡ rowRefusal (recordOf (recordDue d)) line
   unfolding rowDue
   rowRefusal-record h = simp (lt-ltb _ _ h)
 
-  pub rowRefusal-list : 30 ≤ recordDue d → rowRefusal (rowDue d) line ≡ fieldsRefusal (take (d .left) (listRow d .fields)) line
+  pub rowRefusal-list : noRecord ≤ recordDue d → rowRefusal (rowDue d) line ≡ fieldsRefusal (take (d .left) (listRow d .fields)) line
   unfolding rowDue
   rowRefusal-list h = simp (le-ltb _ _ h) (rowRefusal-none _ line (listRow-none d))

@@ -21,7 +21,7 @@ use Rattle.layout.specs.Layout.{layouts, layoutOf, fieldsOf}
 use Rattle.layout.specs.LayoutLaws.{fieldsOf-some, total-inside}
 use Rattle.rows.specs.Row as Row
 use Rattle.rows.specs.Records.{E, dataRow}
-use Rattle.rows.specs.Sequence.{sequence, sequences}
+use Rattle.rows.specs.Sequence.{sequence, sequences, headerLines, kind58}
 use Rattle.record.specs.Written.{FieldsIn, Written, Kept}
 use Rattle.reading.specs.LineReading.{written-complete}
 use Rattle.walk.specs.declared.Due.{Due}
@@ -44,7 +44,7 @@ use Rattle.writing.specs.LineLaws.{Fit, itemsBack, fields-in, fields-all
 
 -- so many numbers are left of the data of a 58 of this case
 abbrev pub dataDue : ℕ → ℕ → Due
-dataDue c left = due 0 11 c left 0
+dataDue c left = due kind58 headerLines c left 0
 
 -- what is due in the data
 row-due : (c left : ℕ) → rowDue (dataDue c left) ≡ Row.cut left (dataRow c)

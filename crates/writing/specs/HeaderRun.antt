@@ -14,6 +14,7 @@ use Rattle.header.specs.declared.Header.{Header}
 use Rattle.header.specs.Header.{opened, headerOf}
 use Rattle.parts.specs.Parts.{columnsIn}
 use Rattle.rewriter.specs.RewriterLaws.{Inner}
+use Rattle.rows.specs.Sequence.{headerLines, lineSeven, kind58}
 
 -- what line 7, given by its 80 columns, says: the case, and how many numbers are stored
 pub record Says (line : List ℕ) (d : Due) : Type 0 where
@@ -24,15 +25,15 @@ pub record Says (line : List ℕ) (d : Due) : Type 0 where
 pub record Passed (header : List ℕ) : Type 0 where
   pub due : Due
   pub rest : cut header .rest ≡ []
-  pub lines : length (cut header .lines) ≡ 11
+  pub lines : length (cut header .lines) ≡ headerLines
   pub inner : Inner (cut header .lines)
-  pub run : (n : ℕ) → over runStep runEnd (going opened n) (cut header .lines) ≡ going (state (Typed due) 1) (n + 11)
-  pub kind : due .kind ≡ 0
-  pub at : due .at ≡ 11
+  pub run : (n : ℕ) → over runStep runEnd (going opened n) (cut header .lines) ≡ going (state (Typed due) 1) (n + headerLines)
+  pub kind : due .kind ≡ kind58
+  pub at : due .at ≡ headerLines
   pub second : due .second ≡ 0
   pub case : due .case ≡ headerOf header .case
   pub left : due .left ≡ headerOf header .stored
-  pub seventh : Says (columnsIn (getD (cut header .lines) 6 [])) due
+  pub seventh : Says (columnsIn (getD (cut header .lines) lineSeven [])) due
   pub case-below : headerOf header .case < 8
   pub stored-some : 1 ≤ headerOf header .stored
   pub stored-most : headerOf header .stored ≤ 196608

@@ -19,7 +19,7 @@ use Rattle.integer.specs.Integer.{integerOf, endInteger, stepInteger, push}
 use Rattle.layout.specs.Columns.{fieldOf}
 use Rattle.layout.specs.Layout.{layoutOf, fieldsOf}
 use Rattle.layout.specs.LayoutLaws.{fieldsOf-some}
-use Rattle.rows.specs.Sequence.{kindOf, isTyped, sequence, sequences}
+use Rattle.rows.specs.Sequence.{kindOf, isTyped, sequence, sequences, headerLines, kind58}
 use Rattle.walk.specs.declared.Due.{Due}
 use Rattle.walk.specs.declared.State.{State}
 use Rattle.walk.specs.declared.Place.the-variants.{Outside, Number, Typed}
@@ -174,20 +174,20 @@ module _ (header : List ℕ) (p : Passed header) (xs ss : List ℤ) (stored : le
   lent-cut = cut-head (header ++ (dataText c 0 xs ss ++ delimiterLine)) ∙ rw (cut-after header (dataText c 0 xs ss ++ delimiterLine) (p .rest), cut-data) refl
 
   data-due : p .due ≡ dataDue c (length xs)
-  data-due = due-is (p .due) 0 11 c (length xs) 0 (p .kind) (p .at) (p .case) (p .left ∙ sym stored) (p .second)
+  data-due = due-is (p .due) kind58 headerLines c (length xs) 0 (p .kind) (p .at) (p .case) (p .left ∙ sym stored) (p .second)
 
   lent-run : over runStep runEnd (going start 0) (plainDelimiter ∷ plainNumber 58 ∷ (cut header .lines ++ (lines ++ (plainDelimiter ∷ []))))
-      ≡ going (state Outside 1) (2 + 11 + length lines + 1)
+      ≡ going (state Outside 1) (2 + headerLines + length lines + 1)
   lent-run =
       over-line start 0 plainDelimiter opens _ ∙ over-line (state Number 1) 1 (plainNumber 58) numbered _
       ∙ over-append runStep runEnd (going Header.opened 2) (cut header .lines) (lines ++ (plainDelimiter ∷ []))
-      ∙ ap (λ (r : Run). over runStep runEnd r (lines ++ (plainDelimiter ∷ []))) (p .run 2 ∙ ap (λ (d : Due). going (state (Typed d) 1) (2 + 11)) data-due)
-      ∙ over-append runStep runEnd (going (state (Typed (dataDue c (length xs))) 1) (2 + 11)) lines (plainDelimiter ∷ [])
-      ∙ ap (λ (r : Run). over runStep runEnd r (plainDelimiter ∷ [])) (ran (2 + 11) .run)
-      ∙ over-line (state (Typed (dataDue c 0)) 1) (2 + 11 + length lines) plainDelimiter (closed c) []
-      ∙ over-end (going (state Outside 1) (2 + 11 + length lines + 1))
+      ∙ ap (λ (r : Run). over runStep runEnd r (lines ++ (plainDelimiter ∷ []))) (p .run 2 ∙ ap (λ (d : Due). going (state (Typed d) 1) (2 + headerLines)) data-due)
+      ∙ over-append runStep runEnd (going (state (Typed (dataDue c (length xs))) 1) (2 + headerLines)) lines (plainDelimiter ∷ [])
+      ∙ ap (λ (r : Run). over runStep runEnd r (plainDelimiter ∷ [])) (ran (2 + headerLines) .run)
+      ∙ over-line (state (Typed (dataDue c 0)) 1) (2 + headerLines + length lines) plainDelimiter (closed c) []
+      ∙ over-end (going (state Outside 1) (2 + headerLines + length lines + 1))
 
-  lent-judge : judge runStep runEnd (going start 0) (lentFile header c xs ss) ≡ reply 0 (2 + 11 + length lines + 1)
+  lent-judge : judge runStep runEnd (going start 0) (lentFile header c xs ss) ≡ reply 0 (2 + headerLines + length lines + 1)
   unfolding judge
   lent-judge = rw (lent-cut, lent-run) refl
 
@@ -213,7 +213,7 @@ module _ (header : List ℕ) (p : Passed header) (xs ss : List ℤ) (stored : le
         length-append (dataText c 0 xs ss) delimiterLine,
       )
 
-  pub lent-accepted : judged (lentFile header c xs ss) ≡ reply 0 (2 + 11 + length lines + 1)
+  pub lent-accepted : judged (lentFile header c xs ss) ≡ reply 0 (2 + headerLines + length lines + 1)
   unfolding judged
   lent-accepted = rw (le-ltb 16777216 (length (lentFile header c xs ss)) lent-length) lent-judge
 
