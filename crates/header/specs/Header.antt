@@ -7,13 +7,13 @@ use lib.Dec.{ltb}
 use Rattle.laws.specs.Choice.{pick}
 use Rattle.laws.specs.Cut as Cut
 use Rattle.line.specs.Line.{columns, lineFault}
+use Rattle.rows.specs.Sequence.{headerLines, kind58}
 use Rattle.walk.specs.declared.Place.{Place}
 use Rattle.walk.specs.declared.Place.the-variants.{Outside, Number, Plain, Typed}
 use Rattle.walk.specs.declared.State.{State}
 use Rattle.walk.specs.Due.{opening}
 use Rattle.walk.specs.Step.{state}
 use Rattle.judge.specs.Judge.{lineStep, Run, going, refused, onOutcome, reply}
-use Rattle.rows.specs.Sequence.{headerLines, kind58}
 use Rattle.header.specs.declared.Header.{Header}
 
 -- number and place, and where the number is 0 the case of the 58 and how many numbers it stores

@@ -15,6 +15,7 @@ use Rattle.laws.specs.Cut.{text, onto, lineLen, cut, cut-append, cut-open, over
 use Rattle.line.specs.Line.{columns, lineFault}
 use Rattle.line.specs.LineLaws.{columns-take}
 use Rattle.line.specs.declared.Refusal.{Refusal}
+use Rattle.rows.specs.Sequence.{headerLines}
 use Rattle.walk.specs.declared.Place.{Place}
 use Rattle.walk.specs.declared.State.{State}
 use Rattle.walk.specs.declared.Outcome.{Outcome}
@@ -24,7 +25,6 @@ use Rattle.judge.specs.declared.Lines.{Lines}
 use Rattle.judge.specs.Judge.{lineStep, Run, going, refused, onOutcome, reply, runStep, runEnd}
 use Rattle.judge.specs.JudgeLaws as Judge
 use Rattle.judge.specs.Lines.{runOf, LinesJudged}
-use Rattle.rows.specs.Sequence.{headerLines}
 use Rattle.header.specs.Header.{answer, opened, pastNumber, headerStep, leaves, headerEnd, headerOf}
 
 -- a line past the eleventh

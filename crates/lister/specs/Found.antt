@@ -5,13 +5,13 @@ use lib.Dec.{eqb}
 use lib.ListN.{drop}
 use Rattle.laws.specs.Choice.{pick}
 use Rattle.laws.specs.Cut.{cut}
-use Rattle.walk.specs.Due.{numberIn}
+use Rattle.rows.specs.Sequence.{headerLines, lineSeven}
+use Rattle.record.specs.Declared.{countIn}
 use Rattle.parts.specs.declared.Extent.{Extent}
 use Rattle.parts.specs.Scan.{skipTo, lineFrom}
-use Rattle.rows.specs.Sequence.{headerLines, lineSeven}
 
 unfoldable pub declaredAt : List ℕ → Extent → ℕ
-declaredAt file e = pick (eqb (e .number) 58) (numberIn 10 20 (lineFrom (e .closing) (e .body) file lineSeven)) 0
+declaredAt file e = pick (eqb (e .number) 58) (countIn (lineFrom (e .closing) (e .body) file lineSeven)) 0
 
 unfoldable pub dataAt : List ℕ → Extent → ℕ
 dataAt file e = pick (eqb (e .number) 58) (skipTo headerLines (e .closing) (e .body) (cut (drop (e .body) file) .lines)) 0

@@ -10,6 +10,7 @@ use lib.ListN.{length, take, drop, set, length-append, length-drop, take-append-
 use lib.Seq.{take-at, drop-at, drop-drop, length-take-le}
 use borrow.Rule.Slice.PartMut.{putMid}
 use Rattle.laws.specs.Cut.{cut}
+use Rattle.rows.specs.Sequence.{headerLines, lineSeven}
 use borrow.Author.Tests.{lt-ltb, le-ltb}
 use Rattle.judge.specs.declared.Reply.{Reply}
 use Rattle.judge.specs.Judge.{judged, reply}
@@ -18,7 +19,6 @@ use Rattle.parts.specs.Parts.{Part, outside, partsFrom, partsOf, numberOf, line
 use Rattle.parts.specs.Function.{countOf, dataStart}
 use Rattle.parts.specs.FunctionLaws.{lineFrom-own}
 use Rattle.parts.specs.Scan.{firstOf, skipTo, lineFrom}
-use Rattle.rows.specs.Sequence.{headerLines, lineSeven}
 use Rattle.lister.specs.Lister.{listReply, listRows, entry, rowsOf}
 use Rattle.lister.specs.Found.{declaredAt, dataAt, entryAt}
 use Rattle.parts.specs.ScanLaws.{First, found-none}

@@ -4,8 +4,8 @@ use Prim.Native.Nat.{ℕ, _+_, _*_}
 use Rattle.laws.specs.Choice.{pick}
 use Rattle.layout.specs.Columns as Columns
 use Rattle.layout.specs.Layout.{layoutOf, fieldsOf, numbersOf}
-use Rattle.walk.specs.Due.{numberIn, caseIn}
 use Rattle.rows.specs.Sequence.{headerLines, lineSeven}
+use Rattle.record.specs.Declared.{caseIn, countIn}
 use Rattle.parts.specs.Parts.{Part, isFunction, lineStart, lineOf}
 
 -- its case, from its line 7, from 0
@@ -14,7 +14,7 @@ caseOf p = caseIn (lineOf p lineSeven)
 
 -- "declared count", from its line 7; 0 unless it is a 58
 unfoldable pub countOf : Part → ℕ
-countOf p = pick (isFunction p) (numberIn 10 20 (lineOf p lineSeven)) 0
+countOf p = pick (isFunction p) (countIn (lineOf p lineSeven)) 0
 
 -- how many numbers it stores
 unfoldable pub storedOf : Part → ℕ

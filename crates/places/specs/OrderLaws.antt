@@ -16,11 +16,11 @@ use Rattle.layout.specs.ColumnsLaws.{stored-apart}
 use Rattle.layout.specs.Layout.{layoutOf, fieldsOf}
 use Rattle.layout.specs.LayoutLaws.{fieldPast-inside, fieldsOf-some}
 use Rattle.field.specs.Item.{Item}
+use Rattle.rows.specs.Sequence.{headerLines}
 use Rattle.theory.specs.Sets.{Set}
 use Rattle.theory.specs.Due.{linesFor}
 use Rattle.parts.specs.Parts as Parts
 use Rattle.parts.specs.Function as Function
-use Rattle.rows.specs.Sequence.{headerLines}
 use Rattle.places.specs.Holds.{columnsOf, Holds}
 use Rattle.places.specs.Declared.{caseOf}
 use Rattle.places.specs.DeclaredLaws.{case-held}

@@ -13,11 +13,11 @@ use Rattle.layout.specs.Columns.{fieldStart, fieldPast, lineOf, fieldOf}
 use Rattle.layout.specs.Layout.{layoutOf, fieldsOf, numbersOf}
 use Rattle.layout.specs.LayoutLaws.{fieldPast-inside}
 use Rattle.field.specs.Item.{Item}
+use Rattle.rows.specs.Sequence.{headerLines}
 use Rattle.theory.specs.Sets.{Set}
 use Rattle.parts.specs.Parts as Parts
 use Rattle.parts.specs.Function as Function
 use Rattle.parts.specs.SetLaws.{Standing, Somewhere, line-bytes}
-use Rattle.rows.specs.Sequence.{headerLines}
 use Rattle.places.specs.Holds.{Holds}
 use Rattle.places.specs.Declared.{declared, caseOf}
 use Rattle.places.specs.DeclaredLaws.{declared-held, case-held}

@@ -20,8 +20,9 @@ use Rattle.rows.specs.Row.{Row, cut}
 use Rattle.rows.specs.Sequence.{kindOf, isTyped, sequence, sequences, headerLines, kind58}
 use Rattle.rows.specs.Records.{E, plain, recordOf, dataRow}
 use Rattle.record.specs.Written.{Written}
+use Rattle.record.specs.Declared.{storedBy}
 use Rattle.walk.specs.DueLaws.{dataRow-length}
-use Rattle.theory.specs.Sets.{Set, numberAt}
+use Rattle.theory.specs.Sets.{Set}
 use Rattle.theory.specs.Due.{linesFor, numberRows, listRows, listsOf, rowsOf}
 use Rattle.theory.specs.Proper.{TypedLines, SetLines}
 use Rattle.parts.specs.Parts as Parts
@@ -94,7 +95,7 @@ data-field line c m k is w h l =
 
 -- the lists of a 58
 lists-58 : (s : Set) → s .number ≡ 58 → listsOf kind58 (s .lines) ≡ listRows (dataRow (caseOf s)) (storedCount s)
-unfolding listsOf storedCount declared caseOf
+unfolding listsOf storedCount declared caseOf storedBy
 lists-58 s e = rw e refl
 
 -- the own columns of a stored number in a text, by its case

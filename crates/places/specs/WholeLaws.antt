@@ -16,6 +16,7 @@ use Rattle.line.specs.LineLaws.{columns-take, columns-lf, columns-return, fille
 use Rattle.layout.specs.Columns.{fieldStart, fieldPast, lineOf, fieldOf}
 use Rattle.layout.specs.Layout.{layoutOf, fieldsOf}
 use Rattle.field.specs.Item.{Item}
+use Rattle.rows.specs.Sequence.{headerLines}
 use Rattle.theory.specs.Sets.{Set}
 use Rattle.theory.specs.Due.{linesFor}
 use Rattle.ends.specs.ShortLaws.{short-at}
@@ -23,7 +24,6 @@ use Rattle.walk.specs.DueLaws.{getD-inside}
 use Rattle.parts.specs.Parts as Parts
 use Rattle.parts.specs.Function as Function
 use Rattle.parts.specs.SetLaws.{Somewhere, line-bytes, line-end}
-use Rattle.rows.specs.Sequence.{headerLines}
 use Rattle.places.specs.Holds.{columnsOf, Holds}
 use Rattle.places.specs.Declared.{caseOf}
 use Rattle.places.specs.DeclaredLaws.{case-held}

@@ -10,10 +10,10 @@ use Rattle.laws.specs.Cut.{cut}
 use Rattle.real.specs.declared.Real.{Real}
 use Rattle.layout.specs.Columns.{lineOf, fieldOf, fieldStart, fieldPast}
 use Rattle.layout.specs.Layout.{layoutOf, fieldsOf, numbersOf}
+use Rattle.rows.specs.Sequence.{headerLines}
 use Rattle.parts.specs.Parts.{Part, isFunction, lineStart, closingStart}
 use Rattle.parts.specs.Scan.{skipTo}
 use Rattle.parts.specs.Function.{caseOf, countOf}
-use Rattle.rows.specs.Sequence.{headerLines}
 use Rattle.reader.specs.declared.Read.{Read}
 use Rattle.reader.specs.declared.Data.{Data}
 use Rattle.reader.specs.declared.Span.{Span}

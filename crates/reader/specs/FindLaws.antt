@@ -7,7 +7,8 @@ use native.Mathlib.Omega.{arith}
 use borrow.Author.Tests.{eq-eqb, ne-eqb, lt-ltb, le-ltb}
 use lib.ListN.{length, drop}
 use lib.Seq.{drop-drop, drop-nil}
-use Rattle.walk.specs.Due.{numberIn, caseIn}
+use Rattle.rows.specs.Sequence.{lineSeven}
+use Rattle.record.specs.Declared.{caseIn, countIn}
 use Rattle.parts.specs.declared.Extent.{Extent}
 use Rattle.parts.specs.Parts.{Part, partsOf, numberOf, isFunction, lineOf, closingStart}
 use Rattle.parts.specs.Scan.{lineFrom, firstOf}
@@ -16,7 +17,6 @@ use Rattle.parts.specs.SetLaws.{remaining, Somewhere, somewhere}
 use Rattle.parts.specs.TurnLaws as Turns
 use Rattle.parts.specs.Function.{caseOf, countOf}
 use Rattle.parts.specs.FunctionLaws.{lineFrom-own}
-use Rattle.rows.specs.Sequence.{lineSeven}
 use Rattle.reader.specs.Reader.{setsFrom}
 use Rattle.reader.specs.Find.{data58, nothing, dataOf}
 
@@ -110,6 +110,6 @@ module _ (file : List ℕ) (set : ℕ) (e : Extent) (some : set ≡ 0 → ⊥) (
       data-no-case l = rw (w .sets, a58, ← case-own, le-ltb c 8 l) refl
 
       -- a 58
-      pub data-found : c < 8 → (n : ℕ) → n ≡ numberIn 10 20 (lineFrom (e .closing) (e .body) file lineSeven) → data58 (e .body) (e .closing) c n ≡ dataOf (setsFrom file set)
+      pub data-found : c < 8 → (n : ℕ) → n ≡ countIn (lineFrom (e .closing) (e .body) file lineSeven) → data58 (e .body) (e .closing) c n ≡ dataOf (setsFrom file set)
       unfolding dataOf countOf
       data-found l n g = rw (w .sets, a58, ← case-own, lt-ltb c 8 l, ← w .body, ← w .closing, ← line-seven, ← g) refl

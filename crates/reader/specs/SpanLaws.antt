@@ -8,11 +8,11 @@ use Rattle.laws.specs.Cut.{cut}
 use Rattle.layout.specs.Columns.{lineOf, fieldOf, fieldStart, fieldPast}
 use Rattle.layout.specs.Layout.{layoutOf, fieldsOf}
 use Rattle.layout.specs.LayoutLaws.{fieldPast-inside}
+use Rattle.rows.specs.Sequence.{headerLines}
 use Rattle.parts.specs.Parts.{Part, lineStart, closingStart}
 use Rattle.parts.specs.Scan.{skipTo}
 use Rattle.parts.specs.SetLaws.{Standing, line-at}
 use Rattle.parts.specs.Function.{caseOf, dataLine, firstByte, pastByte}
-use Rattle.rows.specs.Sequence.{headerLines}
 use Rattle.reader.specs.declared.Data.{Data}
 use Rattle.reader.specs.declared.Span.{Span}
 use Rattle.reader.specs.Find.{data58, lineAt, spanOf}

@@ -19,8 +19,8 @@ use Rattle.codes.specs.FormLaws.{formOf-past}
 use Rattle.layout.specs.Columns.{total}
 use Rattle.field.specs.Field.{columnsOf, mayBlank, fieldNumber}
 use Rattle.rows.specs.Row.{Field, Row}
-use Rattle.record.specs.Check.{orElse, orColumn, otherwise, strayIn, strayFault, fieldsFault, firstByte, stray, fieldsRefusal, conditionFault, rowRefusal}
 use Rattle.rows.specs.Records.{fieldList}
+use Rattle.record.specs.Check.{orElse, orColumn, otherwise, strayIn, strayFault, fieldsFault, firstByte, stray, fieldsRefusal, conditionFault, rowRefusal}
 
 -- a number above 0 is the refusal; 0 is none
 pub orElse-here : (n c : ℕ) (rest : Refusal) → 0 < n → orElse n c rest ≡ refusal n c

@@ -1,5 +1,7 @@
 pub mod Check
 pub mod CheckLaws
 pub mod ConditionLaws
+pub mod Declared
+pub mod DeclaredLaws
 pub mod Written
 pub mod WrittenLaws

@@ -97,6 +97,10 @@ records =
     ∷ plain (E 15 ∷ E 15 ∷ E 15 ∷ E 15 ∷ E 15 ∷ [])
     ∷ []
 
+-- 58's line 7, by number
+abbrev pub dataForm : ℕ
+dataForm = 3
+
 -- how many they are; as a record's number it stands for none
 abbrev pub noRecord : ℕ
 noRecord = 30

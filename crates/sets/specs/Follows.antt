@@ -2,35 +2,25 @@
 use mathlib.Core.Path.{_≡_}
 use mathlib.Core.Bool.{true, false}
 use mathlib.Core.List.{List, [], _∷_}
-use Prim.Native.Nat.{ℕ, _*_}
 use lib.Dec.{ltb, eqb}
-use lib.ListN.{getD}
 use Rattle.laws.specs.Choice.{pick}
-use Rattle.layout.specs.Layout.{caseOf, numbersOf}
-use Rattle.field.specs.Item.{Item, blank, natural}
+use Rattle.field.specs.Item.{Item}
 use Rattle.rows.specs.Row.{Row}
 use Rattle.walk.specs.Due.{due, recordDue, rowDue, isClosed, settled, afterList, next}
 use Rattle.walk.specs.declared.Due.{Due}
 use Rattle.rows.specs.Records.{noRecord}
 use Rattle.rows.specs.Sequence.{kind58, kind82, kind1815, lineSeven, beforeAxes}
-
--- the number at a place of a line's items, from 0
-unfoldable pub numberOf : List Item → ℕ → ℕ
-numberOf is k = natural (getD is k blank)
-
--- the case of a 58, from the items of its line 7
-unfoldable pub caseFrom : List Item → ℕ
-caseFrom is = caseOf (numberOf is 0) (numberOf is 2)
+use Rattle.record.specs.Declared.{naturalAt, caseBy, storedBy}
 
 -- after a record: `afterRecord` by items
 unfoldable pub afterRecordItems : Due → List Item → Due
 afterRecordItems d is =
     pick (eqb (d .kind) kind58)
-    (pick (eqb (d .at) lineSeven) (due kind58 beforeAxes (caseFrom is) (numberOf is 1 * numbersOf (caseFrom is)) 0) (next d))
+    (pick (eqb (d .at) lineSeven) (due kind58 beforeAxes (caseBy is) (storedBy is) 0) (next d))
     (pick (eqb (d .kind) kind82)
-    (pick (eqb (d .at) 0) (due kind82 1 0 (numberOf is 1) 0) (next d))
+    (pick (eqb (d .at) 0) (due kind82 1 0 (naturalAt is 1) 0) (next d))
     (pick (eqb (d .kind) kind1815)
-    (pick (eqb (d .at) 23) (settled (due kind1815 24 0 (numberOf is 0) (numberOf is 1))) (next d))
+    (pick (eqb (d .at) 23) (settled (due kind1815 24 0 (naturalAt is 0) (naturalAt is 1))) (next d))
     (next d)))
 
 -- after a line that passes: `after` by items

@@ -13,10 +13,11 @@ use Rattle.rows.specs.Row.{Row}
 use Rattle.rows.specs.Records.{records, recordOf}
 use Rattle.rows.specs.Sequence.{kindOf, isTyped, sequence, sequences}
 use Rattle.record.specs.Check.{itemsOf}
+use Rattle.record.specs.Declared.{naturalAt, caseBy, countBy, storedBy, numberIn, caseIn, countIn, storedIn}
 use Rattle.theory.specs.Due.{rowsOf}
-use Rattle.walk.specs.Due.{opening, recordDue, rowDue, isClosed, after, afterRecord, numberIn, caseIn}
+use Rattle.walk.specs.Due.{opening, recordDue, rowDue, isClosed, after, afterRecord}
 use Rattle.walk.specs.declared.Due.{Due}
-use Rattle.sets.specs.Follows.{numberOf, caseFrom, afterItems, afterRecordItems, Follows, closed, more}
+use Rattle.sets.specs.Follows.{afterItems, afterRecordItems, Follows, closed, more}
 use Rattle.sets.specs.Owed.{Owes, Next}
 use Rattle.sets.specs.ListLaws.{lists-closed, lists-next}
 use Rattle.sets.specs.RecordsLaws.{records-open, records-next, records-opening}
@@ -69,7 +70,7 @@ pick-agree false x x′ y y′ f g = g
 
 module _ (d : Due) (line : List ℕ) where
   afterRecord-items : afterRecord d line ≡ afterRecordItems d (itemsOf (rowDue d .fields) 0 line)
-  unfolding afterRecord afterRecordItems rowDue recordDue sequence sequences recordOf records itemsOf numberIn caseIn numberOf caseFrom
+  unfolding afterRecord afterRecordItems rowDue recordDue sequence sequences recordOf records itemsOf numberIn caseIn countIn storedIn naturalAt caseBy countBy storedBy
   afterRecord-items =
       pick-agree (eqb (d .kind) 0) _ _ _ _
       (λ k. pick-agree (eqb (d .at) 6) _ _ _ _ (λ a. rw (eqb-true (d .kind) 0 k, eqb-true (d .at) 6 a) refl) refl)

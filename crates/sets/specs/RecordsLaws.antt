@@ -17,12 +17,13 @@ use Rattle.field.specs.Item.{Item}
 use Rattle.layout.specs.Layout.{numbersOf, fieldsOf}
 use Rattle.layout.specs.LayoutLaws.{fieldsOf-some}
 use Rattle.rows.specs.Records.{records, recordOf, dataRow, noRecord}
-use Rattle.rows.specs.Sequence.{sequences, sequence, untyped}
+use Rattle.rows.specs.Sequence.{sequences, sequence, untyped, lineSeven}
+use Rattle.record.specs.Declared.{naturalAt, caseBy, countBy, storedBy}
 use Rattle.theory.specs.Sets.{numberAt}
 use Rattle.theory.specs.Due.{listsOf}
 use Rattle.walk.specs.Due.{due, opening, recordDue, listRow, rowDue, isClosed, settled}
 use Rattle.walk.specs.declared.Due.{Due}
-use Rattle.sets.specs.Follows.{numberOf, caseFrom, afterItems, afterRecordItems}
+use Rattle.sets.specs.Follows.{afterItems, afterRecordItems}
 use Rattle.sets.specs.Owed.{Stands, countPlace, counted, reached, rowsLeft, Listing, Owes, Next}
 use Rattle.sets.specs.LinesForLaws.{listRows-none}
 use Rattle.sets.specs.ListLaws.{settled-cases, rowsLeft-settled, listing-settled}
@@ -92,7 +93,7 @@ afterRecordItems-counts k is h =
     (λ p. refl)
     (λ p. absurd (omega arith))
     (λ p. absurd (omega arith))
-    (λ p. settled-stands (due 4 24 0 (numberOf is 0) (numberOf is 1)))
+    (λ p. settled-stands (due 4 24 0 (naturalAt is 0) (naturalAt is 1)))
     k
     h
 
@@ -104,6 +105,10 @@ dataRow-wide c n p =
     (λ (h : c < 8). rw length-map (fieldsOf-some c h))
     (λ (h : 8 ≤ c). let z : 0 < n * 0 = rw (le-ltb c 8 h) at p in absurd (omega arith))
     (below-or-not c 8)
+
+storedBy-wide : (is : List Item) → 0 < storedBy is → 0 < length (dataRow (caseBy is) .fields)
+unfolding storedBy
+storedBy-wide is p = dataRow-wide (caseBy is) (countBy is) p
 
 module _ (k : ℕ) (h : k < untyped) (ls : List (List Item)) where
   -- the state after the record that counts
@@ -126,7 +131,7 @@ module _ (k : ℕ) (h : k < untyped) (ls : List (List Item)) where
 
   -- after the records, the lists are those that document 01 gives
   reached-lists : rowsLeft (reached k ls (length (sequence k))) ≡ listsOf k ls
-  unfolding counted countPlace sequence sequences afterRecordItems rowsLeft listsOf listRow numberAt numberOf caseFrom
+  unfolding counted countPlace sequence sequences afterRecordItems rowsLeft listsOf listRow numberAt
   reached-lists =
       kinds
       (λ (k : ℕ). rowsLeft (reached k ls (length (sequence k))) ≡ listsOf k ls)
@@ -144,11 +149,11 @@ module _ (k : ℕ) (h : k < untyped) (ls : List (List Item)) where
   reached-listing =
       kinds
       (λ (k : ℕ). Listing (reached k ls (length (sequence k))))
-      (record { past = refl; none = λ z. refl; wide = dataRow-wide (caseFrom (getD ls 6 [])) (numberOf (getD ls 6 []) 1) })
+      (record { past = refl; none = λ z. refl; wide = storedBy-wide (getD ls lineSeven []) })
       (record { past = refl; none = λ z. refl; wide = λ l. omega arith })
       (record { past = refl; none = λ z. refl; wide = λ l. omega arith })
       (record { past = refl; none = λ z. refl; wide = λ l. omega arith })
-      (let d : Due = due 4 24 0 (numberOf (getD ls 23 []) 0) (numberOf (getD ls 23 []) 1) in rw (settled-stands d) at (listing-settled d refl (omega arith)))
+      (let d : Due = due 4 24 0 (naturalAt (getD ls 23 []) 0) (naturalAt (getD ls 23 []) 1) in rw (settled-stands d) at (listing-settled d refl (omega arith)))
       k
       h
 

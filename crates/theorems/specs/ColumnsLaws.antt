@@ -9,6 +9,7 @@ use Rattle.laws.specs.Choice.{below-or-not}
 use Rattle.layout.specs.Columns.{lineOf, fieldOf}
 use Rattle.layout.specs.ColumnsLaws.{fieldOf-inside, stored-at}
 use Rattle.layout.specs.Layout.{numbersOf}
+use Rattle.rows.specs.Sequence.{headerLines}
 use Rattle.theory.specs.Sets.{Set}
 use Rattle.parts.specs.Parts.{Part, lineStart}
 use Rattle.parts.specs.Function.{dataStart, firstByte, pastByte}
@@ -17,7 +18,6 @@ use Rattle.places.specs.DeclaredLaws.{number-held}
 use Rattle.places.specs.Declared.{declared, caseOf}
 use Rattle.places.specs.Stored.{storedCount}
 use Rattle.places.specs.WholeLaws.{Owned}
-use Rattle.rows.specs.Sequence.{headerLines}
 use Rattle.theorems.specs.Columns.{Within, OfValue}
 
 -- a byte's number

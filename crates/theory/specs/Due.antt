@@ -1,14 +1,14 @@
 -- The rows of a typed set's lines, from its number and its items alone (01, "Records").
 use mathlib.Core.List.{List, [], _∷_, _++_, map}
-use Prim.Native.Nat.{ℕ, zero, suc, _+_, _-_, _*_, _/_}
+use Prim.Native.Nat.{ℕ, zero, suc, _+_, _-_, _/_}
 use lib.Dec.{eqb}
-use lib.ListN.{length}
+use lib.ListN.{length, getD}
 use Rattle.laws.specs.Choice.{pick}
-use Rattle.layout.specs.Layout.{caseOf, numbersOf}
 use Rattle.field.specs.Item.{Item}
 use Rattle.rows.specs.Row.{Row, cut}
 use Rattle.rows.specs.Sequence.{kindOf, sequence, kind58, kind82, kind1815, lineSeven}
 use Rattle.rows.specs.Records.{recordOf, dataRow}
+use Rattle.record.specs.Declared.{caseBy, storedBy}
 use Rattle.theory.specs.Sets.{numberAt}
 
 -- how many lines hold this many numbers, of n in a full line
@@ -27,12 +27,9 @@ listRows r left = numberRows r (linesFor (length (r .fields)) left) left
 -- lists, "no line at all for a count of 0"
 unfoldable pub listsOf : ℕ → List (List Item) → List Row
 listsOf kind ls =
-    pick (eqb kind kind58) (listRows (dataRow case) (numberAt ls lineSeven 1 * numbersOf case))
+    pick (eqb kind kind58) (listRows (dataRow (caseBy (getD ls lineSeven []))) (storedBy (getD ls lineSeven [])))
     (pick (eqb kind kind82) (listRows (recordOf 6) (numberAt ls 0 1))
     (pick (eqb kind kind1815) (listRows (recordOf 29) (numberAt ls 23 0) ++ listRows (recordOf 29) (numberAt ls 23 1)) []))
-  where
-    case : ℕ
-    case = caseOf (numberAt ls lineSeven 0) (numberAt ls lineSeven 2)
 
 -- the rows of a typed set's lines: its records in order, then those lines
 unfoldable pub rowsOf : ℕ → List (List Item) → List Row

@@ -15,6 +15,7 @@ use Rattle.layout.specs.Columns.{lineOf, fieldOf, fieldStart, fieldPast}
 use Rattle.layout.specs.ColumnsLaws.{fieldStart-next, fieldOf-inside, stored-at}
 use Rattle.layout.specs.Layout.{layoutOf, fieldsOf, cellOf}
 use Rattle.layout.specs.LayoutLaws.{fieldsOf-some, widths-six, fieldPast-inside}
+use Rattle.rows.specs.Sequence.{headerLines}
 use Rattle.parts.specs.PartsLaws.{lines-end}
 use Rattle.parts.specs.Scan.{skipTo}
 use Rattle.parts.specs.SetLaws.{skip-stops, skip-none, skip-next}
@@ -22,7 +23,6 @@ use Rattle.reader.specs.declared.Data.{Data}
 use Rattle.reader.specs.declared.Read.{Read}
 use Rattle.reader.specs.Reader.{readIn, readOf}
 use Rattle.reader.specs.Find.{lineAt, spanOf, realAt, readAt}
-use Rattle.rows.specs.Sequence.{headerLines}
 use Rattle.values.specs.declared.Spot.{Spot}
 use Rattle.values.specs.Spot.{spot, spotOf, nextSpot}
 

@@ -1,17 +1,14 @@
 -- What is due in a typed set, line by line.
 use mathlib.Core.Bool.{Bool, _&&_}
 use mathlib.Core.List.{List}
-use Prim.Native.Nat.{ℕ, _+_, _-_, _*_}
+use Prim.Native.Nat.{ℕ, _+_, _-_}
 use lib.Dec.{leb, ltb, eqb}
 use lib.ListN.{length, getD}
 use Rattle.laws.specs.Choice.{pick}
-use Rattle.integer.specs.Integer.{integerOf}
-use Rattle.layout.specs.Layout.{caseOf, numbersOf}
-use Rattle.field.specs.Item.{natural}
-use Rattle.field.specs.Field.{columnsOf, integerItem}
 use Rattle.rows.specs.Row.{Row, cut}
 use Rattle.rows.specs.Records.{recordOf, dataRow, noRecord}
 use Rattle.rows.specs.Sequence.{sequence, kind58, kind82, kind1815, lineSeven, beforeAxes}
+use Rattle.record.specs.Declared.{numberIn, caseIn, storedIn}
 use Rattle.walk.specs.declared.Due.{Due}
 
 -- kind of set; lines taken of its records; case of a 58; numbers left in the list that follows them; numbers of a second list
@@ -42,14 +39,6 @@ isClosed d = leb noRecord (recordDue d) && eqb (d .left) 0
 unfoldable pub settled : Due → Due
 settled d = pick (eqb (d .left) 0) (due (d .kind) (d .at) (d .case) (d .second) 0) d
 
--- the number of the integer in these columns, 0 where they hold none, or one below zero
-unfoldable pub numberIn : ℕ → ℕ → List ℕ → ℕ
-numberIn a e line = natural (integerItem (integerOf (columnsOf a e line)))
-
--- the case of a 58, from its line 7
-unfoldable pub caseIn : List ℕ → ℕ
-caseIn line = caseOf (numberIn 0 10 line) (numberIn 20 30 line)
-
 -- the next record is due
 abbrev pub next : Due → Due
 next d = due (d .kind) (d .at + 1) (d .case) (d .left) (d .second)
@@ -58,7 +47,7 @@ next d = due (d .kind) (d .at + 1) (d .case) (d .left) (d .second)
 unfoldable pub afterRecord : Due → List ℕ → Due
 afterRecord d line =
     pick (eqb (d .kind) kind58)
-    (pick (eqb (d .at) lineSeven) (due kind58 beforeAxes (caseIn line) (numberIn 10 20 line * numbersOf (caseIn line)) 0) (next d))
+    (pick (eqb (d .at) lineSeven) (due kind58 beforeAxes (caseIn line) (storedIn line) 0) (next d))
     (pick (eqb (d .kind) kind82)
     (pick (eqb (d .at) 0) (due kind82 1 0 (numberIn 10 20 line) 0) (next d))
     (pick (eqb (d .kind) kind1815)

@@ -1,13 +1,13 @@
 // The walk over a file's lines: the state, and the step of one line. It is the only place that knows what is due.
 ghost use mathlib.Core.Path.{_≡_};
-ghost use Prim.Native.Nat.{_≤_, _<_, _*_};
+ghost use Prim.Native.Nat.{_≤_, _<_};
 ghost use lib.ListN.{length, getD};
 ghost use Rattle.line.specs.Line.{refusal};
-ghost use Rattle.layout.specs.Layout.{numbersOf};
 ghost use Rattle.rows.specs.Records.{noRecord};
 ghost use Rattle.rows.specs.Sequence.{kind58, kind82, kind1815, beforeAxes, kindOf, isTyped};
 ghost use Rattle.record.specs.Check.{rowRefusal};
-ghost use Rattle.walk.specs.Due.{due, next, recordDue, listRow, rowDue, isClosed, settled, numberIn, caseIn, afterRecord, afterList, after};
+ghost use Rattle.record.specs.Declared.{numberIn, caseIn, countIn, storedIn};
+ghost use Rattle.walk.specs.Due.{due, next, recordDue, listRow, rowDue, isClosed, settled, afterRecord, afterList, after};
 ghost use Rattle.walk.specs.Step.{state, opened, outsideStep, numberStep, plainStep, typedStep, stepOf};
 use integer::integer_field;
 use laws::index;
@@ -205,12 +205,19 @@ pub fn case_in(line: &[u8; 80]) -> usize
     layout::case_of(number_in(line, 0, 10), number_in(line, 20, 30))
 }
 
+// The declared count of a 58, from its line 7.
+pub fn count_in(line: &[u8; 80]) -> u32
+    ensures { λ r. ⌜ r ≡ countIn (now (line .entry)) ⌝ }
+{
+    number_in(line, 10, 20)
+}
+
 // After 58's line 7: the numbers of its values follow.
 fn after_data_form(line: &[u8; 80]) -> Due
-    ensures { λ r. ⌜ r ≡ due kind58 beforeAxes (caseIn (now (line .entry))) (numberIn 10 20 (now (line .entry)) * numbersOf (caseIn (now (line .entry)))) 0 ⌝ }
+    ensures { λ r. ⌜ r ≡ due kind58 beforeAxes (caseIn (now (line .entry))) (storedIn (now (line .entry))) 0 ⌝ }
 {
     let case = case_in(line);
-    let values = number_in(line, 10, 20) as usize;
+    let values = count_in(line) as usize;
     Due {
         kind: KIND_58,
         at: BEFORE_AXES,

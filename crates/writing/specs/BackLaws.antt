@@ -30,7 +30,7 @@ use Rattle.decimal.specs.Decimal.{fits, fieldText}
 use Rattle.decimal.specs.DecimalLaws.{fieldText-length, SameNumber, ReadBack, fits-read}
 use Rattle.laws.specs.Choice.{false-not-true}
 use Rattle.laws.specs.Cut.{cut}
-use Rattle.walk.specs.Due.{numberIn, caseIn}
+use Rattle.record.specs.Declared.{caseIn, countIn, storedIn}
 use Rattle.header.specs.declared.Header.{Header}
 use Rattle.header.specs.Header.{headerOf}
 use Rattle.theory.specs.Sets.{Set}
@@ -220,11 +220,11 @@ module _ (header : List ℕ) (p : Passed header) (xs ss : List ℤ) (stored : le
     set-case = sym (case-held h set-number) ∙ lent-case
 
     pub set-stored : storedCount s ≡ length xs
-    unfolding storedCount declared
+    unfolding storedCount declared storedIn
     set-stored =
         let line : List ℕ = Parts.columnsIn (getD (cut header .lines) lineSeven []) in
         let k : caseIn line ≡ c = sym (p .seventh .case) ∙ p .case in
-        let n : numberIn 10 20 line * numbersOf c ≡ length xs = rw k at (sym (p .seventh .left)) ∙ p .left ∙ sym stored in
+        let n : countIn line * numbersOf c ≡ length xs = rw k at (sym (p .seventh .left)) ∙ p .left ∙ sym stored in
         rw (set-case, set-number, ← count-held h set-number, line-seven) n
 
     pub stored-back : (j : ℕ) → j < length xs → Back (getD xs j (pos 0)) (getD ss j (pos 0)) (storedItem s j)

@@ -12,6 +12,7 @@ use Rattle.laws.specs.Choice.{pick, below-or-not}
 use Rattle.laws.specs.Cut.{cut, over, judge}
 use Rattle.line.specs.declared.Refusal.{Refusal}
 use Rattle.line.specs.Line.{columns, lineFault}
+use Rattle.rows.specs.Sequence.{headerLines, kind58}
 use Rattle.walk.specs.declared.Due.{Due}
 use Rattle.walk.specs.declared.State.{State}
 use Rattle.walk.specs.declared.Place.the-variants.{Number, Typed}
@@ -28,7 +29,6 @@ use Rattle.header.specs.HeaderLaws.{over-refused}
 use Rattle.parts.specs.Parts.{columnsIn}
 use Rattle.rewriter.specs.Rewriter.{headText, plainNumber}
 use Rattle.rewriter.specs.RewriterLaws.{plainDelimiter}
-use Rattle.rows.specs.Sequence.{headerLines, kind58}
 use Rattle.writing.specs.HeaderRun.{Passed}
 use Rattle.writing.specs.HeaderRunLaws.{Stood, Taken, Met, Met.taken, Met.stopped, not-closed, after-stood, line-met, ended, opened-stood, header-passed}
 use Rattle.writing.specs.LentLaws.{cut-after, over-line, cut-head, opens, numbered}

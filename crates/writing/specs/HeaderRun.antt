@@ -1,25 +1,24 @@
 -- What a header that passes leaves due: the lines of a 58 so far, judged as they are judged in a file.
 use mathlib.Core.Path.{_≡_}
 use mathlib.Core.List.{List, []}
-use Prim.Native.Nat.{ℕ, _+_, _*_, _≤_, _<_}
+use Prim.Native.Nat.{ℕ, _+_, _≤_, _<_}
 use lib.ListN.{length, getD}
 use Rattle.laws.specs.Cut.{cut, over}
+use Rattle.rows.specs.Sequence.{headerLines, lineSeven, kind58}
 use Rattle.walk.specs.declared.Due.{Due}
 use Rattle.walk.specs.declared.Place.the-variants.{Typed}
-use Rattle.layout.specs.Layout.{numbersOf}
-use Rattle.walk.specs.Due.{numberIn, caseIn}
 use Rattle.walk.specs.Step.{state}
 use Rattle.judge.specs.Judge.{Run, going, runStep, runEnd}
 use Rattle.header.specs.declared.Header.{Header}
 use Rattle.header.specs.Header.{opened, headerOf}
 use Rattle.parts.specs.Parts.{columnsIn}
 use Rattle.rewriter.specs.RewriterLaws.{Inner}
-use Rattle.rows.specs.Sequence.{headerLines, lineSeven, kind58}
+use Rattle.record.specs.Declared.{caseIn, storedIn}
 
 -- what line 7, given by its 80 columns, says: the case, and how many numbers are stored
 pub record Says (line : List ℕ) (d : Due) : Type 0 where
   pub case : d .case ≡ caseIn line
-  pub left : d .left ≡ numberIn 10 20 line * numbersOf (caseIn line)
+  pub left : d .left ≡ storedIn line
 
 -- eleven lines, none of them a delimiter, each with its LF, after which the numbers of the data lines are due
 pub record Passed (header : List ℕ) : Type 0 where

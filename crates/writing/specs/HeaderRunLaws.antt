@@ -25,13 +25,14 @@ use Rattle.layout.specs.Layout.{layouts, layoutOf, caseOf, numbersOf}
 use Rattle.field.specs.Item.{Item, natural}
 use Rattle.field.specs.Field.{mayBlank, integerNumber, integerItem, fieldNumber}
 use Rattle.rows.specs.Row.{Field, Row}
-use Rattle.rows.specs.Records.{I, records, recordOf, noRecord}
+use Rattle.rows.specs.Records.{I, records, recordOf, noRecord, dataForm}
 use Rattle.rows.specs.Sequence.{sequences, sequence, headerLines, beforeAxes, kind58, lineSeven}
 use Rattle.record.specs.Check.{orElse, fieldsFault, fieldsRefusal, conditionFault, rowRefusal}
+use Rattle.record.specs.Declared.{numberIn, caseIn, countIn, storedIn}
 use Rattle.walk.specs.declared.Due.{Due}
 use Rattle.walk.specs.declared.Place.the-variants.{Typed}
 use Rattle.walk.specs.declared.Outcome.the-variants.{Next, Refused}
-use Rattle.walk.specs.Due.{due, recordDue, rowDue, isClosed, opening, numberIn, caseIn, next, afterRecord, after}
+use Rattle.walk.specs.Due.{due, recordDue, rowDue, isClosed, opening, next, afterRecord, after}
 use Rattle.walk.specs.DueLaws.{numbersOf-few, rowRefusal-record}
 use Rattle.walk.specs.Step.{state, unless, typedStep, stepOf}
 use Rattle.walk.specs.StepLaws.{unless-here, unless-on}
@@ -134,10 +135,10 @@ fields-passed r line h =
     orElse-first (f .number) (f .column) _ (orElse-first _ _ (conditionFault r line) h)
 
 -- line 7 says both, where it passes
-seventh-bounds : (line : List ℕ) → rowRefusal (recordOf 3) line .number ≡ 0 → Bounds (caseIn line) (numberIn 10 20 line * numbersOf (caseIn line))
-unfolding recordOf records numberIn caseIn keeps
+seventh-bounds : (line : List ℕ) → rowRefusal (recordOf dataForm) line .number ≡ 0 → Bounds (caseIn line) (storedIn line)
+unfolding recordOf records numberIn caseIn countIn storedIn keeps
 seventh-bounds line h =
-    let a = fields-passed (recordOf 3) line h in
+    let a = fields-passed (recordOf dataForm) line h in
     let b = others-kept 0 line (I 10 ordinateType) _ a in
     let c = others-kept 10 line (I 10 count) _ b in
     let t : oneOf (2 ∷ 4 ∷ 5 ∷ 6 ∷ []) (numberIn 0 10 line) ≡ true = first-kept 0 line 10 ordinateType _ (λ v. refl) a in
@@ -174,21 +175,21 @@ module _ (n : ℕ) (d : Due) (s : Stood n d) (h : n < headerLines) where
   not-closed = rw (lt-leb noRecord (recordDue d) due-below) refl
 
   module _ (l : List ℕ) (p : rowRefusal (rowDue d) l .number ≡ 0) where
-    after-record : after d l ≡ pick (eqb n lineSeven) (due kind58 beforeAxes (caseIn l) (numberIn 10 20 l * numbersOf (caseIn l)) 0) (next d)
+    after-record : after d l ≡ pick (eqb n lineSeven) (due kind58 beforeAxes (caseIn l) (storedIn l) 0) (next d)
     unfolding after afterRecord
     after-record = rw (lt-ltb (recordDue d) noRecord due-below, s .kind, s .at) refl
 
-    after-seventh : n ≡ lineSeven → Bounds (caseIn l) (numberIn 10 20 l * numbersOf (caseIn l))
+    after-seventh : n ≡ lineSeven → Bounds (caseIn l) (storedIn l)
     unfolding sequence sequences
     after-seventh e =
-        let r : recordDue d ≡ 3 = due-record ∙ rw e refl in
-        let q : rowRefusal (rowDue d) l ≡ rowRefusal (recordOf 3) l = rowRefusal-record d l due-below ∙ ap (λ (x : ℕ). rowRefusal (recordOf x) l) r in
+        let r : recordDue d ≡ dataForm = due-record ∙ rw e refl in
+        let q : rowRefusal (rowDue d) l ≡ rowRefusal (recordOf dataForm) l = rowRefusal-record d l due-below ∙ ap (λ (x : ℕ). rowRefusal (recordOf x) l) r in
         seventh-bounds l (rw q at p)
 
     pub after-stood : Stood (n + 1) (after d l)
     after-stood = rw after-record (by (eqb n lineSeven) refl)
       where
-        by : (t : Bool) → eqb n lineSeven ≡ t → Stood (n + 1) (pick t (due kind58 beforeAxes (caseIn l) (numberIn 10 20 l * numbersOf (caseIn l)) 0) (next d))
+        by : (t : Bool) → eqb n lineSeven ≡ t → Stood (n + 1) (pick t (due kind58 beforeAxes (caseIn l) (storedIn l) 0) (next d))
         by true e =
             let x : n ≡ lineSeven = eqb-true n lineSeven e in
             record { kind = refl; at = omega arith; second = refl; bounds = λ k. after-seventh x }
@@ -309,7 +310,7 @@ module _ (d : Due) (n : ℕ) (l : List ℕ) (ls : List (List ℕ)) (rest : List 
   -- line 7 says the case and how many numbers are stored; no later line does
   seventh-says : n < headerLines → Taken d l → n ≡ lineSeven → Says (columnsIn l) later
   seventh-says h t e =
-      let x : later ≡ due kind58 beforeAxes (caseIn (columnsIn l)) (numberIn 10 20 (columnsIn l) * numbersOf (caseIn (columnsIn l))) 0 = after-record n d s h (columnsIn l) (t .row) ∙ rw (eq-eqb n lineSeven e) refl in
+      let x : later ≡ due kind58 beforeAxes (caseIn (columnsIn l)) (storedIn (columnsIn l)) 0 = after-record n d s h (columnsIn l) (t .row) ∙ rw (eq-eqb n lineSeven e) refl in
       rw x (record { case = refl; left = refl })
 
   later-kept : n < headerLines → Taken d l → (n ≡ lineSeven → ⊥) → (later .case ≡ d .case) × (later .left ≡ d .left)
