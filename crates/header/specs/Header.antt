@@ -7,7 +7,7 @@ use lib.Dec.{ltb}
 use Rattle.laws.specs.Choice.{pick}
 use Rattle.laws.specs.Cut as Cut
 use Rattle.line.specs.Line.{columns, lineFault}
-use Rattle.rows.specs.Sequence.{headerLines, kind58}
+use Rattle.rows.specs.TypedSets.{headerLines, kind58}
 use Rattle.walk.specs.declared.Place.{Place}
 use Rattle.walk.specs.declared.Place.the-variants.{Outside, Number, Plain, Typed}
 use Rattle.walk.specs.declared.State.{State}

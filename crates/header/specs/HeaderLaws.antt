@@ -15,7 +15,7 @@ use Rattle.laws.specs.Cut.{text, onto, lineLen, cut, cut-append, cut-open, over
 use Rattle.line.specs.Line.{columns, lineFault}
 use Rattle.line.specs.LineLaws.{columns-take}
 use Rattle.line.specs.declared.Refusal.{Refusal}
-use Rattle.rows.specs.Sequence.{headerLines}
+use Rattle.rows.specs.TypedSets.{headerLines}
 use Rattle.walk.specs.declared.Place.{Place}
 use Rattle.walk.specs.declared.State.{State}
 use Rattle.walk.specs.declared.Outcome.{Outcome}

@@ -4,7 +4,7 @@ ghost use mathlib.Core.Bool.{true};
 ghost use Prim.Native.Nat.{_≤_};
 ghost use Rattle.judge.specs.Judge.{going};
 ghost use Rattle.line.specs.Line.{columns, lineFault};
-ghost use Rattle.rows.specs.Sequence.{headerLines};
+ghost use Rattle.rows.specs.TypedSets.{headerLines};
 ghost use Rattle.header.specs.Header.{answer, pastNumber, headerEnd, headerOf};
 ghost use Rattle.header.specs.HeaderLaws.{FirstEleven};
 use rows::HEADER_LINES;

@@ -7,7 +7,7 @@ ghost use Rattle.kind.specs.Kind.{datasetNumber};
 ghost use lib.ListN.{length, drop};
 ghost use Rattle.laws.specs.Cut.{cut};
 ghost use Rattle.parts.specs.Parts.{columnsIn, closes, outside, partsFrom};
-ghost use Rattle.rows.specs.Sequence.{lineSeven};
+ghost use Rattle.rows.specs.TypedSets.{lineSeven};
 ghost use Rattle.record.specs.Declared.{caseIn, countIn};
 ghost use Rattle.parts.specs.Scan.{lineFrom, firstOf, seenStep, skipTo, columnsAt};
 

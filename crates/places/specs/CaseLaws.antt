@@ -19,7 +19,7 @@ use Rattle.field.specs.Item.{Item, natural}
 use Rattle.line.specs.Line.{filled}
 use Rattle.rows.specs.Row.{Field}
 use Rattle.rows.specs.Records.{I, X, records, recordOf, dataForm}
-use Rattle.rows.specs.Sequence.{lineSeven}
+use Rattle.rows.specs.TypedSets.{lineSeven}
 use Rattle.record.specs.Written.{Stands, a-text, a-identification, an-integer, a-blank, a-real, FieldsIn, rest, skipped, stands, Written}
 use Rattle.record.specs.Declared.{naturalAt, caseBy, countBy}
 use Rattle.theory.specs.Sets.{Set}

@@ -5,7 +5,7 @@ use lib.Dec.{eqb}
 use lib.ListN.{getD}
 use Rattle.laws.specs.Choice.{pick}
 use Rattle.field.specs.Item.{Item}
-use Rattle.rows.specs.Sequence.{lineSeven}
+use Rattle.rows.specs.TypedSets.{lineSeven}
 use Rattle.record.specs.Declared.{caseBy, countBy}
 use Rattle.theory.specs.Sets.{Set}
 

@@ -13,7 +13,7 @@ use Rattle.line.specs.LineLaws.{filled-length}
 use Rattle.kind.specs.KindLaws.{datasetNumber-complete}
 use Rattle.field.specs.Item.{Item}
 use Rattle.rows.specs.Row.{Row}
-use Rattle.rows.specs.Sequence.{kindOf, isTyped, sequence, sequences, lineSeven}
+use Rattle.rows.specs.TypedSets.{kindOf, isTyped, sequence, typedSets, lineSeven}
 use Rattle.rows.specs.Records.{plain, records, recordOf, dataForm}
 use Rattle.record.specs.Check.{itemsOf}
 use Rattle.record.specs.Written.{Written}
@@ -51,11 +51,11 @@ number-held h = datasetNumber-complete (h .number)
 
 -- line 7 of a 58
 pub seventh : (iss : List (List Item)) (css : List (List ℕ)) → TypedLines (rowsOf 58 iss) iss css → Written (recordOf dataForm) (getD iss lineSeven []) (filled (getD css lineSeven []))
-unfolding rowsOf kindOf sequence sequences
+unfolding rowsOf kindOf sequence typedSets
 seventh iss css l = typed-line lineSeven l (omega arith)
 
 pub typed-58 : isTyped 58 ≡ true
-unfolding isTyped kindOf
+unfolding isTyped kindOf typedSets
 typed-58 = refl
 
 seventh-items : {s : Set} {css : List (List ℕ)} → SetLines s css → s .number ≡ 58 → itemsOf (recordOf dataForm .fields) 0 (filled (getD css lineSeven [])) ≡ getD (s .lines) lineSeven []

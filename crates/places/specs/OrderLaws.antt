@@ -16,7 +16,7 @@ use Rattle.layout.specs.ColumnsLaws.{stored-apart}
 use Rattle.layout.specs.Layout.{layoutOf, fieldsOf}
 use Rattle.layout.specs.LayoutLaws.{fieldPast-inside, fieldsOf-some}
 use Rattle.field.specs.Item.{Item}
-use Rattle.rows.specs.Sequence.{headerLines}
+use Rattle.rows.specs.TypedSets.{headerLines}
 use Rattle.theory.specs.Sets.{Set}
 use Rattle.theory.specs.Due.{linesFor}
 use Rattle.parts.specs.Parts as Parts

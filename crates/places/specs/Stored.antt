@@ -6,7 +6,7 @@ use lib.ListN.{getD}
 use Rattle.layout.specs.Columns.{lineOf, fieldOf}
 use Rattle.layout.specs.Layout.{fieldsOf, numbersOf}
 use Rattle.field.specs.Item.{Item, blank}
-use Rattle.rows.specs.Sequence.{headerLines}
+use Rattle.rows.specs.TypedSets.{headerLines}
 use Rattle.theory.specs.Sets.{Set}
 use Rattle.places.specs.Declared.{declared, caseOf}
 

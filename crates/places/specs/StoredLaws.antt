@@ -17,7 +17,7 @@ use Rattle.layout.specs.Layout.{layoutOf, fieldsOf, numbersOf}
 use Rattle.layout.specs.LayoutLaws.{fieldsOf-some}
 use Rattle.field.specs.Item.{Item}
 use Rattle.rows.specs.Row.{Row, cut}
-use Rattle.rows.specs.Sequence.{kindOf, isTyped, sequence, sequences, headerLines, kind58}
+use Rattle.rows.specs.TypedSets.{kindOf, isTyped, sequence, typedSets, headerLines, kind58, following}
 use Rattle.rows.specs.Records.{E, plain, recordOf, dataRow}
 use Rattle.record.specs.Written.{Written}
 use Rattle.record.specs.Declared.{storedBy}
@@ -57,13 +57,13 @@ line-enough n total j p h =
 -- the rows of a 58: its eleven records, then its data lines
 module _ (iss : List (List Item)) (c total : ℕ) (e : listsOf kind58 iss ≡ listRows (dataRow c) total) where
   data-row : (k : ℕ) → k < linesFor (length (dataRow c .fields)) total → getD (rowsOf 58 iss) (headerLines + k) (plain []) ≡ cut (total - k * length (dataRow c .fields)) (dataRow c)
-  unfolding rowsOf kindOf sequence sequences
+  unfolding rowsOf kindOf sequence typedSets
   data-row k h =
       getD-append-add (map recordOf (1 ∷ 1 ∷ 1 ∷ 1 ∷ 1 ∷ 2 ∷ 3 ∷ 4 ∷ 4 ∷ 4 ∷ 4 ∷ [])) (listsOf kind58 iss) k (plain [])
       ∙ rw e (numberRows-at (dataRow c) (linesFor (length (dataRow c .fields)) total) total k h)
 
   data-rows : (k : ℕ) → k < linesFor (length (dataRow c .fields)) total → headerLines + k < length (rowsOf 58 iss)
-  unfolding rowsOf kindOf sequence sequences
+  unfolding rowsOf kindOf sequence typedSets
   data-rows k h = rw (length-append (map recordOf (1 ∷ 1 ∷ 1 ∷ 1 ∷ 1 ∷ 2 ∷ 3 ∷ 4 ∷ 4 ∷ 4 ∷ 4 ∷ [])) (listsOf kind58 iss), e, numberRows-length) (omega arith)
 
 -- the first fields of a line of reals
@@ -95,7 +95,7 @@ data-field line c m k is w h l =
 
 -- the lists of a 58
 lists-58 : (s : Set) → s .number ≡ 58 → listsOf kind58 (s .lines) ≡ listRows (dataRow (caseOf s)) (storedCount s)
-unfolding listsOf storedCount declared caseOf storedBy
+unfolding listsOf following typedSets storedCount declared caseOf storedBy
 lists-58 s e = rw e refl
 
 -- the own columns of a stored number in a text, by its case
@@ -116,7 +116,7 @@ module _ (iss : List (List Item)) (css : List (List ℕ)) (c total : ℕ) (e : l
       rw (dataRow-length c) at (subst (λ (r : Row). Written r (getD iss (headerLines + k) []) (filled (getD css (headerLines + k) []))) (data-row iss c total e k m) (typed-line (headerLines + k) l (data-rows iss c total e k m)))
 
   typed-count : length css ≡ headerLines + linesFor (fieldsOf c) total
-  unfolding rowsOf kindOf sequence sequences
+  unfolding rowsOf kindOf sequence typedSets
   typed-count =
       typed-length l ∙ length-append (map recordOf (1 ∷ 1 ∷ 1 ∷ 1 ∷ 1 ∷ 2 ∷ 3 ∷ 4 ∷ 4 ∷ 4 ∷ 4 ∷ [])) (listsOf kind58 iss)
       ∙ rw (e, numberRows-length (dataRow c) (linesFor (length (dataRow c .fields)) total) total, dataRow-length c) refl

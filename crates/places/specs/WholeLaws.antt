@@ -16,7 +16,7 @@ use Rattle.line.specs.LineLaws.{columns-take, columns-lf, columns-return, fille
 use Rattle.layout.specs.Columns.{fieldStart, fieldPast, lineOf, fieldOf}
 use Rattle.layout.specs.Layout.{layoutOf, fieldsOf}
 use Rattle.field.specs.Item.{Item}
-use Rattle.rows.specs.Sequence.{headerLines}
+use Rattle.rows.specs.TypedSets.{headerLines}
 use Rattle.theory.specs.Sets.{Set}
 use Rattle.theory.specs.Due.{linesFor}
 use Rattle.ends.specs.ShortLaws.{short-at}

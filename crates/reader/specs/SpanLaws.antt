@@ -8,7 +8,7 @@ use Rattle.laws.specs.Cut.{cut}
 use Rattle.layout.specs.Columns.{lineOf, fieldOf, fieldStart, fieldPast}
 use Rattle.layout.specs.Layout.{layoutOf, fieldsOf}
 use Rattle.layout.specs.LayoutLaws.{fieldPast-inside}
-use Rattle.rows.specs.Sequence.{headerLines}
+use Rattle.rows.specs.TypedSets.{headerLines}
 use Rattle.parts.specs.Parts.{Part, lineStart, closingStart}
 use Rattle.parts.specs.Scan.{skipTo}
 use Rattle.parts.specs.SetLaws.{Standing, line-at}

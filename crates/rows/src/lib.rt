@@ -38,10 +38,14 @@ const T: u8 = codes::IDENTIFICATION;
 
 const X: u8 = codes::SKIP;
 
-// The records that ask something of their fields together, by number; specs/Records.antt has all records in order.
+// 58's line 7, 82's entries, 164's factors and 1815's lists, by number; specs/Records.antt has all records in order.
 pub const DATA_FORM: usize = 3;
 
+pub const TRACE_ENTRIES: usize = 6;
+
 pub const FACTORS: usize = 10;
+
+pub const ORDER_LISTS: usize = 29;
 
 // How many records there are; as a record's number it stands for none.
 pub const NO_RECORD: usize = 30;

@@ -4,20 +4,16 @@ use mathlib.Core.Bool.{Bool, true, false}
 use mathlib.Core.List.{List, [], _∷_}
 use Prim.Native.Nat.{ℕ, suc}
 use native.Mathlib.Omega.{arith}
-use borrow.Author.Tests.{eqb-true, ltb-true}
-use lib.Dec.{eqb}
+use borrow.Author.Tests.{ltb-true}
 use lib.ListN.{length}
-use Rattle.laws.specs.Choice.{pick, false-not-true}
+use Rattle.laws.specs.Choice.{false-not-true}
 use Rattle.field.specs.Item.{Item}
 use Rattle.rows.specs.Row.{Row}
-use Rattle.rows.specs.Records.{records, recordOf}
-use Rattle.rows.specs.Sequence.{kindOf, isTyped, sequence, sequences}
-use Rattle.record.specs.Check.{itemsOf}
-use Rattle.record.specs.Declared.{naturalAt, caseBy, countBy, storedBy, numberIn, caseIn, countIn, storedIn}
+use Rattle.rows.specs.TypedSets.{kindOf, isTyped}
 use Rattle.theory.specs.Due.{rowsOf}
-use Rattle.walk.specs.Due.{opening, recordDue, rowDue, isClosed, after, afterRecord}
+use Rattle.walk.specs.Due.{opening, rowDue, isClosed, afterItems}
 use Rattle.walk.specs.declared.Due.{Due}
-use Rattle.sets.specs.Follows.{afterItems, afterRecordItems, Follows, closed, more}
+use Rattle.sets.specs.Follows.{Follows, closed, more}
 use Rattle.sets.specs.Owed.{Owes, Next}
 use Rattle.sets.specs.ListLaws.{lists-closed, lists-next}
 use Rattle.sets.specs.RecordsLaws.{records-open, records-next, records-opening}
@@ -62,25 +58,3 @@ module _ (n : ℕ) (iss : List (List Item)) where
   -- the walk follows lines that are as many as document 01's rows
   pub rows-follow : isTyped n ≡ true → length iss ≡ length (rowsOf n iss) → Follows (opening (kindOf n)) iss (rowsOf n iss)
   rows-follow t e = owed-follows iss (opening (kindOf n)) (rowsOf n iss) (isClosed (opening (kindOf n))) refl (opening-owes t) e
-
--- two choices by one test agree where their parts do
-pick-agree : {A : Type 0} (t : Bool) (x x′ y y′ : A) → (t ≡ true → x ≡ x′) → y ≡ y′ → pick t x y ≡ pick t x′ y′
-pick-agree true x x′ y y′ f g = f refl
-pick-agree false x x′ y y′ f g = g
-
-module _ (d : Due) (line : List ℕ) where
-  afterRecord-items : afterRecord d line ≡ afterRecordItems d (itemsOf (rowDue d .fields) 0 line)
-  unfolding afterRecord afterRecordItems rowDue recordDue sequence sequences recordOf records itemsOf numberIn caseIn countIn storedIn naturalAt caseBy countBy storedBy
-  afterRecord-items =
-      pick-agree (eqb (d .kind) 0) _ _ _ _
-      (λ k. pick-agree (eqb (d .at) 6) _ _ _ _ (λ a. rw (eqb-true (d .kind) 0 k, eqb-true (d .at) 6 a) refl) refl)
-      (pick-agree (eqb (d .kind) 1) _ _ _ _
-      (λ k. pick-agree (eqb (d .at) 0) _ _ _ _ (λ a. rw (eqb-true (d .kind) 1 k, eqb-true (d .at) 0 a) refl) refl)
-      (pick-agree (eqb (d .kind) 4) _ _ _ _
-      (λ k. pick-agree (eqb (d .at) 23) _ _ _ _ (λ a. rw (eqb-true (d .kind) 4 k, eqb-true (d .at) 23 a) refl) refl)
-      refl))
-
-  -- a line's columns and its items give the same state
-  pub after-items : after d line ≡ afterItems d (itemsOf (rowDue d .fields) 0 line)
-  unfolding after afterItems
-  after-items = rw afterRecord-items refl

@@ -10,9 +10,8 @@ use lib.ListN.{length}
 use Rattle.laws.specs.Choice.{pick, and-right}
 use Rattle.field.specs.Item.{Item}
 use Rattle.rows.specs.Records.{noRecord}
-use Rattle.walk.specs.Due.{due, recordDue, listRow, rowDue, isClosed, settled, afterList}
+use Rattle.walk.specs.Due.{due, recordDue, listRow, rowDue, isClosed, settled, afterList, afterItems}
 use Rattle.walk.specs.declared.Due.{Due}
-use Rattle.sets.specs.Follows.{afterItems}
 use Rattle.sets.specs.LinesForLaws.{listRows-none, listRows-more}
 use Rattle.sets.specs.Owed.{rowsLeft, Listing, Owes, Next}
 

@@ -8,27 +8,19 @@ use Rattle.laws.specs.Choice.{pick}
 use Rattle.field.specs.Item.{Item}
 use Rattle.rows.specs.Row.{Row}
 use Rattle.rows.specs.Records.{recordOf, noRecord}
-use Rattle.rows.specs.Sequence.{sequence, untyped}
+use Rattle.rows.specs.TypedSets.{sequence, untyped, following}
 use Rattle.theory.specs.Due.{listRows, listsOf}
-use Rattle.walk.specs.Due.{due, opening, recordDue, listRow, rowDue}
+use Rattle.walk.specs.Due.{due, recordDue, listRow, rowDue, countPlace, counted, afterItems}
 use Rattle.walk.specs.declared.Due.{Due}
-use Rattle.sets.specs.Follows.{afterItems, afterRecordItems}
 
 -- a state of this kind, with this many lines of its records taken
 abbrev pub Stands : ℕ → ℕ → Due → Type 0
 Stands k a d = d ≡ due k a (d .case) (d .left) (d .second)
 
--- the record that counts what follows the records, by its place from 0; 30, past them all, where a kind has none
-unfoldable pub countPlace : ℕ → ℕ
-countPlace k = getD (6 ∷ 0 ∷ noRecord ∷ noRecord ∷ 23 ∷ []) k noRecord
-
--- what is known of the lists when this many records have come, of a set with these lines: nothing up to the record that counts
-unfoldable pub counted : ℕ → List (List Item) → ℕ → Due
-counted k ls a = pick (leb a (countPlace k)) (opening k) (afterRecordItems (due k (countPlace k) 0 0 0) (getD ls (countPlace k) []))
-
--- the state then
-abbrev pub reached : ℕ → List (List Item) → ℕ → Due
-reached k ls a = due k a (counted k ls a .case) (counted k ls a .left) (counted k ls a .second)
+-- the state of a set with these lines when this many records have come: past the one that counts, the numbers are known
+unfoldable pub reached : ℕ → List (List Item) → ℕ → Due
+reached k ls a =
+    pick (leb a (countPlace (following k))) (due k a 0 0 0) (counted (following k) (getD ls (countPlace (following k)) []) (due k a 0 0 0))
 
 -- the rows of the lists still to come
 unfoldable pub rowsLeft : Due → List Row

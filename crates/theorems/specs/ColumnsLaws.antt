@@ -9,7 +9,7 @@ use Rattle.laws.specs.Choice.{below-or-not}
 use Rattle.layout.specs.Columns.{lineOf, fieldOf}
 use Rattle.layout.specs.ColumnsLaws.{fieldOf-inside, stored-at}
 use Rattle.layout.specs.Layout.{numbersOf}
-use Rattle.rows.specs.Sequence.{headerLines}
+use Rattle.rows.specs.TypedSets.{headerLines}
 use Rattle.theory.specs.Sets.{Set}
 use Rattle.parts.specs.Parts.{Part, lineStart}
 use Rattle.parts.specs.Function.{dataStart, firstByte, pastByte}

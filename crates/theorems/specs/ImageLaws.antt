@@ -13,7 +13,7 @@ use Rattle.line.specs.Line.{filled, refusal}
 use Rattle.line.specs.declared.Refusal.{Refusal}
 use Rattle.kind.specs.Kind.{isDelimiter, datasetNumber}
 use Rattle.field.specs.Item.{Item}
-use Rattle.rows.specs.Sequence.{isTyped}
+use Rattle.rows.specs.TypedSets.{isTyped}
 use Rattle.record.specs.Check.{rowRefusal}
 use Rattle.walk.specs.declared.Due.{Due}
 use Rattle.walk.specs.declared.Place.the-variants.{Outside, Plain, Typed}

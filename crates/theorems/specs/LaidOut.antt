@@ -6,7 +6,7 @@ use lib.IntN.{ℤ, pos, natAbs}
 use lib.ListN.{length, getD}
 use Rattle.laws.specs.Cut.{cut}
 use Rattle.rows.specs.Records.{recordOf, noRecord}
-use Rattle.rows.specs.Sequence.{sequence, headerLines, kind58}
+use Rattle.rows.specs.TypedSets.{sequence, headerLines, kind58}
 use Rattle.record.specs.Written.{Written}
 use Rattle.parts.specs.Parts.{columnsIn}
 use Rattle.header.specs.declared.Header.{Header}

@@ -9,7 +9,7 @@ use Rattle.text.specs.Text.{trimmed}
 use Rattle.line.specs.Line.{filled}
 use Rattle.kind.specs.Kind.{isDelimiter, datasetNumber}
 use Rattle.field.specs.Item.{Item, text}
-use Rattle.rows.specs.Sequence.{kindOf, isTyped}
+use Rattle.rows.specs.TypedSets.{kindOf, isTyped}
 use Rattle.record.specs.Check.{itemsOf, rowRefusal}
 use Rattle.walk.specs.declared.Due.{Due}
 use Rattle.walk.specs.Due.{opening, rowDue, isClosed, after}

@@ -16,12 +16,10 @@ use Rattle.line.specs.LineLaws.{filled-length}
 use Rattle.kind.specs.Kind.{Delimiter, NumberLine, isDelimiter, datasetNumber}
 use Rattle.kind.specs.KindLaws.{isDelimiter-sound, datasetNumber-sound}
 use Rattle.field.specs.Item.{Item, text}
-use Rattle.rows.specs.Sequence.{kindOf, isTyped}
+use Rattle.rows.specs.TypedSets.{kindOf, isTyped}
 use Rattle.record.specs.Check.{itemsOf, rowRefusal}
-use Rattle.walk.specs.Due.{opening, rowDue, isClosed, after}
+use Rattle.walk.specs.Due.{opening, rowDue, isClosed, after, afterItems}
 use Rattle.walk.specs.declared.Due.{Due}
-use Rattle.sets.specs.Follows.{afterItems}
-use Rattle.sets.specs.FollowsLaws.{after-items}
 use Rattle.theory.specs.Sets.{Set, set}
 use Rattle.theory.specs.Proper.{BlankLines, PlainLines, SetLines, Lines}
 use Rattle.theorems.specs.Reader.{Reading, outside, number, plain, typed, bad, closed, opened, typedOn, readLine, readLines}
@@ -184,7 +182,7 @@ module _ (cs : List ℕ) (css : List (List ℕ)) (short : length cs ≤ 80) (ih 
   typed-case acc v c d m false false zero e k f h =
       let is : List Item = itemsOf (rowDue d .fields) 0 (filled cs) in
       rest-line (TypedRun (afterItems d is)) (TypedRun d) is cs (λ iss body r. TypedRun.more k (rowDue-sound d cs f) (inside-sound cs e) r)
-      (ih .of-typed acc v _ _ m (rw (after-items d (filled cs)) at h))
+      (ih .of-typed acc v _ _ m h)
   typed-case acc v c d m false false (suc n) e k f h = not-bad css m h
 
 -- from each state, by the lines

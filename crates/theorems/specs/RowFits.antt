@@ -7,7 +7,7 @@ use Prim.Native.Nat.{ℕ, zero, suc, _≤_}
 use native.Mathlib.Nat.{le-trans}
 use native.Mathlib.Omega.{arith}
 use borrow.Author.Tests.{leb-true}
-use lib.Dec.{leb, ltb, eqb}
+use lib.Dec.{leb, ltb}
 use lib.ListN.{take}
 use Rattle.laws.specs.Choice.{pick, below-or-not}
 use Rattle.laws.specs.Ranges.{in-range}
@@ -17,8 +17,9 @@ use Rattle.layout.specs.LayoutLaws.{total-inside}
 use Rattle.rows.specs.Row.{Field, Row, cut}
 use Rattle.rows.specs.Records.{E, records, recordOf, dataRow, noRecord}
 use Rattle.rows.specs.TabledLaws.{recordOf-past}
+use Rattle.rows.specs.TypedSets.{Following, nothing, list, lists, dataLines, following}
 use Rattle.record.specs.CheckLaws.{total-take}
-use Rattle.walk.specs.Due.{recordDue, listRow, rowDue}
+use Rattle.walk.specs.Due.{recordDue, listRow, rowDue, fullRow}
 use Rattle.walk.specs.declared.Due.{Due}
 
 -- the widths of a row's fields
@@ -65,11 +66,15 @@ cut-fits : (n : ℕ) (r : Row) → Fits r → Fits (cut n r)
 cut-fits n r h = rw (widths-take n (r .fields)) (le-trans (total-take (widths (r .fields)) n) h)
 
 -- a full line of the list that follows the records
+fullRow-fits : (f : Following) (c : ℕ) → Fits (fullRow f c)
+fullRow-fits nothing c = recordOf-fits noRecord
+fullRow-fits (list r p i) c = recordOf-fits r
+fullRow-fits (lists r p i j) c = recordOf-fits r
+fullRow-fits (dataLines p) c = dataRow-fits c
+
 listRow-fits : (d : Due) → Fits (listRow d)
 unfolding listRow
-listRow-fits d =
-    pick-fits (eqb (d .kind) 0) (dataRow (d .case)) _ (dataRow-fits (d .case))
-    (pick-fits (eqb (d .kind) 1) (recordOf 6) (recordOf 29) (recordOf-fits 6) (recordOf-fits 29))
+listRow-fits d = fullRow-fits (following (d .kind)) (d .case)
 
 -- the row of the next line, a record or what is left of a list
 pub rowDue-fits : (d : Due) → total (map (λ (f : Field). f .width) (rowDue d .fields)) ≤ 80

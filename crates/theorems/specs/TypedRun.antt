@@ -6,10 +6,9 @@ use Prim.Native.Nat.{ℕ}
 use Rattle.line.specs.Line.{filled}
 use Rattle.field.specs.Item.{Item}
 use Rattle.record.specs.Written.{Written}
-use Rattle.walk.specs.Due.{rowDue, isClosed}
+use Rattle.walk.specs.Due.{rowDue, isClosed, afterItems}
 use Rattle.walk.specs.declared.Due.{Due}
 use Rattle.theory.specs.Proper.{Inside}
-use Rattle.sets.specs.Follows.{afterItems}
 
 -- from this state, lines of these columns write these items, each by the row due, and after them the set is closed
 pub data TypedRun : Due → List (List Item) → List (List ℕ) → Type 0 where

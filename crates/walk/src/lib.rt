@@ -4,10 +4,10 @@ ghost use Prim.Native.Nat.{_≤_, _<_};
 ghost use lib.ListN.{length, getD};
 ghost use Rattle.line.specs.Line.{refusal};
 ghost use Rattle.rows.specs.Records.{noRecord};
-ghost use Rattle.rows.specs.Sequence.{kind58, kind82, kind1815, beforeAxes, kindOf, isTyped};
+ghost use Rattle.rows.specs.TypedSets.{kind58, kind82, kind1815, beforeAxes, kindOf, isTyped};
 ghost use Rattle.record.specs.Check.{rowRefusal};
 ghost use Rattle.record.specs.Declared.{numberIn, caseIn, countIn, storedIn};
-ghost use Rattle.walk.specs.Due.{due, next, recordDue, listRow, rowDue, isClosed, settled, afterRecord, afterList, after};
+ghost use Rattle.walk.specs.Due.{due, next, recordDue, listRow, rowDue, isClosed, settled, itemsDue, afterRecord, afterList, after};
 ghost use Rattle.walk.specs.Step.{state, opened, outsideStep, numberStep, plainStep, typedStep, stepOf};
 use integer::integer_field;
 use laws::index;
@@ -20,6 +20,8 @@ use rows::KIND_164;
 use rows::KIND_1815;
 use rows::LINE_SEVEN;
 use rows::NO_RECORD;
+use rows::ORDER_LISTS;
+use rows::TRACE_ENTRIES;
 use rows::UNTYPED;
 
 // What is due in a typed set: the kind of set, how many of its records have come, the case of a
@@ -91,11 +93,6 @@ const RECORDS_1815: [u8; 24] = [
     0,
     28,
 ];
-
-// The records that a full line of a list is: 82's entries, 1815's numbers.
-const ENTRIES: usize = 6;
-
-const NUMBERS: usize = 29;
 
 // The most sets that a file may have.
 const MOST_SETS: u32 = 4096;
@@ -273,7 +270,7 @@ fn next_record(d: Due) -> Due
 // After a record: 58's line 7, 82's line 1 and 1815's record 24 say how many numbers follow the records.
 fn after_record(d: Due, line: &[u8; 80]) -> Due
     requires { ⌜ d .at < 24 ⌝ }
-    ensures { λ r. ⌜ r ≡ afterRecord d (now (line .entry)) ⌝ }
+    ensures { λ r. ⌜ r ≡ afterRecord d (itemsDue d (now (line .entry))) ⌝ }
 {
     if d.kind == KIND_58 {
         if d.at == LINE_SEVEN {
@@ -306,7 +303,10 @@ fn list_fields(d: Due) -> usize
     if d.kind == KIND_82 {
         return 8;
     }
-    5
+    if d.kind == KIND_1815 {
+        return 5;
+    }
+    0
 }
 
 // After a line of the list.
@@ -355,9 +355,12 @@ fn check_due(d: Due, number: usize, line: &[u8; 80]) -> Refusal
         return record::check_data(line, d.case, d.left);
     }
     if d.kind == KIND_82 {
-        return record::check_list(line, ENTRIES, d.left);
+        return record::check_list(line, TRACE_ENTRIES, d.left);
     }
-    record::check_list(line, NUMBERS, d.left)
+    if d.kind == KIND_1815 {
+        return record::check_list(line, ORDER_LISTS, d.left);
+    }
+    record::check_list(line, NO_RECORD, d.left)
 }
 
 // The file goes on.

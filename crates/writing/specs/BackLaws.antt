@@ -24,7 +24,7 @@ use Rattle.layout.specs.LayoutLaws.{fieldsOf-some, total-inside}
 use Rattle.field.specs.Item.{Item}
 use Rattle.rows.specs.Row.{Row}
 use Rattle.rows.specs.Records.{plain, records, recordOf, noRecord}
-use Rattle.rows.specs.Sequence.{kindOf, sequence, sequences, headerLines, kind58, lineSeven}
+use Rattle.rows.specs.TypedSets.{kindOf, sequence, typedSets, headerLines, kind58, lineSeven}
 use Rattle.record.specs.Written.{Written}
 use Rattle.decimal.specs.Decimal.{fits, fieldText}
 use Rattle.decimal.specs.DecimalLaws.{fieldText-length, SameNumber, ReadBack, fits-read}
@@ -103,13 +103,13 @@ fit-at {c} {j} (suc i) (AllFit.more n f t) h = let z : j + suc i ≡ suc j + i =
 
 -- the rows of a 58's first eleven lines
 header-row : (iss : List (List Item)) (i : ℕ) → i < headerLines → getD (rowsOf 58 iss) i (plain []) ≡ recordOf (getD (sequence kind58) i noRecord)
-unfolding rowsOf kindOf sequence sequences recordOf records
+unfolding rowsOf kindOf sequence typedSets recordOf records
 header-row iss i h =
     let ks : List ℕ = 1 ∷ 1 ∷ 1 ∷ 1 ∷ 1 ∷ 2 ∷ 3 ∷ 4 ∷ 4 ∷ 4 ∷ 4 ∷ [] in
     List·getD-append (map recordOf ks) (listsOf kind58 iss) (plain []) i h ∙ List·getD-map recordOf ks i noRecord
 
 rows-eleven : (iss : List (List Item)) (i : ℕ) → i < headerLines → i < length (rowsOf 58 iss)
-unfolding rowsOf kindOf sequence sequences
+unfolding rowsOf kindOf sequence typedSets
 rows-eleven iss i h = rw (length-append (map recordOf (1 ∷ 1 ∷ 1 ∷ 1 ∷ 1 ∷ 2 ∷ 3 ∷ 4 ∷ 4 ∷ 4 ∷ 4 ∷ [])) (listsOf kind58 iss)) (omega arith)
 
 header-line : {s : Set} {css : List (List ℕ)} → SetLines s css → s .number ≡ 58 → (i : ℕ) → i < headerLines

@@ -21,13 +21,13 @@ use Rattle.layout.specs.Layout.{layouts, layoutOf, fieldsOf}
 use Rattle.layout.specs.LayoutLaws.{fieldsOf-some, total-inside}
 use Rattle.rows.specs.Row as Row
 use Rattle.rows.specs.Records.{E, dataRow}
-use Rattle.rows.specs.Sequence.{sequence, sequences, headerLines, kind58}
+use Rattle.rows.specs.TypedSets.{sequence, typedSets, headerLines, kind58, following}
 use Rattle.record.specs.Written.{FieldsIn, Written, Kept}
 use Rattle.reading.specs.LineReading.{written-complete}
 use Rattle.walk.specs.declared.Due.{Due}
 use Rattle.walk.specs.declared.Place.the-variants.{Typed}
 use Rattle.walk.specs.declared.Outcome.the-variants.{Next}
-use Rattle.walk.specs.Due.{due, recordDue, listRow, rowDue, isClosed, settled, afterList, after}
+use Rattle.walk.specs.Due.{due, recordDue, listRow, rowDue, isClosed, settled, afterList, after, afterItems}
 use Rattle.walk.specs.DueLaws.{dataRow-length}
 use Rattle.walk.specs.Step.{state, stepOf, typedStep}
 use Rattle.judge.specs.Judge.{lineStep, Run, going, runStep, runEnd}
@@ -48,11 +48,11 @@ dataDue c left = due kind58 headerLines c left 0
 
 -- what is due in the data
 row-due : (c left : ℕ) → rowDue (dataDue c left) ≡ Row.cut left (dataRow c)
-unfolding rowDue recordDue listRow sequence sequences
+unfolding rowDue recordDue listRow sequence following typedSets
 row-due c left = refl
 
 still-open : (c left : ℕ) → 0 < left → isClosed (dataDue c left) ≡ false
-unfolding isClosed recordDue sequence sequences
+unfolding isClosed recordDue sequence typedSets
 still-open c left h = ne-eqb left 0 (λ e. omega arith)
 
 -- after a line of it
@@ -65,7 +65,7 @@ settled-same c left = by (eqb left 0) refl
     by false e = refl
 
 after-line : (c left : ℕ) (line : List ℕ) → after (dataDue c left) line ≡ dataDue c (left - fieldsOf c)
-unfolding after afterList recordDue listRow sequence sequences
+unfolding afterItems afterList recordDue listRow sequence following typedSets
 after-line c left line = rw (dataRow-length c) (settled-same c (left - fieldsOf c))
 
 -- a line of the data
@@ -96,9 +96,9 @@ module _ (c : ℕ) (w : ℕ) (ws : List ℕ) (x s : ℤ) (xs ss : List ℤ) (wid
         line-passes line a eighty e (fields-long fit),
         line-inside line a eighty e (fields-long fit),
         still-open c (suc (length xs)) (omega arith),
+        after-line c (suc (length xs)) (filled line),
         row-due c (suc (length xs)),
         written-complete (filled line) (filled-length line) _ _ line-written .0,
-        after-line c (suc (length xs)) (filled line),
       ) refl
 
 -- a number of each field fits, from number j on

@@ -12,7 +12,7 @@ use Rattle.laws.specs.Choice.{pick, below-or-not}
 use Rattle.laws.specs.Cut.{cut, over, judge}
 use Rattle.line.specs.declared.Refusal.{Refusal}
 use Rattle.line.specs.Line.{columns, lineFault}
-use Rattle.rows.specs.Sequence.{headerLines, kind58}
+use Rattle.rows.specs.TypedSets.{headerLines, kind58}
 use Rattle.walk.specs.declared.Due.{Due}
 use Rattle.walk.specs.declared.State.{State}
 use Rattle.walk.specs.declared.Place.the-variants.{Number, Typed}

@@ -4,7 +4,8 @@ use mathlib.Core.List.{List, []}
 use Prim.Native.Nat.{ℕ, _+_, _≤_, _<_}
 use lib.ListN.{length, getD}
 use Rattle.laws.specs.Cut.{cut, over}
-use Rattle.rows.specs.Sequence.{headerLines, lineSeven, kind58}
+use Rattle.rows.specs.TypedSets.{headerLines, lineSeven, kind58}
+use Rattle.record.specs.Declared.{caseIn, storedIn}
 use Rattle.walk.specs.declared.Due.{Due}
 use Rattle.walk.specs.declared.Place.the-variants.{Typed}
 use Rattle.walk.specs.Step.{state}
@@ -13,7 +14,6 @@ use Rattle.header.specs.declared.Header.{Header}
 use Rattle.header.specs.Header.{opened, headerOf}
 use Rattle.parts.specs.Parts.{columnsIn}
 use Rattle.rewriter.specs.RewriterLaws.{Inner}
-use Rattle.record.specs.Declared.{caseIn, storedIn}
 
 -- what line 7, given by its 80 columns, says: the case, and how many numbers are stored
 pub record Says (line : List ℕ) (d : Due) : Type 0 where

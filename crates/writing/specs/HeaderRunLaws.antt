@@ -26,14 +26,14 @@ use Rattle.field.specs.Item.{Item, natural}
 use Rattle.field.specs.Field.{mayBlank, integerNumber, integerItem, fieldNumber}
 use Rattle.rows.specs.Row.{Field, Row}
 use Rattle.rows.specs.Records.{I, records, recordOf, noRecord, dataForm}
-use Rattle.rows.specs.Sequence.{sequences, sequence, headerLines, beforeAxes, kind58, lineSeven}
+use Rattle.rows.specs.TypedSets.{typedSets, sequence, headerLines, beforeAxes, kind58, lineSeven}
 use Rattle.record.specs.Check.{orElse, fieldsFault, fieldsRefusal, conditionFault, rowRefusal}
 use Rattle.record.specs.Declared.{numberIn, caseIn, countIn, storedIn}
 use Rattle.walk.specs.declared.Due.{Due}
 use Rattle.walk.specs.declared.Place.the-variants.{Typed}
 use Rattle.walk.specs.declared.Outcome.the-variants.{Next, Refused}
-use Rattle.walk.specs.Due.{due, recordDue, rowDue, isClosed, opening, next, afterRecord, after}
-use Rattle.walk.specs.DueLaws.{numbersOf-few, rowRefusal-record}
+use Rattle.walk.specs.Due.{due, recordDue, rowDue, isClosed, opening, next, after}
+use Rattle.walk.specs.DueLaws.{numbersOf-few, rowRefusal-record, after-58}
 use Rattle.walk.specs.Step.{state, unless, typedStep, stepOf}
 use Rattle.walk.specs.StepLaws.{unless-here, unless-on}
 use Rattle.judge.specs.declared.Reply.{Reply}
@@ -159,7 +159,7 @@ abbrev some-record : ℕ → Bool
 some-record n = ltb (getD (sequence kind58) n noRecord) noRecord
 
 record-below : (n : ℕ) → n < headerLines → getD (sequence kind58) n noRecord < noRecord
-unfolding sequence sequences
+unfolding sequence typedSets
 record-below n h = ltb-true _ noRecord (in-range some-record true 0 headerLines n refl (omega arith) (omega arith))
 
 module _ (n : ℕ) (d : Due) (s : Stood n d) (h : n < headerLines) where
@@ -176,11 +176,10 @@ module _ (n : ℕ) (d : Due) (s : Stood n d) (h : n < headerLines) where
 
   module _ (l : List ℕ) (p : rowRefusal (rowDue d) l .number ≡ 0) where
     after-record : after d l ≡ pick (eqb n lineSeven) (due kind58 beforeAxes (caseIn l) (storedIn l) 0) (next d)
-    unfolding after afterRecord
-    after-record = rw (lt-ltb (recordDue d) noRecord due-below, s .kind, s .at) refl
+    after-record = after-58 d l (s .kind) due-below ∙ rw (s .at) refl
 
     after-seventh : n ≡ lineSeven → Bounds (caseIn l) (storedIn l)
-    unfolding sequence sequences
+    unfolding sequence typedSets
     after-seventh e =
         let r : recordDue d ≡ dataForm = due-record ∙ rw e refl in
         let q : rowRefusal (rowDue d) l ≡ rowRefusal (recordOf dataForm) l = rowRefusal-record d l due-below ∙ ap (λ (x : ℕ). rowRefusal (recordOf x) l) r in

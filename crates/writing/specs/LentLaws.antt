@@ -19,7 +19,7 @@ use Rattle.integer.specs.Integer.{integerOf, endInteger, stepInteger, push}
 use Rattle.layout.specs.Columns.{fieldOf}
 use Rattle.layout.specs.Layout.{layoutOf, fieldsOf}
 use Rattle.layout.specs.LayoutLaws.{fieldsOf-some}
-use Rattle.rows.specs.Sequence.{kindOf, isTyped, sequence, sequences, headerLines, kind58}
+use Rattle.rows.specs.TypedSets.{kindOf, isTyped, sequence, typedSets, headerLines, kind58}
 use Rattle.walk.specs.declared.Due.{Due}
 use Rattle.walk.specs.declared.State.{State}
 use Rattle.walk.specs.declared.Place.the-variants.{Outside, Number, Typed}
@@ -87,11 +87,11 @@ unfolding lineStep columns withoutReturn lineFault firstBad isAllowed filled ste
 opens = refl
 
 pub numbered : lineStep (state Number 1) (plainNumber 58) ≡ Next Header.opened
-unfolding lineStep columns withoutReturn lineFault firstBad isAllowed filled stepOf numberStep plainNumber plainIn digitOrBlank opened isTyped kindOf datasetNumber allBlank integerOf endInteger run stepInteger isDigit push
+unfolding lineStep columns withoutReturn lineFault firstBad isAllowed filled stepOf numberStep plainNumber plainIn digitOrBlank opened isTyped kindOf typedSets datasetNumber allBlank integerOf endInteger run stepInteger isDigit push
 numbered = refl
 
 closed : (c : ℕ) → lineStep (state (Typed (dataDue c 0)) 1) plainDelimiter ≡ Next (state Outside 1)
-unfolding lineStep columns withoutReturn lineFault firstBad isAllowed filled stepOf typedStep allBlank isDelimiter thenBlank isClosed recordDue sequence sequences
+unfolding lineStep columns withoutReturn lineFault firstBad isAllowed filled stepOf typedStep allBlank isDelimiter thenBlank isClosed recordDue sequence typedSets
 closed c = refl
 
 -- the lines of a set up to its closing delimiter
