@@ -18,7 +18,7 @@ use Rattle.walk.specs.declared.Place.the-variants.{Outside, Number, Plain, Type
 use Rattle.walk.specs.declared.State.{State}
 use Rattle.walk.specs.declared.Outcome.{Outcome}
 use Rattle.walk.specs.declared.Outcome.the-variants.{Next, Refused}
-use Rattle.walk.specs.Due.{rowDue, isClosed, after}
+use Rattle.walk.specs.Due.{mayClose, mayContinue, rowDue, after}
 use Rattle.walk.specs.Step.{state, unless, outsideStep, numberStep, plainStep, typedStep, placeStep, stepOf}
 use Rattle.judge.specs.Judge.{lineOutcome, lineStep}
 
@@ -44,8 +44,8 @@ sure-place Outside n line = sure-pick (allBlank line) _ _ tt (sure-pick (isDelim
 sure-place Number n line = sure-pick (ltb 0 (datasetNumber line)) _ _ tt (omega arith)
 sure-place Plain n line = sure-pick (isDelimiter line) (Next (state Outside n)) (Next (state Plain n)) tt tt
 sure-place (Typed d) n line =
-    sure-pick (isDelimiter line) _ _ (sure-pick (isClosed d) (Next (state Outside n)) (Refused (refusal 7 1)) tt (omega arith))
-    (sure-pick (isClosed d) (Refused (refusal 8 1)) _ (omega arith) (sure-unless (rowRefusal (rowDue d) line) (state (Typed (after d line)) n)))
+    sure-pick (isDelimiter line) _ _ (sure-pick (mayClose d) (Next (state Outside n)) (Refused (refusal 7 1)) tt (omega arith))
+    (sure-pick (mayContinue d) _ (Refused (refusal 8 1)) (sure-unless (rowRefusal (rowDue d) line) (state (Typed (after d line)) n)) (omega arith))
 
 pub sure-step : (s : State) (line : List ℕ) → Sure (stepOf s line)
 unfolding stepOf

@@ -12,16 +12,16 @@ use lib.Dec.{leb, eqb}
 use lib.ListN.{length, getD, drop, length-map, List·getD-eq-default}
 use lib.Seq.{drop-cons, drop-length, getD-drop, drop-drop}
 use Rattle.laws.specs.Choice.{pick, below-or-not}
-use Rattle.field.specs.Item.{Item}
 use Rattle.layout.specs.Layout.{numbersOf, fieldsOf}
 use Rattle.layout.specs.LayoutLaws.{fieldsOf-some}
+use Rattle.field.specs.Item.{Item}
 use Rattle.rows.specs.Records.{noRecord, recordOf, dataRow}
 use Rattle.rows.specs.TypedSets.{Following, nothing, list, lists, dataLines, untyped, sequence, following}
 use Rattle.rows.specs.TypedSetsLaws.{isCounted, is-counted, typed-sound}
 use Rattle.record.specs.Declared.{naturalAt, caseBy, countBy, storedBy}
 use Rattle.theory.specs.Sets.{numberAt}
 use Rattle.theory.specs.Due.{rowsAfter, listsOf}
-use Rattle.walk.specs.Due.{due, opening, recordDue, listRow, rowDue, isClosed, settled, countPlace, counted, next, afterRecord, afterItems}
+use Rattle.walk.specs.Due.{due, opening, recordDue, listRow, mayClose, rowDue, settled, countPlace, counted, next, afterRecord, afterItems}
 use Rattle.walk.specs.DueLaws.{afterRecord-next}
 use Rattle.walk.specs.declared.Due.{Due}
 use Rattle.sets.specs.Owed.{Stands, reached, rowsLeft, Listing, Owes, Next}
@@ -180,9 +180,9 @@ module _ (k a : ℕ) (ls : List (List Item)) (h : k < untyped) (p : a < length (
   record-below : recordDue (reached k ls a) < noRecord
   record-below = rw record-reached (typed-sound k h .below a p)
 
-  -- a set that waits for a record is not closed
-  pub records-open : isClosed (reached k ls a) ≡ false
-  unfolding isClosed
+  -- a set that waits for a record may not close
+  pub records-open : mayClose (reached k ls a) ≡ false
+  unfolding mayClose
   records-open = rw (lt-leb noRecord (recordDue (reached k ls a)) record-below) refl
 
   -- what is owed after this record: the next ones, or the lists

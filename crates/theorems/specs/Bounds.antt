@@ -33,7 +33,7 @@ use Rattle.walk.specs.declared.Place.the-variants.{Outside, Number, Plain, Type
 use Rattle.walk.specs.declared.State.{State}
 use Rattle.walk.specs.declared.Outcome.{Outcome}
 use Rattle.walk.specs.declared.Outcome.the-variants.{Next, Refused}
-use Rattle.walk.specs.Due.{rowDue, isClosed, after}
+use Rattle.walk.specs.Due.{mayClose, mayContinue, rowDue, after}
 use Rattle.walk.specs.Step.{state, start, unless, outsideStep, numberStep, plainStep, typedStep, placeStep, stepOf}
 use Rattle.judge.specs.declared.Reply.{Reply}
 use Rattle.judge.specs.Judge.{judged, reply, lineOutcome, lineStep, Run, going, refused, onOutcome, runStep, atEnd, runEnd}
@@ -114,8 +114,8 @@ few-place Outside n line = few-pick (allBlank line) _ _ tt (few-pick (isDelimite
 few-place Number n line = few-pick (ltb 0 (datasetNumber line)) _ _ tt (omega arith)
 few-place Plain n line = few-pick (isDelimiter line) (Next (state Outside n)) (Next (state Plain n)) tt tt
 few-place (Typed d) n line =
-    few-pick (isDelimiter line) _ _ (few-pick (isClosed d) (Next (state Outside n)) (Refused (refusal 7 1)) tt (omega arith))
-    (few-pick (isClosed d) (Refused (refusal 8 1)) _ (omega arith) (few-unless (rowRefusal (rowDue d) line) (state (Typed (after d line)) n) (row-most (rowDue d) line)))
+    few-pick (isDelimiter line) _ _ (few-pick (mayClose d) (Next (state Outside n)) (Refused (refusal 7 1)) tt (omega arith))
+    (few-pick (mayContinue d) _ (Refused (refusal 8 1)) (few-unless (rowRefusal (rowDue d) line) (state (Typed (after d line)) n) (row-most (rowDue d) line)) (omega arith))
 
 -- a line's own number
 fault-most : (ended : Bool) (cs : List ℕ) → lineFault ended cs .number ≤ 4

@@ -15,7 +15,7 @@ use Rattle.kind.specs.KindLaws.{isDelimiter-complete, datasetNumber-complete, d
 use Rattle.field.specs.Item.{Item, text}
 use Rattle.reading.specs.LineReading.{written-complete}
 use Rattle.record.specs.Written.{Written}
-use Rattle.walk.specs.Due.{rowDue, isClosed, afterItems}
+use Rattle.walk.specs.Due.{mayClose, mayContinue, rowDue, afterItems}
 use Rattle.walk.specs.declared.Due.{Due}
 use Rattle.theory.specs.Sets.{Set}
 use Rattle.theory.specs.Proper.{Inside, BlankLines, PlainLines, SetLines, Lines}
@@ -56,7 +56,7 @@ plain-line : (acc : List Set) (v : ℕ) (c : List (List Item)) (t cs : List ℕ)
 plain-line acc v c t cs i n = rw (inside-complete cs n, trimmed-complete i) refl
 
 -- a line of a typed set, written by the row due
-typed-line : (acc : List Set) (v : ℕ) (c : List (List Item)) (d : Due) (is : List Item) (cs : List ℕ) → isClosed d ≡ false
+typed-line : (acc : List Set) (v : ℕ) (c : List (List Item)) (d : Due) (is : List Item) (cs : List ℕ) → mayContinue d ≡ true
     → Written (rowDue d) is (filled cs) → Inside cs → readLine (typed acc v c d) cs ≡ typed acc v (c ++ (is ∷ [])) (afterItems d is)
 typed-line acc v c d is cs k w n =
     let o = written-complete (filled cs) (filled-length cs) (rowDue d) is w in
@@ -67,7 +67,7 @@ module _ (acc : List Set) (v : ℕ) (last : List ℕ) (later : List (List ℕ)) 
   plain-closes : (c : List (List Item)) → readLine (plain acc v c) last ≡ closed acc v c
   plain-closes c = rw (isDelimiter-complete e) refl
 
-  typed-closes : (c : List (List Item)) (d : Due) → isClosed d ≡ true → readLine (typed acc v c d) last ≡ closed acc v c
+  typed-closes : (c : List (List Item)) (d : Due) → mayClose d ≡ true → readLine (typed acc v c d) last ≡ closed acc v c
   typed-closes c d k = rw (isDelimiter-complete e, k) refl
 
   -- all of a plain set's lines, and its closing delimiter

@@ -1,14 +1,14 @@
 -- What is due in a typed set, line by line.
-use mathlib.Core.Bool.{Bool, _&&_}
+use mathlib.Core.Bool.{Bool, _&&_, _||_}
 use mathlib.Core.List.{List}
 use Prim.Native.Nat.{ℕ, _+_, _-_}
 use lib.Dec.{leb, ltb, eqb}
 use lib.ListN.{length, getD}
 use Rattle.laws.specs.Choice.{pick}
+use Rattle.field.specs.Item.{Item}
 use Rattle.rows.specs.Row.{Row, cut}
 use Rattle.rows.specs.Records.{recordOf, dataRow, noRecord}
 use Rattle.rows.specs.TypedSets.{sequence, Following, nothing, list, lists, dataLines, following}
-use Rattle.field.specs.Item.{Item}
 use Rattle.record.specs.Check.{itemsOf}
 use Rattle.record.specs.Declared.{naturalAt, caseBy, storedBy}
 use Rattle.walk.specs.declared.Due.{Due}
@@ -39,9 +39,13 @@ listRow d = fullRow (following (d .kind)) (d .case)
 unfoldable pub rowDue : Due → Row
 rowDue d = pick (ltb (recordDue d) noRecord) (recordOf (recordDue d)) (cut (d .left) (listRow d))
 
--- no line is due any more: the delimiter is
-unfoldable pub isClosed : Due → Bool
-isClosed d = leb noRecord (recordDue d) && eqb (d .left) 0
+-- whether the delimiter may come: no record is due, and no number
+unfoldable pub mayClose : Due → Bool
+mayClose d = leb noRecord (recordDue d) && eqb (d .left) 0
+
+-- whether a line may come: a record is due, or some number
+unfoldable pub mayContinue : Due → Bool
+mayContinue d = ltb (recordDue d) noRecord || ltb 0 (d .left)
 
 -- where a list is done, the second one is next
 unfoldable pub settled : Due → Due

@@ -1,12 +1,12 @@
 -- The code's table of records, the numbers that a record gives, and the rows of lists.
-use mathlib.Core.Path.{_≡_, refl, sym}
+use mathlib.Core.Path.{_≡_, refl, sym, ap, _∙_}
 use mathlib.Core.Logic.{⊎-elim}
-use mathlib.Core.Bool.{Bool, true, false}
+use mathlib.Core.Bool.{Bool, true, false, not}
 use mathlib.Core.List.{List, [], _∷_}
 use Prim.Native.Nat.{ℕ, zero, suc, _-_, _≤_, _<_}
 use native.Mathlib.Omega.{arith}
-use borrow.Author.Tests.{leb-true, lt-ltb, le-ltb, eqb-true, eqb-false, ne-eqb}
-use lib.Dec.{leb, eqb}
+use borrow.Author.Tests.{leb-true, lt-ltb, le-ltb, eqb-true, eqb-false, ne-eqb, lt-leb, le-leb}
+use lib.Dec.{leb, eqb, ltb}
 use lib.ListN.{length, getD, take, List·getD-eq-default, length-map}
 use Rattle.laws.specs.Choice.{pick, below-or-not}
 use Rattle.laws.specs.Ranges.{in-range}
@@ -27,7 +27,7 @@ use Rattle.rows.specs.TabledLaws.{recordOf-past}
 use Rattle.record.specs.Declared.{naturalAt, numberIn, caseIn, storedIn}
 use Rattle.record.specs.DeclaredLaws.{declares-items}
 use Rattle.walk.specs.declared.Due.{Due}
-use Rattle.walk.specs.Due.{due, recordDue, listRow, rowDue, settled, afterList, fullRow, countPlace, next, itemsDue, afterRecord, afterItems, after}
+use Rattle.walk.specs.Due.{due, recordDue, listRow, rowDue, settled, afterList, fullRow, countPlace, next, itemsDue, afterRecord, afterItems, after, mayClose, mayContinue}
 
 -- no sequence is longer than 24
 abbrev short : ℕ → Bool
@@ -180,3 +180,19 @@ after-58 d line k h = rw (lt-ltb (recordDue d) noRecord h) (go (eqb (d .at) line
     go : (t : Bool) → eqb (d .at) lineSeven ≡ t → afterRecord d (itemsDue d line) ≡ pick t (due kind58 beforeAxes (caseIn line) (storedIn line) 0) (next d)
     go true e = sym (afterRecord-data d line k (eqb-true (d .at) lineSeven e))
     go false e = sym (afterRecord-next d (itemsDue d line) lineSeven place (eqb-false (d .at) lineSeven e))
+
+-- of every set there is today either the delimiter may come or a line, and not both
+pub continue-or-close : (d : Due) → mayContinue d ≡ not (mayClose d)
+unfolding mayClose mayContinue
+continue-or-close d =
+    ⊎-elim
+    (λ h. rw (lt-ltb (recordDue d) noRecord h, lt-leb noRecord (recordDue d) h) refl)
+    (λ h. rw (le-ltb (recordDue d) noRecord h, le-leb noRecord (recordDue d) h) (some (d .left)))
+    (below-or-not (recordDue d) noRecord)
+  where
+    some : (n : ℕ) → ltb 0 n ≡ not (eqb n 0)
+    some zero = refl
+    some (suc n) = rw (lt-ltb 0 (suc n) (omega arith), ne-eqb (suc n) 0 (λ e. omega arith)) refl
+
+pub open-continues : (d : Due) → mayClose d ≡ false → mayContinue d ≡ true
+open-continues d h = continue-or-close d ∙ ap not h

@@ -7,7 +7,7 @@ ghost use Rattle.rows.specs.Records.{noRecord};
 ghost use Rattle.rows.specs.TypedSets.{kind58, kind82, kind1815, beforeAxes, kindOf, isTyped};
 ghost use Rattle.record.specs.Check.{rowRefusal};
 ghost use Rattle.record.specs.Declared.{numberIn, caseIn, countIn, storedIn};
-ghost use Rattle.walk.specs.Due.{due, next, recordDue, listRow, rowDue, isClosed, settled, itemsDue, afterRecord, afterList, after};
+ghost use Rattle.walk.specs.Due.{due, next, recordDue, listRow, rowDue, mayClose, mayContinue, settled, itemsDue, afterRecord, afterList, after};
 ghost use Rattle.walk.specs.Step.{state, opened, outsideStep, numberStep, plainStep, typedStep, stepOf};
 use integer::integer_field;
 use laws::index;
@@ -159,15 +159,26 @@ pub fn record_due(d: Due) -> usize
     NO_RECORD
 }
 
-// Whether no line is due any more: the delimiter is.
-fn is_closed(d: Due, number: usize) -> bool
+// Whether the delimiter may come: no record is due, and no number.
+fn may_close(d: Due, number: usize) -> bool
     requires { ⌜ number ≡ recordDue d ⌝ }
-    ensures { λ r. ⌜ r ≡ isClosed d ⌝ }
+    ensures { λ r. ⌜ r ≡ mayClose d ⌝ }
 {
     if number < NO_RECORD {
         return false;
     }
     d.left == 0
+}
+
+// Whether a line may come: a record is due, or some number.
+fn may_continue(d: Due, number: usize) -> bool
+    requires { ⌜ number ≡ recordDue d ⌝ }
+    ensures { λ r. ⌜ r ≡ mayContinue d ⌝ }
+{
+    if number < NO_RECORD {
+        return true;
+    }
+    0 < d.left
 }
 
 // Where a list is done, the second one is next.
@@ -435,21 +446,20 @@ pub fn typed_step(d: Due, sets: u32, line: &[u8; 80]) -> Outcome
     ensures { λ r. ⌜ r ≡ typedStep d sets (now (line .entry)) ⌝ }
 {
     let number = record_due(d);
-    let closed = is_closed(d, number);
     if kind::is_delimiter(line) {
-        if closed {
+        if may_close(d, number) {
             return goes_on(Place::Outside, sets);
         }
         return refused(7);
     }
-    if closed {
-        return refused(8);
+    if may_continue(d, number) {
+        let found = check_due(d, number, line);
+        if 0 < found.number {
+            return Outcome::Refused(found);
+        }
+        return goes_on(Place::Typed(after(d, number, line)), sets);
     }
-    let found = check_due(d, number, line);
-    if 0 < found.number {
-        return Outcome::Refused(found);
-    }
-    goes_on(Place::Typed(after(d, number, line)), sets)
+    refused(8)
 }
 
 // The step of one line.

@@ -5,7 +5,7 @@ use mathlib.Core.List.{List, [], _∷_, map}
 use Prim.Native.Nat.{ℕ, zero, suc, _+_, _-_, _^_, _≤_, _<_}
 use native.Mathlib.Nat.{add-zero}
 use native.Mathlib.Omega.{arith}
-use borrow.Author.Tests.{ne-eqb, eqb-true, leb-true}
+use borrow.Author.Tests.{ne-eqb, eqb-true, leb-true, lt-ltb}
 use lib.Dec.{leb, eqb}
 use lib.IntN.{ℤ, natAbs}
 use lib.ListN.{length, getD, take, drop, replicate, length-drop}
@@ -27,7 +27,7 @@ use Rattle.reading.specs.LineReading.{written-complete}
 use Rattle.walk.specs.declared.Due.{Due}
 use Rattle.walk.specs.declared.Place.the-variants.{Typed}
 use Rattle.walk.specs.declared.Outcome.the-variants.{Next}
-use Rattle.walk.specs.Due.{due, recordDue, listRow, rowDue, isClosed, settled, afterList, after, afterItems}
+use Rattle.walk.specs.Due.{due, recordDue, listRow, mayContinue, rowDue, settled, afterList, after, afterItems}
 use Rattle.walk.specs.DueLaws.{dataRow-length}
 use Rattle.walk.specs.Step.{state, stepOf, typedStep}
 use Rattle.judge.specs.Judge.{lineStep, Run, going, runStep, runEnd}
@@ -51,9 +51,9 @@ row-due : (c left : ℕ) → rowDue (dataDue c left) ≡ Row.cut left (dataRow c
 unfolding rowDue recordDue listRow sequence following typedSets
 row-due c left = refl
 
-still-open : (c left : ℕ) → 0 < left → isClosed (dataDue c left) ≡ false
-unfolding isClosed recordDue sequence typedSets
-still-open c left h = ne-eqb left 0 (λ e. omega arith)
+still-open : (c left : ℕ) → 0 < left → mayContinue (dataDue c left) ≡ true
+unfolding mayContinue recordDue sequence typedSets
+still-open c left h = lt-ltb 0 left h
 
 -- after a line of it
 settled-same : (c left : ℕ) → settled (dataDue c left) ≡ dataDue c left

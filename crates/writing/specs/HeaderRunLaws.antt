@@ -32,8 +32,8 @@ use Rattle.record.specs.Declared.{numberIn, caseIn, countIn, storedIn}
 use Rattle.walk.specs.declared.Due.{Due}
 use Rattle.walk.specs.declared.Place.the-variants.{Typed}
 use Rattle.walk.specs.declared.Outcome.the-variants.{Next, Refused}
-use Rattle.walk.specs.Due.{due, recordDue, rowDue, isClosed, opening, next, after}
-use Rattle.walk.specs.DueLaws.{numbersOf-few, rowRefusal-record, after-58}
+use Rattle.walk.specs.Due.{due, recordDue, mayClose, mayContinue, rowDue, opening, next, after}
+use Rattle.walk.specs.DueLaws.{numbersOf-few, rowRefusal-record, after-58, open-continues}
 use Rattle.walk.specs.Step.{state, unless, typedStep, stepOf}
 use Rattle.walk.specs.StepLaws.{unless-here, unless-on}
 use Rattle.judge.specs.declared.Reply.{Reply}
@@ -170,8 +170,8 @@ module _ (n : ℕ) (d : Due) (s : Stood n d) (h : n < headerLines) where
   due-below : recordDue d < noRecord
   due-below = rw due-record (record-below n h)
 
-  pub not-closed : isClosed d ≡ false
-  unfolding isClosed
+  pub not-closed : mayClose d ≡ false
+  unfolding mayClose
   not-closed = rw (lt-leb noRecord (recordDue d) due-below) refl
 
   module _ (l : List ℕ) (p : rowRefusal (rowDue d) l .number ≡ 0) where
@@ -216,7 +216,7 @@ pub data Met (d : Due) (l : List ℕ) : Type 0 where
   taken : Taken d l → Met d l
   stopped : (f : Refusal) → lineStep (state (Typed d) 1) l ≡ Refused f → 0 < f .number → Met d l
 
-module _ (d : Due) (l : List ℕ) (c : isClosed d ≡ false) where
+module _ (d : Due) (l : List ℕ) (c : mayClose d ≡ false) where
   -- a line that passes by itself is judged by its place
   step-place : lineFault true (columns true l) .number ≡ 0 → lineStep (state (Typed d) 1) l ≡ typedStep d 1 (columnsIn l)
   unfolding lineStep stepOf
@@ -228,7 +228,7 @@ module _ (d : Due) (l : List ℕ) (c : isClosed d ≡ false) where
 
   step-row : closes l ≡ false → typedStep d 1 (columnsIn l) ≡ unless (rowRefusal (rowDue d) (columnsIn l)) (state (Typed (after d (columnsIn l))) 1)
   unfolding typedStep closes
-  step-row h = rw (h, c) refl
+  step-row h = rw (h, open-continues d c) refl
 
   row-met : Fair l → closes l ≡ false → lineStep (state (Typed d) 1) l ≡ typedStep d 1 (columnsIn l) → Met d l
   row-met f o e =

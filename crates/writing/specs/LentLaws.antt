@@ -25,7 +25,7 @@ use Rattle.walk.specs.declared.State.{State}
 use Rattle.walk.specs.declared.Place.the-variants.{Outside, Number, Typed}
 use Rattle.walk.specs.declared.Outcome.{Outcome}
 use Rattle.walk.specs.declared.Outcome.the-variants.{Next}
-use Rattle.walk.specs.Due.{due, recordDue, isClosed}
+use Rattle.walk.specs.Due.{due, recordDue, mayClose}
 use Rattle.walk.specs.Step.{state, start, opened, stepOf, outsideStep, numberStep, typedStep}
 use Rattle.judge.specs.declared.Reply.{Reply}
 use Rattle.judge.specs.Judge.{judged, reply, lineStep, Run, going, onOutcome, runStep, runEnd}
@@ -91,7 +91,7 @@ unfolding lineStep columns withoutReturn lineFault firstBad isAllowed filled ste
 numbered = refl
 
 closed : (c : ℕ) → lineStep (state (Typed (dataDue c 0)) 1) plainDelimiter ≡ Next (state Outside 1)
-unfolding lineStep columns withoutReturn lineFault firstBad isAllowed filled stepOf typedStep allBlank isDelimiter thenBlank isClosed recordDue sequence typedSets
+unfolding lineStep columns withoutReturn lineFault firstBad isAllowed filled stepOf typedStep allBlank isDelimiter thenBlank mayClose recordDue sequence typedSets
 closed c = refl
 
 -- the lines of a set up to its closing delimiter
