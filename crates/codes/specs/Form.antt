@@ -112,6 +112,9 @@ forms =
     ∷ integer autorangeMethod never ∷ integer acquisitionResults never ∷ integer powerAccumulation never ∷ integer amplitudeUnits never
     ∷ integer displayUnits never ∷ integer backgroundGrid never ∷ integer acquisitionMonitor never ∷ integer orders never ∷ []
 
+abbrev pub lastForm : ℕ
+lastForm = 30
+
 unfoldable pub formOf : ℕ → Form
 formOf k = getD forms k skip
 

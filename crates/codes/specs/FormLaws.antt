@@ -9,10 +9,10 @@ use lib.ListN.{List·getD-eq-default}
 use Rattle.laws.specs.Choice.{false-not-true}
 use Rattle.laws.specs.Ranges.{in-range}
 use Rattle.codes.specs.Rule.{oneOf}
-use Rattle.codes.specs.Form.{Optional, never, within, skip, forms, formOf, optionalOf}
+use Rattle.codes.specs.Form.{Optional, never, within, skip, forms, formOf, optionalOf, lastForm}
 
 -- past the last form
-pub formOf-past : (k : ℕ) → 31 ≤ k → formOf k ≡ skip
+pub formOf-past : (k : ℕ) → lastForm < k → formOf k ≡ skip
 unfolding formOf forms
 formOf-past k h = List·getD-eq-default forms skip h
 

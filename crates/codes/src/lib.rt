@@ -72,6 +72,9 @@ pub const ACQUISITION_MONITOR: u8 = 29;
 
 pub const ORDERS: u8 = 30;
 
+// The last of the forms; those past it are skipped columns.
+pub const LAST_FORM: u8 = ORDERS;
+
 // Whether a code is a function type of 58.
 pub fn is_function_type(code: u32) -> bool
     ensures { λ r. ⌜ r ≡ keeps functionType (pos code) ⌝ }

@@ -122,7 +122,7 @@ fn show_kind(columns: &[u8]) {
 
 // c: the first refusal of a line by a record.
 fn show_record(row: usize, columns: &[u8]) {
-    if 30 <= row {
+    if rows::NO_RECORD <= row {
         return put(b"?");
     }
     let mut line = [32u8; 80];

@@ -11,7 +11,7 @@ use Rattle.laws.specs.Choice.{pick, and-left, and-right, false-not-true, below-
 use Rattle.laws.specs.Ranges.{in-range}
 use Rattle.text.specs.Blank.{allBlank}
 use Rattle.integer.specs.Integer.{integerOf}
-use Rattle.codes.specs.Form.{Form, Optional, skip, text, identification, real, integer, never, within, forms, formOf, optionalOf, ruleOf, allowedOf, blankFrom, blankPast}
+use Rattle.codes.specs.Form.{Form, Optional, skip, text, identification, real, integer, never, within, forms, formOf, optionalOf, ruleOf, allowedOf, blankFrom, blankPast, lastForm}
 use Rattle.codes.specs.Rule.{Rule}
 use Rattle.codes.specs.FormLaws.{formOf-past}
 use Rattle.field.specs.Field.{columnsOf, blankIn, mayBlank, integerNumber, fieldNumber, integerItem}
@@ -29,7 +29,7 @@ test k = inside (optionalOf (formOf k))
 
 tested : (k : ℕ) → test k ≡ true
 unfolding formOf forms
-tested k = ⊎-elim (λ h. in-range test true 0 31 k refl (omega arith) h) (λ h. rw (formOf-past k h) refl) (below-or-not k 31)
+tested k = ⊎-elim (λ h. in-range test true 0 (suc lastForm) k refl (omega arith) h) (λ h. rw (formOf-past k h) refl) (below-or-not k (suc lastForm))
 
 inside-past : (o : Optional) → inside o ≡ true → blankPast o ≤ 80
 inside-past never t = omega arith
@@ -56,7 +56,7 @@ module _ (k : ℕ) (line : List ℕ) where
   unfolding mayBlank
   mayBlank-none h = blankIn-none (optionalOf (formOf k)) line (tested k) h
 
--- the integers are the forms from 4 to 30
+-- the integers are the forms from 4 to the last
 abbrev isInteger : Form → Bool
 isInteger skip = false
 isInteger text = false
@@ -75,7 +75,7 @@ fieldNumber-of (integer r o) may cols t = refl
 abbrev number : ℕ → Bool
 number k = isInteger (formOf k)
 
-pub fieldNumber-integer : (k : ℕ) (may : Bool) (cols : List ℕ) → 4 ≤ k → k ≤ 30 → fieldNumber (formOf k) may cols ≡ integerNumber (ruleOf (formOf k)) may (integerOf cols)
+pub fieldNumber-integer : (k : ℕ) (may : Bool) (cols : List ℕ) → 4 ≤ k → k ≤ lastForm → fieldNumber (formOf k) may cols ≡ integerNumber (ruleOf (formOf k)) may (integerOf cols)
 unfolding formOf forms
 fieldNumber-integer k may cols a b = fieldNumber-of (formOf k) may cols (in-range number true 4 27 k refl a (omega arith))
 
@@ -86,7 +86,7 @@ fieldNumber-low zero may cols h = refl
 fieldNumber-low (suc zero) may cols h = refl
 fieldNumber-low (suc (suc k)) may cols h = absurd (omega arith)
 
-pub fieldNumber-past : (k : ℕ) (may : Bool) (cols : List ℕ) → 31 ≤ k → fieldNumber (formOf k) may cols ≡ 0
+pub fieldNumber-past : (k : ℕ) (may : Bool) (cols : List ℕ) → lastForm < k → fieldNumber (formOf k) may cols ≡ 0
 unfolding fieldNumber
 fieldNumber-past k may cols h = rw (formOf-past k h) refl
 

@@ -7,7 +7,7 @@ ghost use Rattle.field.specs.Item.{isZeroInteger, isZeroReal, isAboveZer
 ghost use Rattle.field.specs.Field.{mayBlank, integerNumber, realNumber, fieldNumber, integerItem, realItem};
 use codes::IDENTIFICATION;
 use codes::INTEGER;
-use codes::ORDERS;
+use codes::LAST_FORM;
 use codes::REAL;
 use integer::Integer;
 use integer::integer_field;
@@ -76,7 +76,7 @@ pub fn field_number(form: u8, may: bool, field: &[u8]) -> u8
     if form < INTEGER {
         return 0;
     }
-    if ORDERS < form {
+    if LAST_FORM < form {
         return 0;
     }
     integer_number(form, may, field)

@@ -7,6 +7,7 @@ use lib.Dec.{ltb}
 use Rattle.laws.specs.Choice.{pick}
 use Rattle.laws.specs.Cut as Cut
 use Rattle.line.specs.Line.{columns, lineFault}
+use Rattle.rows.specs.TypedSets.{headerLines, kind58}
 use Rattle.walk.specs.declared.Place.{Place}
 use Rattle.walk.specs.declared.Place.the-variants.{Outside, Number, Plain, Typed}
 use Rattle.walk.specs.declared.State.{State}
@@ -30,7 +31,7 @@ replyOf h = replyAt (h .number) (h .place) (h .column)
 
 -- a 58 opens, before its line 1
 abbrev pub opened : State
-opened = state (Typed (opening 0)) 1
+opened = state (Typed (opening kind58)) 1
 
 -- the number of a line past the eleventh: its own refusal's, otherwise 8
 abbrev pub pastNumber : ℕ → ℕ
@@ -39,7 +40,7 @@ pastNumber (suc m) = suc m
 
 -- one line more
 abbrev pub headerStep : Run → List ℕ → Run
-headerStep (going s n) l = pick (ltb n 11) (onOutcome n (lineStep s l)) (refused (reply (pastNumber (lineFault true (columns true l) .number)) (n + 1)))
+headerStep (going s n) l = pick (ltb n headerLines) (onOutcome n (lineStep s l)) (refused (reply (pastNumber (lineFault true (columns true l) .number)) (n + 1)))
 headerStep (refused r) l = refused r
 
 -- what eleven lines leave due: the numbers of the data lines. No other place is left (`writing`: `refused-place`)
@@ -51,7 +52,7 @@ leaves (Typed d) = answer 0 0 (d .case) (d .left)
 
 -- at the end, with the bytes after the last LF
 abbrev pub headerEnd : Run → List ℕ → Header
-headerEnd (going s n) [] = pick (ltb n 11) (answer 7 (n + 1) 0 0) (leaves (s .place))
+headerEnd (going s n) [] = pick (ltb n headerLines) (answer 7 (n + 1) 0 0) (leaves (s .place))
 headerEnd (going s n) (b ∷ bs) = answer (lineFault false (b ∷ bs) .number) (n + 1) 0 0
 headerEnd (refused r) rest = answerWith r 0 0
 

@@ -15,6 +15,7 @@ use Rattle.laws.specs.Cut.{text, onto, lineLen, cut, cut-append, cut-open, over
 use Rattle.line.specs.Line.{columns, lineFault}
 use Rattle.line.specs.LineLaws.{columns-take}
 use Rattle.line.specs.declared.Refusal.{Refusal}
+use Rattle.rows.specs.TypedSets.{headerLines}
 use Rattle.walk.specs.declared.Place.{Place}
 use Rattle.walk.specs.declared.State.{State}
 use Rattle.walk.specs.declared.Outcome.{Outcome}
@@ -47,12 +48,12 @@ module _ (s : State) (n : ℕ) where
   end-rest [] p = absurd (omega arith)
   end-rest (b ∷ bs) p = refl
 
-  pub end-few : (rest : List ℕ) → length rest ≤ 0 → n < 11 → answer 7 (n + 1) 0 0 ≡ headerEnd (going s n) rest
-  end-few [] h l = rw (lt-ltb n 11 l) refl
+  pub end-few : (rest : List ℕ) → length rest ≤ 0 → n < headerLines → answer 7 (n + 1) 0 0 ≡ headerEnd (going s n) rest
+  end-few [] h l = rw (lt-ltb n headerLines l) refl
   end-few (b ∷ bs) h l = absurd (omega arith)
 
-  pub end-place : (rest : List ℕ) (p : Place) → length rest ≤ 0 → 11 ≤ n → s .place ≡ p → leaves p ≡ headerEnd (going s n) rest
-  end-place [] p h l e = rw (le-ltb n 11 l, e) refl
+  pub end-place : (rest : List ℕ) (p : Place) → length rest ≤ 0 → headerLines ≤ n → s .place ≡ p → leaves p ≡ headerEnd (going s n) rest
+  end-place [] p h l e = rw (le-ltb n headerLines l, e) refl
   end-place (b ∷ bs) p h l e = absurd (omega arith)
 
 -- a refused run stays refused
@@ -70,15 +71,15 @@ module _ (s : State) (n : ℕ) (l : List ℕ) (at e : ℕ) (a : at ≤ length l)
   turn : judge headerStep headerEnd (going s n) (drop at l) ≡ judge headerStep headerEnd (headerStep (going s n) (take (e - at) (drop at l))) (drop (e + 1) l)
   turn = judge-at headerStep headerEnd (going s n) l at e a q h
 
-  pub header-past : (m : ℕ) → m ≡ pastNumber (lineFault true (columns true (take (e - at) (drop at l))) .number) → 11 ≤ n
+  pub header-past : (m : ℕ) → m ≡ pastNumber (lineFault true (columns true (take (e - at) (drop at l))) .number) → headerLines ≤ n
       → answer m (n + 1) 0 0 ≡ judge headerStep headerEnd (going s n) (drop at l)
-  header-past m u p = sym (turn ∙ rw (le-ltb n 11 p, ← u) (judge-refused (reply m (n + 1)) (drop (e + 1) l)))
+  header-past m u p = sym (turn ∙ rw (le-ltb n headerLines p, ← u) (judge-refused (reply m (n + 1)) (drop (e + 1) l)))
 
 -- the bytes of the first eleven lines; all of them where there are fewer
 pub record FirstEleven (b : List ℕ) (k : ℕ) : Type 0 where
   pub within : k ≤ length b
-  pub few : length (cut (take k b) .lines) ≤ 11
-  pub full : k < length b → length (cut (take k b) .lines) ≡ 11
+  pub few : length (cut (take k b) .lines) ≤ headerLines
+  pub full : k < length b → length (cut (take k b) .lines) ≡ headerLines
 
 -- the first line with its LF
 cut-first : (d : List ℕ) → lineLen d < length d → cut (take (suc (lineLen d)) d) ≡ text (take (lineLen d) d ∷ []) []
@@ -110,7 +111,7 @@ module _ (b : List ℕ) (at e : ℕ) (a : at ≤ length b) (q : e ≡ at + lineL
     pub rest-to : cut (take (e + 1) b) .rest ≡ []
     rest-to = rw cut-to refl
 
-  pub all-few : length b ≤ e → length (cut (take at b) .lines) ≤ 11 → FirstEleven b (length b)
+  pub all-few : length b ≤ e → length (cut (take at b) .lines) ≤ headerLines → FirstEleven b (length b)
   all-few h few =
       let o : cut (drop at b) ≡ text [] (drop at b) = cut-open (drop at b) (simp length-drop (omega arith)) in
       let n : length (cut b .lines) ≡ length (cut (take at b) .lines) =
@@ -118,10 +119,10 @@ module _ (b : List ℕ) (at e : ℕ) (a : at ≤ length b) (q : e ≡ at + lineL
       record { within = omega arith; few = rw (take-all (length b) b (omega arith)) (omega arith); full = λ l. absurd (omega arith) }
 
 -- eleven lines at most: the header's step of each is the judge's
-over-same : (s : State) (n : ℕ) (ls : List (List ℕ)) → n + length ls ≤ 11 → over headerStep (going s n) ls ≡ over runStep (going s n) ls
+over-same : (s : State) (n : ℕ) (ls : List (List ℕ)) → n + length ls ≤ headerLines → over headerStep (going s n) ls ≡ over runStep (going s n) ls
 unfolding over
 over-same s n [] h = refl
-over-same s n (l ∷ ls) h = rw (lt-ltb n 11 (omega arith)) (go (lineStep s l) (λ t. over-same t (n + 1) ls (omega arith)))
+over-same s n (l ∷ ls) h = rw (lt-ltb n headerLines (omega arith)) (go (lineStep s l) (λ t. over-same t (n + 1) ls (omega arith)))
   where
     go : (o : Outcome) → ((t : State) → over headerStep (going t (n + 1)) ls ≡ over runStep (going t (n + 1)) ls)
         → over headerStep (onOutcome n o) ls ≡ over runStep (onOutcome n o) ls
@@ -189,10 +190,10 @@ module _ (b : List ℕ) (k : ℕ) (f : FirstEleven b k) (r : Lines) (j : LinesJu
     pub at-most : r .at ≤ length b
     at-most = omega (arith, j .within, length-take-le k b (f .within), f .within)
 
-    pub eleven-most : r .lines ≤ 11
+    pub eleven-most : r .lines ≤ headerLines
     eleven-most = omega (arith, count, f .few)
 
-    pub eleven : (e : ℕ) → e ≡ r .at + lineLen (drop (r .at) b) → e < length b → 11 ≤ r .lines
+    pub eleven : (e : ℕ) → e ≡ r .at + lineLen (drop (r .at) b) → e < length b → headerLines ≤ r .lines
     eleven e q h = ⊎-elim (λ l. omega (arith, count, f .full l)) (λ l. absurd (still l)) (below-or-not k (length b))
       where
         still : length b ≤ k → ⊥

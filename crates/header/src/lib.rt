@@ -4,8 +4,11 @@ ghost use mathlib.Core.Bool.{true};
 ghost use Prim.Native.Nat.{_≤_};
 ghost use Rattle.judge.specs.Judge.{going};
 ghost use Rattle.line.specs.Line.{columns, lineFault};
+ghost use Rattle.rows.specs.TypedSets.{headerLines};
 ghost use Rattle.header.specs.Header.{answer, pastNumber, headerEnd, headerOf};
 ghost use Rattle.header.specs.HeaderLaws.{FirstEleven};
+use rows::HEADER_LINES;
+use rows::KIND_58;
 use walk::Due;
 use walk::Place;
 use walk::State;
@@ -46,14 +49,14 @@ fn past_fault(line: &[u8]) -> u8
 
 // The end of a header that was not refused before, with the bytes after its last LF.
 fn finish(s: State, lines: usize, rest: &[u8]) -> Header
-    requires { ⌜ lines ≤ 11 ⌝ }
+    requires { ⌜ lines ≤ headerLines ⌝ }
     ensures { λ r. ⌜ r ≡ headerEnd (going s lines) (now (rest .entry)) ⌝ }
 {
     if 0 < rest.len() {
         let fault = line::line_fault(rest, false);
         return refuse(fault.number, lines + 1);
     }
-    if lines < 11 {
+    if lines < HEADER_LINES {
         return refuse(7, lines + 1);
     }
     let place = s.place;
@@ -77,7 +80,7 @@ fn past_eleven(header: &[u8]) -> usize
 {
     let mut lines: usize = 0;
     let mut at = 0;
-    while lines < 11 {
+    while lines < HEADER_LINES {
         let end = line::find_end(header, at);
         if header.len() <= end {
             return header.len();
@@ -94,7 +97,7 @@ pub fn judge_header(header: &[u8]) -> Header
 {
     let opened = State {
         place: Place::Typed(Due {
-            kind: 0,
+            kind: KIND_58,
             at: 0,
             case: 0,
             left: 0,

@@ -20,7 +20,7 @@ use Rattle.walk.specs.declared.Place.the-variants.{Outside, Number, Plain, Type
 use Rattle.walk.specs.declared.State.{State}
 use Rattle.walk.specs.declared.Outcome.{Outcome}
 use Rattle.walk.specs.declared.Outcome.the-variants.{Next, Refused}
-use Rattle.walk.specs.Due.{rowDue, isClosed, after}
+use Rattle.walk.specs.Due.{mayClose, mayContinue, rowDue, after}
 use Rattle.walk.specs.Step.{state, unless, outsideStep, numberStep, plainStep, typedStep, placeStep, stepOf}
 use Rattle.judge.specs.Judge.{lineOutcome, lineStep}
 use Rattle.judge.specs.Refusal.{Refusing, LineNumber}
@@ -53,9 +53,9 @@ module _ (P : Refusal → Type 0) where
     at-place Plain n line = picked (isDelimiter line) (Next (state Outside n)) (Next (state Plain n)) tt tt
     at-place (Typed d) n line =
         picked (isDelimiter line) _ _
-        (picked (isClosed d) (Next (state Outside n)) (Refused (refusal 7 1)) tt (place 7 (omega arith) (omega arith)))
-        (picked (isClosed d) (Refused (refusal 8 1)) _ (place 8 (omega arith) (omega arith))
-        (by-row (rowRefusal (rowDue d) line) (state (Typed (after d line)) n) (row (rowDue d) line)))
+        (picked (mayClose d) (Next (state Outside n)) (Refused (refusal 7 1)) tt (place 7 (omega arith) (omega arith)))
+        (picked (mayContinue d) _ (Refused (refusal 8 1)) (by-row (rowRefusal (rowDue d) line) (state (Typed (after d line)) n) (row (rowDue d) line))
+        (place 8 (omega arith) (omega arith)))
 
     on-line : (s : State) (n c : ℕ) (cs : List ℕ) → (0 < n → P (refusal n c)) → Refusing P (lineOutcome s (refusal n c) cs)
     unfolding stepOf

@@ -5,15 +5,16 @@ use lib.Dec.{eqb}
 use lib.ListN.{drop}
 use Rattle.laws.specs.Choice.{pick}
 use Rattle.laws.specs.Cut.{cut}
-use Rattle.walk.specs.Due.{numberIn}
+use Rattle.rows.specs.TypedSets.{headerLines, lineSeven}
+use Rattle.record.specs.Declared.{countIn}
 use Rattle.parts.specs.declared.Extent.{Extent}
 use Rattle.parts.specs.Scan.{skipTo, lineFrom}
 
 unfoldable pub declaredAt : List ℕ → Extent → ℕ
-declaredAt file e = pick (eqb (e .number) 58) (numberIn 10 20 (lineFrom (e .closing) (e .body) file 6)) 0
+declaredAt file e = pick (eqb (e .number) 58) (countIn (lineFrom (e .closing) (e .body) file lineSeven)) 0
 
 unfoldable pub dataAt : List ℕ → Extent → ℕ
-dataAt file e = pick (eqb (e .number) 58) (skipTo 11 (e .closing) (e .body) (cut (drop (e .body) file) .lines)) 0
+dataAt file e = pick (eqb (e .number) 58) (skipTo headerLines (e .closing) (e .body) (cut (drop (e .body) file) .lines)) 0
 
 unfoldable pub entryAt : List ℕ → Extent → List ℕ
 entryAt file e = (e .lines + 1) ∷ e .number ∷ declaredAt file e ∷ e .first ∷ e .past ∷ dataAt file e ∷ []

@@ -10,6 +10,7 @@ use lib.ListN.{length, take, drop, set, length-append, length-drop, take-append-
 use lib.Seq.{take-at, drop-at, drop-drop, length-take-le}
 use borrow.Rule.Slice.PartMut.{putMid}
 use Rattle.laws.specs.Cut.{cut}
+use Rattle.rows.specs.TypedSets.{headerLines, lineSeven}
 use borrow.Author.Tests.{lt-ltb, le-ltb}
 use Rattle.judge.specs.declared.Reply.{Reply}
 use Rattle.judge.specs.Judge.{judged, reply}
@@ -54,8 +55,8 @@ six (x₀ ∷ x₁ ∷ x₂ ∷ x₃ ∷ x₄ ∷ x₅ ∷ x₆ ∷ xs) a b c d 
 
 -- the numbers by where a set stands are its own
 entryAt-of : (file : List ℕ) (e : Extent) (p : Part) → e .lines ≡ p .lines → e .first ≡ p .bytes → e .number ≡ numberOf p → e .body ≡ lineStart p 0
-    → e .closing ≡ closingStart p → e .past ≡ pastOf p → lineFrom (closingStart p) (lineStart p 0) file 6 ≡ lineOf p 6
-    → skipTo 11 (closingStart p) (lineStart p 0) (cut (drop (lineStart p 0) file) .lines) ≡ lineStart p 11 → entryAt file e ≡ entry p
+    → e .closing ≡ closingStart p → e .past ≡ pastOf p → lineFrom (closingStart p) (lineStart p 0) file lineSeven ≡ lineOf p lineSeven
+    → skipTo headerLines (closingStart p) (lineStart p 0) (cut (drop (lineStart p 0) file) .lines) ≡ lineStart p headerLines → entryAt file e ≡ entry p
 unfolding entryAt entry declaredAt dataAt countOf dataStart
 entryAt-of file e p a b c d f g h k = rw (a, b, c, d, f, g, h, k, add-one) refl
 
@@ -63,7 +64,7 @@ entryAt-own : (file : List ℕ) (n at : ℕ) (e : Extent) (t : Turn file n at e)
 entryAt-own file n at e t =
     let f = t .first in
     entryAt-of file e (f .set) (f .lines) (f .first) (f .number) (f .body) (f .closing) (f .past)
-    (lineFrom-own file n at (f .set) (f .others) (t .stands) 6) (line-at file n at (f .set) (f .others) (t .stands) 11)
+    (lineFrom-own file n at (f .set) (f .others) (t .stands) lineSeven) (line-at file n at (f .set) (f .others) (t .stands) headerLines)
 
 entry-length : (p : Part) → length (entry p) ≡ 6
 unfolding entry

@@ -4,16 +4,17 @@ use Prim.Native.Nat.{ℕ, _+_, _*_}
 use Rattle.laws.specs.Choice.{pick}
 use Rattle.layout.specs.Columns as Columns
 use Rattle.layout.specs.Layout.{layoutOf, fieldsOf, numbersOf}
-use Rattle.walk.specs.Due.{numberIn, caseIn}
+use Rattle.rows.specs.TypedSets.{headerLines, lineSeven}
+use Rattle.record.specs.Declared.{caseIn, countIn}
 use Rattle.parts.specs.Parts.{Part, isFunction, lineStart, lineOf}
 
 -- its case, from its line 7, from 0
 unfoldable pub caseOf : Part → ℕ
-caseOf p = caseIn (lineOf p 6)
+caseOf p = caseIn (lineOf p lineSeven)
 
 -- "declared count", from its line 7; 0 unless it is a 58
 unfoldable pub countOf : Part → ℕ
-countOf p = pick (isFunction p) (numberIn 10 20 (lineOf p 6)) 0
+countOf p = pick (isFunction p) (countIn (lineOf p lineSeven)) 0
 
 -- how many numbers it stores
 unfoldable pub storedOf : Part → ℕ
@@ -21,11 +22,11 @@ storedOf p = countOf p * numbersOf (caseOf p)
 
 -- "first byte of the data lines", which eleven lines come before; 0 unless it is a 58
 unfoldable pub dataStart : Part → ℕ
-dataStart p = pick (isFunction p) (lineStart p 11) 0
+dataStart p = pick (isFunction p) (lineStart p headerLines) 0
 
 -- the first byte of the data line of stored number j
 unfoldable pub dataLine : Part → ℕ → ℕ
-dataLine p j = lineStart p (11 + Columns.lineOf (fieldsOf (caseOf p)) j)
+dataLine p j = lineStart p (headerLines + Columns.lineOf (fieldsOf (caseOf p)) j)
 
 -- the first and the past byte of its own columns
 unfoldable pub firstByte : Part → ℕ → ℕ

@@ -7,7 +7,8 @@ ghost use Rattle.kind.specs.Kind.{datasetNumber};
 ghost use lib.ListN.{length, drop};
 ghost use Rattle.laws.specs.Cut.{cut};
 ghost use Rattle.parts.specs.Parts.{columnsIn, closes, outside, partsFrom};
-ghost use Rattle.walk.specs.Due.{numberIn, caseIn};
+ghost use Rattle.rows.specs.TypedSets.{lineSeven};
+ghost use Rattle.record.specs.Declared.{caseIn, countIn};
 ghost use Rattle.parts.specs.Scan.{lineFrom, firstOf, seenStep, skipTo, columnsAt};
 
 // Where the next set is looked for: 0 outside sets, 1 after its opening delimiter, 2 inside it; how many lines and bytes
@@ -193,19 +194,19 @@ pub fn put_line_at(row: &mut [u8; 80], file: &[u8], from: usize, closing: usize,
 // The count that the seventh of these lines declares, as in a 58.
 pub fn count_in(file: &[u8], from: usize, closing: usize) -> u32
     requires { ⌜ from ≤ length (now file) ⌝ }
-    ensures { λ r. ⌜ r ≡ numberIn 10 20 (lineFrom closing from (now (file .entry)) 6) ⌝ }
+    ensures { λ r. ⌜ r ≡ countIn (lineFrom closing from (now (file .entry)) lineSeven) ⌝ }
 {
     let mut row = [32u8; 80];
-    put_line_at(&mut row, file, from, closing, 6);
-    walk::number_in(&row, 10, 20)
+    put_line_at(&mut row, file, from, closing, rows::LINE_SEVEN);
+    walk::count_in(&row)
 }
 
 // The case that the seventh of these lines names, as in a 58.
 pub fn case_in(file: &[u8], from: usize, closing: usize) -> usize
     requires { ⌜ from ≤ length (now file) ⌝ }
-    ensures { λ r. ⌜ r ≡ caseIn (lineFrom closing from (now (file .entry)) 6) ⌝ }
+    ensures { λ r. ⌜ r ≡ caseIn (lineFrom closing from (now (file .entry)) lineSeven) ⌝ }
 {
     let mut row = [32u8; 80];
-    put_line_at(&mut row, file, from, closing, 6);
+    put_line_at(&mut row, file, from, closing, rows::LINE_SEVEN);
     walk::case_in(&row)
 }

@@ -18,9 +18,11 @@ use Rattle.layout.specs.Layout as Layout
 use Rattle.field.specs.Item.{Item, natural}
 use Rattle.line.specs.Line.{filled}
 use Rattle.rows.specs.Row.{Field}
-use Rattle.rows.specs.Records.{I, X, records, recordOf}
+use Rattle.rows.specs.Records.{I, X, records, recordOf, dataForm}
+use Rattle.rows.specs.TypedSets.{lineSeven}
 use Rattle.record.specs.Written.{Stands, a-text, a-identification, an-integer, a-blank, a-real, FieldsIn, rest, skipped, stands, Written}
-use Rattle.theory.specs.Sets.{Set, numberAt}
+use Rattle.record.specs.Declared.{naturalAt, caseBy, countBy}
+use Rattle.theory.specs.Sets.{Set}
 use Rattle.theory.specs.Proper.{SetLines}
 use Rattle.places.specs.Declared.{declared, caseOf}
 use Rattle.places.specs.DeclaredLaws.{seventh, typed-58}
@@ -105,8 +107,8 @@ items-case (pos t) (pos u) p q = eight t u p (leb-true u 1 (and-right (leb 0 u) 
 items-case (pos t) (negsuc u) p q = false-not-true q
 items-case (negsuc t) b p q = false-not-true p
 
-record-case : (is : List Item) (line : List ℕ) → Written (recordOf 3) is line → Layout.caseOf (natural (getD is 0 Item.blank)) (natural (getD is 2 Item.blank)) < 8
-unfolding recordOf records
+record-case : (is : List Item) (line : List ℕ) → Written (recordOf dataForm) is line → caseBy is < 8
+unfolding recordOf records caseBy naturalAt
 record-case is line w =
     let x = first-item line ordinateType 10 _ (w .in-columns) refl in
     let y = first-item line count 10 _ (x .after) refl in
@@ -114,8 +116,8 @@ record-case is line w =
     rw (x .items, y .items, z .items, x .keeps-rule .item, z .keeps-rule .item) (items-case (x .keeps-rule .value) (z .keeps-rule .value) (x .keeps-rule .kept) (z .keeps-rule .kept))
 
 pub case-eight : {s : Set} {css : List (List ℕ)} → SetLines s css → s .number ≡ 58 → caseOf s < 8
-unfolding caseOf numberAt
-case-eight (SetLines.typed {n} {iss} {css} t l) e = record-case (getD iss 6 []) (filled (getD css 6 [])) (seventh iss css (rw e at l))
+unfolding caseOf
+case-eight (SetLines.typed {n} {iss} {css} t l) e = record-case (getD iss lineSeven []) (filled (getD css lineSeven [])) (seventh iss css (rw e at l))
 case-eight (SetLines.plain {n} t l) e = false-not-true (sym (rw e at t) ∙ typed-58)
 
 -- and declares one to 65,536 values
@@ -124,16 +126,16 @@ unfolding keeps
 item-counted (pos v) k = (leb-true 1 v (and-left (leb 1 v) (leb v 65536) k), leb-true v 65536 (and-right (leb 1 v) (leb v 65536) k))
 item-counted (negsuc v) k = false-not-true k
 
-record-counted : (is : List Item) (line : List ℕ) → Written (recordOf 3) is line → (1 ≤ natural (getD is 1 Item.blank)) × (natural (getD is 1 Item.blank) ≤ 65536)
-unfolding recordOf records
+record-counted : (is : List Item) (line : List ℕ) → Written (recordOf dataForm) is line → (1 ≤ countBy is) × (countBy is ≤ 65536)
+unfolding recordOf records countBy naturalAt
 record-counted is line w =
     let x = first-item line ordinateType 10 _ (w .in-columns) refl in
     let y = first-item line count 10 _ (x .after) refl in
     rw (x .items, y .items, y .keeps-rule .item) (item-counted (y .keeps-rule .value) (y .keeps-rule .kept))
 
 declared-counted : {s : Set} {css : List (List ℕ)} → SetLines s css → s .number ≡ 58 → (1 ≤ declared s) × (declared s ≤ 65536)
-unfolding declared numberAt
-declared-counted (SetLines.typed {n} {iss} {css} t l) e = rw e (record-counted (getD iss 6 []) (filled (getD css 6 [])) (seventh iss css (rw e at l)))
+unfolding declared
+declared-counted (SetLines.typed {n} {iss} {css} t l) e = rw e (record-counted (getD iss lineSeven []) (filled (getD css lineSeven [])) (seventh iss css (rw e at l)))
 declared-counted (SetLines.plain {n} t l) e = false-not-true (sym (rw e at t) ∙ typed-58)
 
 pub declared-some : {s : Set} {css : List (List ℕ)} → SetLines s css → s .number ≡ 58 → 1 ≤ declared s

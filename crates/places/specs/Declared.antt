@@ -1,14 +1,22 @@
 -- What a 58 of a list declares in its line 7 (01, "Records").
-use Prim.Native.Nat.{ℕ, _*_}
+use mathlib.Core.List.{List, []}
+use Prim.Native.Nat.{ℕ}
 use lib.Dec.{eqb}
+use lib.ListN.{getD}
 use Rattle.laws.specs.Choice.{pick}
-use Rattle.layout.specs.Layout as Layout
-use Rattle.theory.specs.Sets.{Set, numberAt}
+use Rattle.field.specs.Item.{Item}
+use Rattle.rows.specs.TypedSets.{lineSeven}
+use Rattle.record.specs.Declared.{caseBy, countBy}
+use Rattle.theory.specs.Sets.{Set}
+
+-- the items of line 7
+abbrev pub seventhOf : Set → List Item
+seventhOf s = getD (s .lines) lineSeven []
 
 -- the declared count; 0 unless it is a 58
 unfoldable pub declared : Set → ℕ
-declared s = pick (eqb (s .number) 58) (numberAt (s .lines) 6 1) 0
+declared s = pick (eqb (s .number) 58) (countBy (seventhOf s)) 0
 
 -- the case, from 0
 unfoldable pub caseOf : Set → ℕ
-caseOf s = Layout.caseOf (numberAt (s .lines) 6 0) (numberAt (s .lines) 6 2)
+caseOf s = caseBy (seventhOf s)

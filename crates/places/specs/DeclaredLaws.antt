@@ -11,22 +11,22 @@ use Rattle.laws.specs.Choice.{pick, false-not-true}
 use Rattle.line.specs.Line.{columns, withoutReturn, filled}
 use Rattle.line.specs.LineLaws.{filled-length}
 use Rattle.kind.specs.KindLaws.{datasetNumber-complete}
-use Rattle.layout.specs.Layout as Layout
-use Rattle.field.specs.Item.{Item, blank, natural}
+use Rattle.field.specs.Item.{Item}
 use Rattle.rows.specs.Row.{Row}
-use Rattle.rows.specs.Sequence.{kindOf, isTyped, sequence, sequences}
-use Rattle.rows.specs.Records.{plain, records, recordOf}
+use Rattle.rows.specs.TypedSets.{kindOf, isTyped, sequence, typedSets, lineSeven}
+use Rattle.rows.specs.Records.{plain, records, recordOf, dataForm}
 use Rattle.record.specs.Check.{itemsOf}
 use Rattle.record.specs.Written.{Written}
 use Rattle.reading.specs.LineReading.{written-complete}
-use Rattle.walk.specs.Due.{numberIn, caseIn}
-use Rattle.theory.specs.Sets.{Set, set, numberAt}
+use Rattle.theory.specs.Sets.{Set, set}
 use Rattle.theory.specs.Due.{rowsOf}
 use Rattle.theory.specs.Proper.{TypedLines, SetLines}
 use Rattle.parts.specs.Parts.{Part, numberOf, lineOf}
 use Rattle.parts.specs.Function as Function
+use Rattle.record.specs.Declared.{countBy, countIn}
+use Rattle.record.specs.DeclaredLaws.{Declares, declares-items}
 use Rattle.places.specs.Holds.{columnsOf, Holds, Stand}
-use Rattle.places.specs.Declared.{declared, caseOf}
+use Rattle.places.specs.Declared.{seventhOf, declared, caseOf}
 
 -- line k of a typed set is written by its row
 pub typed-line : {rs : List Row} {iss : List (List Item)} {css : List (List ℕ)} (k : ℕ) → TypedLines rs iss css → k < length rs
@@ -50,47 +50,41 @@ unfolding numberOf
 number-held h = datasetNumber-complete (h .number)
 
 -- line 7 of a 58
-pub seventh : (iss : List (List Item)) (css : List (List ℕ)) → TypedLines (rowsOf 58 iss) iss css → Written (recordOf 3) (getD iss 6 []) (filled (getD css 6 []))
-unfolding rowsOf kindOf sequence sequences
-seventh iss css l = typed-line 6 l (omega arith)
-
--- its columns and its items give the same count and the same case
-count-items : (line : List ℕ) → numberIn 10 20 line ≡ natural (getD (itemsOf (recordOf 3 .fields) 0 line) 1 blank)
-unfolding numberIn itemsOf recordOf records
-count-items line = refl
-
-case-items : (line : List ℕ) → caseIn line ≡ Layout.caseOf (natural (getD (itemsOf (recordOf 3 .fields) 0 line) 0 blank)) (natural (getD (itemsOf (recordOf 3 .fields) 0 line) 2 blank))
-unfolding caseIn numberIn itemsOf recordOf records
-case-items line = refl
+pub seventh : (iss : List (List Item)) (css : List (List ℕ)) → TypedLines (rowsOf 58 iss) iss css → Written (recordOf dataForm) (getD iss lineSeven []) (filled (getD css lineSeven []))
+unfolding rowsOf kindOf sequence typedSets
+seventh iss css l = typed-line lineSeven l (omega arith)
 
 pub typed-58 : isTyped 58 ≡ true
-unfolding isTyped kindOf
+unfolding isTyped kindOf typedSets
 typed-58 = refl
 
-seventh-items : {s : Set} {css : List (List ℕ)} → SetLines s css → s .number ≡ 58 → itemsOf (recordOf 3 .fields) 0 (filled (getD css 6 [])) ≡ getD (s .lines) 6 []
+seventh-items : {s : Set} {css : List (List ℕ)} → SetLines s css → s .number ≡ 58 → itemsOf (recordOf dataForm .fields) 0 (filled (getD css lineSeven [])) ≡ getD (s .lines) lineSeven []
 seventh-items (SetLines.typed {n} {iss} {css} t l) e =
-    let w : Written (recordOf 3) (getD iss 6 []) (filled (getD css 6 [])) = seventh iss css (rw e at l) in
-    written-complete (filled (getD css 6 [])) (filled-length (getD css 6 [])) (recordOf 3) (getD iss 6 []) w .1
+    let w : Written (recordOf dataForm) (getD iss lineSeven []) (filled (getD css lineSeven [])) = seventh iss css (rw e at l) in
+    written-complete (filled (getD css lineSeven [])) (filled-length (getD css lineSeven [])) (recordOf dataForm) (getD iss lineSeven []) w .1
 seventh-items (SetLines.plain {n} t l) e = false-not-true (sym (rw e at t) ∙ typed-58)
 
 module _ {s : Set} {p : Part} (h : Holds s p) (e : s .number ≡ 58) where
-  items-held : itemsOf (recordOf 3 .fields) 0 (lineOf p 6) ≡ getD (s .lines) 6 []
-  items-held = rw (lineOf-columns p 6) (seventh-items (h .lines) e)
+  items-held : itemsOf (recordOf dataForm .fields) 0 (lineOf p lineSeven) ≡ getD (s .lines) lineSeven []
+  items-held = rw (lineOf-columns p lineSeven) (seventh-items (h .lines) e)
 
-  pub count-held : numberIn 10 20 (lineOf p 6) ≡ numberAt (s .lines) 6 1
-  unfolding numberAt
-  count-held = count-items (lineOf p 6) ∙ rw items-held refl
+  -- its columns declare what its items do
+  seventh-held : Declares (lineOf p lineSeven) (seventhOf s)
+  seventh-held = rw items-held at (declares-items (lineOf p lineSeven))
+
+  pub count-held : countIn (lineOf p lineSeven) ≡ countBy (seventhOf s)
+  count-held = seventh-held .count
 
   pub case-held : Function.caseOf p ≡ caseOf s
-  unfolding Function.caseOf caseOf numberAt
-  case-held = case-items (lineOf p 6) ∙ rw items-held refl
+  unfolding Function.caseOf caseOf
+  case-held = seventh-held .case
 
 -- the declared count
 pub declared-held : {s : Set} {p : Part} → Holds s p → Function.countOf p ≡ declared s
 unfolding Function.countOf declared
 declared-held {s} {p} h = rw (number-held h) (by (eqb (s .number) 58) refl)
   where
-    by : (t : Bool) → eqb (s .number) 58 ≡ t → pick t (numberIn 10 20 (lineOf p 6)) 0 ≡ pick t (numberAt (s .lines) 6 1) 0
+    by : (t : Bool) → eqb (s .number) 58 ≡ t → pick t (countIn (lineOf p lineSeven)) 0 ≡ pick t (countBy (seventhOf s)) 0
     by true q = count-held h (eqb-true (s .number) 58 q)
     by false q = refl
 

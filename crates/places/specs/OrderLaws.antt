@@ -16,6 +16,7 @@ use Rattle.layout.specs.ColumnsLaws.{stored-apart}
 use Rattle.layout.specs.Layout.{layoutOf, fieldsOf}
 use Rattle.layout.specs.LayoutLaws.{fieldPast-inside, fieldsOf-some}
 use Rattle.field.specs.Item.{Item}
+use Rattle.rows.specs.TypedSets.{headerLines}
 use Rattle.theory.specs.Sets.{Set}
 use Rattle.theory.specs.Due.{linesFor}
 use Rattle.parts.specs.Parts as Parts
@@ -68,16 +69,16 @@ module _ (p : Parts.Part) where
 -- a stored number of a 58 in a text: its line is there, and its columns are columns of that line
 module _ {s : Set} {p : Parts.Part} (h : Holds s p) (e : s .number ≡ 58) where
   pub record Seated (j : ℕ) : Type 0 where
-    pub line : 11 + lineOf (fieldsOf (Function.caseOf p)) j < length (p .body)
-    pub past : fieldPast (layoutOf (Function.caseOf p) .widths) (fieldOf (fieldsOf (Function.caseOf p)) j) ≤ length (getD (p .body) (11 + lineOf (fieldsOf (Function.caseOf p)) j) [])
+    pub line : headerLines + lineOf (fieldsOf (Function.caseOf p)) j < length (p .body)
+    pub past : fieldPast (layoutOf (Function.caseOf p) .widths) (fieldOf (fieldsOf (Function.caseOf p)) j) ≤ length (getD (p .body) (headerLines + lineOf (fieldsOf (Function.caseOf p)) j) [])
     pub some : fieldStart (layoutOf (Function.caseOf p) .widths) (fieldOf (fieldsOf (Function.caseOf p)) j) < fieldPast (layoutOf (Function.caseOf p) .widths) (fieldOf (fieldsOf (Function.caseOf p)) j)
 
-  pub body-length : length (p .body) ≡ 11 + linesFor (fieldsOf (caseOf s)) (storedCount s)
+  pub body-length : length (p .body) ≡ headerLines + linesFor (fieldsOf (caseOf s)) (storedCount s)
   body-length = sym (length-map (p .body) (columns true)) ∙ set-data (h .lines) e .count
 
-  start-rise : (k : ℕ) → Parts.lineStart p 11 ≤ Parts.lineStart p (11 + k)
+  start-rise : (k : ℕ) → Parts.lineStart p headerLines ≤ Parts.lineStart p (headerLines + k)
   unfolding Parts.lineStart
-  start-rise k = let m : Parts.bytesIn (take 11 (p .body)) ≤ Parts.bytesIn (take (11 + k) (p .body)) = bytesIn-rise 11 (11 + k) (p .body) (omega arith) in omega arith
+  start-rise k = let m : Parts.bytesIn (take headerLines (p .body)) ≤ Parts.bytesIn (take (headerLines + k) (p .body)) = bytesIn-rise headerLines (headerLines + k) (p .body) (omega arith) in omega arith
 
   pub seated : (j : ℕ) → j < storedCount s → Seated j
   unfolding ownColumns Parts.lineOf fieldPast
@@ -89,21 +90,21 @@ module _ {s : Set} {p : Parts.Part} (h : Holds s p) (e : s .number ≡ 58) where
       let x : Spelled (storedItem s j) (ownColumns (Function.caseOf p) p j) = subst (λ (y : ℕ). Spelled (storedItem s j) (ownColumns y p j)) (sym q) (stored-spelled h e j l) in
       let v = realOf-complete (x .spelling) in
       let w : 0 < getD (layoutOf (Function.caseOf p) .widths) (fieldOf (fieldsOf (Function.caseOf p)) j) 0 = value-some _ _ _ v in
-      let r = reaches (columns true (getD (p .body) (11 + lineOf (fieldsOf (Function.caseOf p)) j) [])) (fieldStart (layoutOf (Function.caseOf p) .widths) (fieldOf (fieldsOf (Function.caseOf p)) j)) (getD (layoutOf (Function.caseOf p) .widths) (fieldOf (fieldsOf (Function.caseOf p)) j) 0) _ (fieldPast-inside (Function.caseOf p) (fieldOf (fieldsOf (Function.caseOf p)) j)) v in
+      let r = reaches (columns true (getD (p .body) (headerLines + lineOf (fieldsOf (Function.caseOf p)) j) [])) (fieldStart (layoutOf (Function.caseOf p) .widths) (fieldOf (fieldsOf (Function.caseOf p)) j)) (getD (layoutOf (Function.caseOf p) .widths) (fieldOf (fieldsOf (Function.caseOf p)) j) 0) _ (fieldPast-inside (Function.caseOf p) (fieldOf (fieldsOf (Function.caseOf p)) j)) v in
       record {
         line = omega (arith, body-length);
-        past = omega (arith, r, columns-within true (getD (p .body) (11 + lineOf (fieldsOf (Function.caseOf p)) j) []));
+        past = omega (arith, r, columns-within true (getD (p .body) (headerLines + lineOf (fieldsOf (Function.caseOf p)) j) []));
         some = omega arith;
       }
 
   -- some columns, inside the set's data lines
   pub columns-inside : (j : ℕ) → j < storedCount s
-      → (Parts.lineStart p 11 ≤ Function.firstByte p j) × ((Function.firstByte p j < Function.pastByte p j) × (Function.pastByte p j ≤ Parts.closingStart p))
+      → (Parts.lineStart p headerLines ≤ Function.firstByte p j) × ((Function.firstByte p j < Function.pastByte p j) × (Function.pastByte p j ≤ Parts.closingStart p))
   unfolding Function.firstByte Function.pastByte Function.dataLine
   columns-inside j l =
       let t = seated j l in
-      let c : Parts.lineStart p 11 ≤ Parts.lineStart p (11 + lineOf (fieldsOf (Function.caseOf p)) j) = start-rise (lineOf (fieldsOf (Function.caseOf p)) j) in
-      (omega arith, (omega (arith, t .some), omega (arith, t .past, line-closing p (11 + lineOf (fieldsOf (Function.caseOf p)) j) (t .line))))
+      let c : Parts.lineStart p headerLines ≤ Parts.lineStart p (headerLines + lineOf (fieldsOf (Function.caseOf p)) j) = start-rise (lineOf (fieldsOf (Function.caseOf p)) j) in
+      (omega arith, (omega (arith, t .some), omega (arith, t .past, line-closing p (headerLines + lineOf (fieldsOf (Function.caseOf p)) j) (t .line))))
 
   -- in order, and apart
   pub columns-apart : (i j : ℕ) → i < j → j < storedCount s → Function.pastByte p i ≤ Function.firstByte p j
@@ -112,11 +113,11 @@ module _ {s : Set} {p : Parts.Part} (h : Holds s p) (e : s .number ≡ 58) where
       let b : 0 < length (layoutOf (Function.caseOf p) .widths) = subst (λ (y : ℕ). 0 < length (layoutOf y .widths)) (sym (case-held h e)) (fieldsOf-some (caseOf s) (stored-case s j l)) in
       let t = seated i (omega arith) in
       ⊎-elim
-      (λ q. omega (arith, t .past, lines-apart p (11 + lineOf (length (layoutOf (Function.caseOf p) .widths)) i) (11 + lineOf (length (layoutOf (Function.caseOf p) .widths)) j) (t .line) (omega arith)))
+      (λ q. omega (arith, t .past, lines-apart p (headerLines + lineOf (length (layoutOf (Function.caseOf p) .widths)) i) (headerLines + lineOf (length (layoutOf (Function.caseOf p) .widths)) j) (t .line) (omega arith)))
       (λ q. rw (q .0) (omega (arith, q .1)))
       (stored-apart (layoutOf (Function.caseOf p) .widths) i j b o)
 
 -- the first stored number begins the data lines
-pub first-column : (p : Parts.Part) → Function.firstByte p 0 ≡ Parts.lineStart p 11
+pub first-column : (p : Parts.Part) → Function.firstByte p 0 ≡ Parts.lineStart p headerLines
 unfolding Function.firstByte Function.dataLine lineOf fieldOf fieldStart
 first-column p = rw (zero-div (fieldsOf (Function.caseOf p)), zero-mod (fieldsOf (Function.caseOf p))) (omega arith)

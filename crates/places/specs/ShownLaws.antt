@@ -13,6 +13,7 @@ use Rattle.layout.specs.Columns.{fieldStart, fieldPast, lineOf, fieldOf}
 use Rattle.layout.specs.Layout.{layoutOf, fieldsOf, numbersOf}
 use Rattle.layout.specs.LayoutLaws.{field-inside}
 use Rattle.field.specs.Item.{Item}
+use Rattle.rows.specs.TypedSets.{headerLines}
 use Rattle.theory.specs.Sets.{Set}
 use Rattle.parts.specs.Parts as Parts
 use Rattle.parts.specs.Function as Function
@@ -44,7 +45,7 @@ module _ (file : List ℕ) (p : Parts.Part) (ps : List Parts.Part) (w : Somewher
   k = fieldOf (fieldsOf c) j
 
   abbrev line : ℕ
-  line = 11 + lineOf (fieldsOf c) j
+  line = headerLines + lineOf (fieldsOf c) j
 
   own-bytes : (i : Item) → Spelled i (ownColumns c p j) → ownColumns c p j ≡ take (Function.pastByte p j - Function.firstByte p j) (drop (Function.firstByte p j) file)
   unfolding ownColumns Parts.lineOf Function.firstByte Function.pastByte Function.dataLine

@@ -6,6 +6,7 @@ use lib.ListN.{getD}
 use Rattle.layout.specs.Columns.{lineOf, fieldOf}
 use Rattle.layout.specs.Layout.{fieldsOf, numbersOf}
 use Rattle.field.specs.Item.{Item, blank}
+use Rattle.rows.specs.TypedSets.{headerLines}
 use Rattle.theory.specs.Sets.{Set}
 use Rattle.places.specs.Declared.{declared, caseOf}
 
@@ -15,4 +16,4 @@ storedCount s = declared s * numbersOf (caseOf s)
 
 -- number j
 unfoldable pub storedItem : Set → ℕ → Item
-storedItem s j = getD (getD (s .lines) (11 + lineOf (fieldsOf (caseOf s)) j) []) (fieldOf (fieldsOf (caseOf s)) j) blank
+storedItem s j = getD (getD (s .lines) (headerLines + lineOf (fieldsOf (caseOf s)) j) []) (fieldOf (fieldsOf (caseOf s)) j) blank

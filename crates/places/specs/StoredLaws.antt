@@ -17,11 +17,12 @@ use Rattle.layout.specs.Layout.{layoutOf, fieldsOf, numbersOf}
 use Rattle.layout.specs.LayoutLaws.{fieldsOf-some}
 use Rattle.field.specs.Item.{Item}
 use Rattle.rows.specs.Row.{Row, cut}
-use Rattle.rows.specs.Sequence.{kindOf, isTyped, sequence, sequences}
+use Rattle.rows.specs.TypedSets.{kindOf, isTyped, sequence, typedSets, headerLines, kind58, following}
 use Rattle.rows.specs.Records.{E, plain, recordOf, dataRow}
 use Rattle.record.specs.Written.{Written}
+use Rattle.record.specs.Declared.{storedBy}
 use Rattle.walk.specs.DueLaws.{dataRow-length}
-use Rattle.theory.specs.Sets.{Set, numberAt}
+use Rattle.theory.specs.Sets.{Set}
 use Rattle.theory.specs.Due.{linesFor, numberRows, listRows, listsOf, rowsOf}
 use Rattle.theory.specs.Proper.{TypedLines, SetLines}
 use Rattle.parts.specs.Parts as Parts
@@ -54,16 +55,16 @@ line-enough n total j p h =
     le-div-iff-mul-le p .1 m
 
 -- the rows of a 58: its eleven records, then its data lines
-module _ (iss : List (List Item)) (c total : ℕ) (e : listsOf 0 iss ≡ listRows (dataRow c) total) where
-  data-row : (k : ℕ) → k < linesFor (length (dataRow c .fields)) total → getD (rowsOf 58 iss) (11 + k) (plain []) ≡ cut (total - k * length (dataRow c .fields)) (dataRow c)
-  unfolding rowsOf kindOf sequence sequences
+module _ (iss : List (List Item)) (c total : ℕ) (e : listsOf kind58 iss ≡ listRows (dataRow c) total) where
+  data-row : (k : ℕ) → k < linesFor (length (dataRow c .fields)) total → getD (rowsOf 58 iss) (headerLines + k) (plain []) ≡ cut (total - k * length (dataRow c .fields)) (dataRow c)
+  unfolding rowsOf kindOf sequence typedSets
   data-row k h =
-      getD-append-add (map recordOf (1 ∷ 1 ∷ 1 ∷ 1 ∷ 1 ∷ 2 ∷ 3 ∷ 4 ∷ 4 ∷ 4 ∷ 4 ∷ [])) (listsOf 0 iss) k (plain [])
+      getD-append-add (map recordOf (1 ∷ 1 ∷ 1 ∷ 1 ∷ 1 ∷ 2 ∷ 3 ∷ 4 ∷ 4 ∷ 4 ∷ 4 ∷ [])) (listsOf kind58 iss) k (plain [])
       ∙ rw e (numberRows-at (dataRow c) (linesFor (length (dataRow c .fields)) total) total k h)
 
-  data-rows : (k : ℕ) → k < linesFor (length (dataRow c .fields)) total → 11 + k < length (rowsOf 58 iss)
-  unfolding rowsOf kindOf sequence sequences
-  data-rows k h = rw (length-append (map recordOf (1 ∷ 1 ∷ 1 ∷ 1 ∷ 1 ∷ 2 ∷ 3 ∷ 4 ∷ 4 ∷ 4 ∷ 4 ∷ [])) (listsOf 0 iss), e, numberRows-length) (omega arith)
+  data-rows : (k : ℕ) → k < linesFor (length (dataRow c .fields)) total → headerLines + k < length (rowsOf 58 iss)
+  unfolding rowsOf kindOf sequence typedSets
+  data-rows k h = rw (length-append (map recordOf (1 ∷ 1 ∷ 1 ∷ 1 ∷ 1 ∷ 2 ∷ 3 ∷ 4 ∷ 4 ∷ 4 ∷ 4 ∷ [])) (listsOf kind58 iss), e, numberRows-length) (omega arith)
 
 -- the first fields of a line of reals
 pub map-take : (m : ℕ) (ws : List ℕ) → take m (map E ws) ≡ map E (take m ws)
@@ -93,38 +94,38 @@ data-field line c m k is w h l =
     rw (getD-take m ws k 0 h, fieldStart-take m k ws (omega arith)) at (field-at line (take m ws) k (w .in-columns) (map-take m ws) b)
 
 -- the lists of a 58
-lists-58 : (s : Set) → s .number ≡ 58 → listsOf 0 (s .lines) ≡ listRows (dataRow (caseOf s)) (storedCount s)
-unfolding listsOf storedCount declared caseOf
+lists-58 : (s : Set) → s .number ≡ 58 → listsOf kind58 (s .lines) ≡ listRows (dataRow (caseOf s)) (storedCount s)
+unfolding listsOf following typedSets storedCount declared caseOf storedBy
 lists-58 s e = rw e refl
 
 -- the own columns of a stored number in a text, by its case
 unfoldable pub ownColumns : ℕ → Parts.Part → ℕ → List ℕ
 ownColumns c p j =
     take (getD (layoutOf c .widths) (fieldOf (fieldsOf c) j) 0)
-    (drop (fieldStart (layoutOf c .widths) (fieldOf (fieldsOf c) j)) (Parts.lineOf p (11 + lineOf (fieldsOf c) j)))
+    (drop (fieldStart (layoutOf c .widths) (fieldOf (fieldsOf c) j)) (Parts.lineOf p (headerLines + lineOf (fieldsOf c) j)))
 
 pub stored-case : (s : Set) (j : ℕ) → j < storedCount s → caseOf s < 8
 unfolding storedCount
 stored-case s j h = case-below (caseOf s) (declared s) j h
 
 -- the data lines of a 58: the rows that write them, and how many they are
-module _ (iss : List (List Item)) (css : List (List ℕ)) (c total : ℕ) (e : listsOf 0 iss ≡ listRows (dataRow c) total) (l : TypedLines (rowsOf 58 iss) iss css) where
-  typed-data : (k : ℕ) → k < linesFor (fieldsOf c) total → Written (cut (total - k * fieldsOf c) (dataRow c)) (getD iss (11 + k) []) (filled (getD css (11 + k) []))
+module _ (iss : List (List Item)) (css : List (List ℕ)) (c total : ℕ) (e : listsOf kind58 iss ≡ listRows (dataRow c) total) (l : TypedLines (rowsOf 58 iss) iss css) where
+  typed-data : (k : ℕ) → k < linesFor (fieldsOf c) total → Written (cut (total - k * fieldsOf c) (dataRow c)) (getD iss (headerLines + k) []) (filled (getD css (headerLines + k) []))
   typed-data k h =
       let m : k < linesFor (length (dataRow c .fields)) total = rw (dataRow-length c) h in
-      rw (dataRow-length c) at (subst (λ (r : Row). Written r (getD iss (11 + k) []) (filled (getD css (11 + k) []))) (data-row iss c total e k m) (typed-line (11 + k) l (data-rows iss c total e k m)))
+      rw (dataRow-length c) at (subst (λ (r : Row). Written r (getD iss (headerLines + k) []) (filled (getD css (headerLines + k) []))) (data-row iss c total e k m) (typed-line (headerLines + k) l (data-rows iss c total e k m)))
 
-  typed-count : length css ≡ 11 + linesFor (fieldsOf c) total
-  unfolding rowsOf kindOf sequence sequences
+  typed-count : length css ≡ headerLines + linesFor (fieldsOf c) total
+  unfolding rowsOf kindOf sequence typedSets
   typed-count =
-      typed-length l ∙ length-append (map recordOf (1 ∷ 1 ∷ 1 ∷ 1 ∷ 1 ∷ 2 ∷ 3 ∷ 4 ∷ 4 ∷ 4 ∷ 4 ∷ [])) (listsOf 0 iss)
+      typed-length l ∙ length-append (map recordOf (1 ∷ 1 ∷ 1 ∷ 1 ∷ 1 ∷ 2 ∷ 3 ∷ 4 ∷ 4 ∷ 4 ∷ 4 ∷ [])) (listsOf kind58 iss)
       ∙ rw (e, numberRows-length (dataRow c) (linesFor (length (dataRow c .fields)) total) total, dataRow-length c) refl
 
 -- the same of a set of a list
 pub record DataLines (s : Set) (css : List (List ℕ)) : Type 0 where
   pub written : (k : ℕ) → k < linesFor (fieldsOf (caseOf s)) (storedCount s)
-      → Written (cut (storedCount s - k * fieldsOf (caseOf s)) (dataRow (caseOf s))) (getD (s .lines) (11 + k) []) (filled (getD css (11 + k) []))
-  pub count : length css ≡ 11 + linesFor (fieldsOf (caseOf s)) (storedCount s)
+      → Written (cut (storedCount s - k * fieldsOf (caseOf s)) (dataRow (caseOf s))) (getD (s .lines) (headerLines + k) []) (filled (getD css (headerLines + k) []))
+  pub count : length css ≡ headerLines + linesFor (fieldsOf (caseOf s)) (storedCount s)
 
 pub set-data : {s : Set} {css : List (List ℕ)} → SetLines s css → s .number ≡ 58 → DataLines s css
 set-data {s} (SetLines.typed {n} {iss} {css} t l) e =
@@ -140,6 +141,6 @@ stored-spelled {s} {p} h e j l =
     let k : ℕ = lineOf (fieldsOf (caseOf s)) j in
     let d = set-data (h .lines) e in
     let q : lineOf (fieldsOf (caseOf s)) j * fieldsOf (caseOf s) + fieldOf (fieldsOf (caseOf s)) j ≡ j = stored-at (fieldsOf (caseOf s)) j in
-    rw (lineOf-columns p (11 + lineOf (fieldsOf (caseOf s)) j))
-    (data-field (filled (getD (columnsOf (p .body)) (11 + lineOf (fieldsOf (caseOf s)) j) [])) (caseOf s) (storedCount s - lineOf (fieldsOf (caseOf s)) j * fieldsOf (caseOf s)) (fieldOf (fieldsOf (caseOf s)) j) (getD (s .lines) (11 + lineOf (fieldsOf (caseOf s)) j) [])
+    rw (lineOf-columns p (headerLines + lineOf (fieldsOf (caseOf s)) j))
+    (data-field (filled (getD (columnsOf (p .body)) (headerLines + lineOf (fieldsOf (caseOf s)) j) [])) (caseOf s) (storedCount s - lineOf (fieldsOf (caseOf s)) j * fieldsOf (caseOf s)) (fieldOf (fieldsOf (caseOf s)) j) (getD (s .lines) (headerLines + lineOf (fieldsOf (caseOf s)) j) [])
     (d .written (lineOf (fieldsOf (caseOf s)) j) (line-enough (fieldsOf (caseOf s)) (storedCount s) j b l)) (omega arith) (fieldOf-inside (fieldsOf (caseOf s)) j b))

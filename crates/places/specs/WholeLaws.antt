@@ -16,6 +16,7 @@ use Rattle.line.specs.LineLaws.{columns-take, columns-lf, columns-return, fille
 use Rattle.layout.specs.Columns.{fieldStart, fieldPast, lineOf, fieldOf}
 use Rattle.layout.specs.Layout.{layoutOf, fieldsOf}
 use Rattle.field.specs.Item.{Item}
+use Rattle.rows.specs.TypedSets.{headerLines}
 use Rattle.theory.specs.Sets.{Set}
 use Rattle.theory.specs.Due.{linesFor}
 use Rattle.ends.specs.ShortLaws.{short-at}
@@ -98,13 +99,13 @@ module _ {s : Set} {p : Parts.Part} (file : List ℕ) (ps : List Parts.Part) (w 
   columns-at m = List·getD-map (columns true) (p .body) m []
 
   -- a column of a data line that is no blank is a stored number's
-  owned-column : (k a : ℕ) → 11 + k < length (p .body) → (getD (filled (columns true (getD (p .body) (11 + k) []))) a 32 ≡ 32 → ⊥) → Owned p (storedCount s) (Parts.lineStart p (11 + k) + a)
+  owned-column : (k a : ℕ) → headerLines + k < length (p .body) → (getD (filled (columns true (getD (p .body) (headerLines + k) []))) a 32 ≡ 32 → ⊥) → Owned p (storedCount s) (Parts.lineStart p (headerLines + k) + a)
   unfolding Function.firstByte Function.pastByte Function.dataLine fieldsOf
   owned-column k a l n =
       let q : Function.caseOf p ≡ caseOf s = case-held h e in
       let d = set-data (h .lines) e in
       let y = d .written k (omega (arith, body-length h e)) in
-      let c = data-covered (filled (getD (columnsOf (p .body)) (11 + k) [])) (caseOf s) (storedCount s - k * fieldsOf (caseOf s)) (getD (s .lines) (11 + k) []) y a (λ z. n (rw (columns-at (11 + k)) at z)) in
+      let c = data-covered (filled (getD (columnsOf (p .body)) (headerLines + k) [])) (caseOf s) (storedCount s - k * fieldsOf (caseOf s)) (getD (s .lines) (headerLines + k) []) y a (λ z. n (rw (columns-at (headerLines + k)) at z)) in
       let f : ℕ = c .0 .field in
       let g = stored-place (length (layoutOf (caseOf s) .widths)) k (c .0 .field) (c .0 .some) in
       let j : ℕ = c .0 .field + k * length (layoutOf (caseOf s) .widths) in
@@ -118,7 +119,7 @@ module _ {s : Set} {p : Parts.Part} (file : List ℕ) (ps : List Parts.Part) (w 
   abbrev base : ℕ
   base = p .bytes + Parts.bytesIn (p .opening ∷ p .number ∷ [])
 
-  line-of : (x : ℕ) → Parts.lineStart p 11 ≤ x → x < Parts.closingStart p → In (p .body) base x
+  line-of : (x : ℕ) → Parts.lineStart p headerLines ≤ x → x < Parts.closingStart p → In (p .body) base x
   unfolding Parts.lineStart Parts.closingStart
   line-of x a b = locate (p .body) base x (omega arith) b
 
@@ -131,10 +132,10 @@ module _ {s : Set} {p : Parts.Part} (file : List ℕ) (ps : List Parts.Part) (w 
   line-past x i = i .past
 
   -- a byte of a data line that is no blank and no end
-  owned-at : (m a : ℕ) → 11 ≤ m → m < length (p .body) → a ≤ length (getD (p .body) m []) → (getD file (Parts.lineStart p m + a) 0 ≡ 32 → ⊥)
+  owned-at : (m a : ℕ) → headerLines ≤ m → m < length (p .body) → a ≤ length (getD (p .body) m []) → (getD file (Parts.lineStart p m + a) 0 ≡ 32 → ⊥)
       → (getD file (Parts.lineStart p m + a) 0 ≡ 10 → ⊥) → (getD file (Parts.lineStart p m + a) 0 ≡ 13 → ⊥) → Owned p (storedCount s) (Parts.lineStart p m + a)
   owned-at m a o l b blank lf cr =
-      let z : 11 + (m - 11) ≡ m = omega arith in
+      let z : headerLines + (m - headerLines) ≡ m = omega arith in
       let d : a < length (getD (p .body) m []) = ⊎-elim (λ (q : a < length (getD (p .body) m [])). q)
       (λ (q : length (getD (p .body) m []) ≤ a). let y : length (getD (p .body) m []) ≡ a = omega arith in absurd (lf (rw y at (line-end file (w .before) (w .from) p ps (w .stands) m l))))
       (below-or-not a (length (getD (p .body) m []))) in
@@ -142,12 +143,12 @@ module _ {s : Set} {p : Parts.Part} (file : List ℕ) (ps : List Parts.Part) (w 
       let c : a < length (columns true (getD (p .body) m [])) = in-columns (getD (p .body) m []) a d (λ q. cr (v ∙ q)) in
       let t : length (columns true (getD (p .body) m [])) ≤ 80 = rw (columns-at m) at (short-at m (h .short)) in
       let u : getD (filled (columns true (getD (p .body) m []))) a 32 ≡ 32 → ⊥ = (λ q. blank (v ∙ sym (column-byte (getD (p .body) m []) a c t) ∙ q)) in
-      rw z at (owned-column (m - 11) a (rw z l) (rw z u))
+      rw z at (owned-column (m - headerLines) a (rw z l) (rw z u))
 
-  pub byte-owned : (x : ℕ) → Parts.lineStart p 11 ≤ x → x < Parts.closingStart p → (getD file x 0 ≡ 32 → ⊥) → (getD file x 0 ≡ 10 → ⊥) → (getD file x 0 ≡ 13 → ⊥)
+  pub byte-owned : (x : ℕ) → Parts.lineStart p headerLines ≤ x → x < Parts.closingStart p → (getD file x 0 ≡ 32 → ⊥) → (getD file x 0 ≡ 10 → ⊥) → (getD file x 0 ≡ 13 → ⊥)
       → Owned p (storedCount s) x
   byte-owned x a b blank lf cr =
       let i = line-of x a b in
-      let g : 11 ≤ i .line = ⊎-elim (λ (q : i .line < 11). absurd (omega (arith, lines-apart p (i .line) 11 (i .some) q, line-past x i))) (λ (q : 11 ≤ i .line). q) (below-or-not (i .line) 11) in
+      let g : headerLines ≤ i .line = ⊎-elim (λ (q : i .line < headerLines). absurd (omega (arith, lines-apart p (i .line) headerLines (i .some) q, line-past x i))) (λ (q : headerLines ≤ i .line). q) (below-or-not (i .line) headerLines) in
       let z : Parts.lineStart p (i .line) + (x - Parts.lineStart p (i .line)) ≡ x = omega (arith, line-from x i) in
       rw z at (owned-at (i .line) (x - Parts.lineStart p (i .line)) g (i .some) (omega (arith, line-past x i)) (rw z blank) (rw z lf) (rw z cr))

@@ -10,6 +10,7 @@ use Rattle.laws.specs.Cut.{cut}
 use Rattle.real.specs.declared.Real.{Real}
 use Rattle.layout.specs.Columns.{lineOf, fieldOf, fieldStart, fieldPast}
 use Rattle.layout.specs.Layout.{layoutOf, fieldsOf, numbersOf}
+use Rattle.rows.specs.TypedSets.{headerLines}
 use Rattle.parts.specs.Parts.{Part, isFunction, lineStart, closingStart}
 use Rattle.parts.specs.Scan.{skipTo}
 use Rattle.parts.specs.Function.{caseOf, countOf}
@@ -32,7 +33,7 @@ dataOf (p ∷ ps) = pick (isFunction p && ltb (caseOf p) 8) (data58 (lineStart p
 
 -- the first byte of the data line of stored number j
 unfoldable pub lineAt : List ℕ → Data → ℕ → ℕ
-lineAt file d j = skipTo (11 + lineOf (fieldsOf (d .case)) j) (d .closing) (d .body) (cut (drop (d .body) file) .lines)
+lineAt file d j = skipTo (headerLines + lineOf (fieldsOf (d .case)) j) (d .closing) (d .body) (cut (drop (d .body) file) .lines)
 
 -- its own columns
 unfoldable pub spanOf : List ℕ → Data → ℕ → Span

@@ -7,7 +7,8 @@ use native.Mathlib.Omega.{arith}
 use borrow.Author.Tests.{eq-eqb, ne-eqb, lt-ltb, le-ltb}
 use lib.ListN.{length, drop}
 use lib.Seq.{drop-drop, drop-nil}
-use Rattle.walk.specs.Due.{numberIn, caseIn}
+use Rattle.rows.specs.TypedSets.{lineSeven}
+use Rattle.record.specs.Declared.{caseIn, countIn}
 use Rattle.parts.specs.declared.Extent.{Extent}
 use Rattle.parts.specs.Parts.{Part, partsOf, numberOf, isFunction, lineOf, closingStart}
 use Rattle.parts.specs.Scan.{lineFrom, firstOf}
@@ -79,17 +80,17 @@ module _ (file : List ℕ) (set : ℕ) (e : Extent) (some : set ≡ 0 → ⊥) (
     pub body-within : e .body ≤ length file
     body-within = subst (λ (x : ℕ). x ≤ length file) (sym (w .body)) (s .stands .inside)
 
-    line-seven : lineFrom (e .closing) (e .body) file 6 ≡ lineOf (w .set) 6
+    line-seven : lineFrom (e .closing) (e .body) file lineSeven ≡ lineOf (w .set) lineSeven
     line-seven =
-        ap (λ (x : ℕ). lineFrom x (e .body) file 6) (w .closing) ∙ ap (λ (x : ℕ). lineFrom (closingStart (w .set)) x file 6) (w .body)
-        ∙ lineFrom-own file (s .before) (s .from) (w .set) (w .others) (s .stands) 6
+        ap (λ (x : ℕ). lineFrom x (e .body) file lineSeven) (w .closing) ∙ ap (λ (x : ℕ). lineFrom (closingStart (w .set)) x file lineSeven) (w .body)
+        ∙ lineFrom-own file (s .before) (s .from) (w .set) (w .others) (s .stands) lineSeven
 
     -- no 58
     pub data-other : (e .number ≡ 58 → ⊥) → nothing ≡ dataOf (setsFrom file set)
     unfolding dataOf
     data-other h = rw (w .sets, ne-eqb (numberOf (w .set)) 58 (λ z. h (w .number ∙ z))) refl
 
-    module _ (h : e .number ≡ 58) (c : ℕ) (f : c ≡ caseIn (lineFrom (e .closing) (e .body) file 6)) where
+    module _ (h : e .number ≡ 58) (c : ℕ) (f : c ≡ caseIn (lineFrom (e .closing) (e .body) file lineSeven)) where
       case-own : c ≡ caseOf (w .set)
       unfolding caseOf
       case-own = f ∙ ap caseIn line-seven
@@ -103,6 +104,6 @@ module _ (file : List ℕ) (set : ℕ) (e : Extent) (some : set ≡ 0 → ⊥) (
       data-no-case l = rw (w .sets, a58, ← case-own, le-ltb c 8 l) refl
 
       -- a 58
-      pub data-found : c < 8 → (n : ℕ) → n ≡ numberIn 10 20 (lineFrom (e .closing) (e .body) file 6) → data58 (e .body) (e .closing) c n ≡ dataOf (setsFrom file set)
+      pub data-found : c < 8 → (n : ℕ) → n ≡ countIn (lineFrom (e .closing) (e .body) file lineSeven) → data58 (e .body) (e .closing) c n ≡ dataOf (setsFrom file set)
       unfolding dataOf countOf
       data-found l n g = rw (w .sets, a58, ← case-own, lt-ltb c 8 l, ← w .body, ← w .closing, ← line-seven, ← g) refl

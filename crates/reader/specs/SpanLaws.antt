@@ -7,6 +7,7 @@ use lib.ListN.{getD, drop}
 use Rattle.laws.specs.Cut.{cut}
 use Rattle.layout.specs.Columns.{lineOf, fieldOf, fieldStart, fieldPast}
 use Rattle.layout.specs.Layout.{layoutOf, fieldsOf}
+use Rattle.rows.specs.TypedSets.{headerLines}
 use Rattle.parts.specs.Parts.{Part, lineStart, closingStart}
 use Rattle.parts.specs.Scan.{skipTo}
 use Rattle.parts.specs.SetLaws.{Standing, line-at}
@@ -17,7 +18,7 @@ use Rattle.reader.specs.Find.{data58, lineAt, spanOf}
 
 -- by line, first column and width
 pub span-by : (file : List ℕ) (d : Data) (j n at s w : ℕ) → n ≡ fieldsOf (d .case)
-    → at ≡ skipTo (11 + j / n) (d .closing) (d .body) (cut (drop (d .body) file) .lines)
+    → at ≡ skipTo (headerLines + j / n) (d .closing) (d .body) (cut (drop (d .body) file) .lines)
     → s ≡ fieldStart (layoutOf (d .case) .widths) (j % n) → w ≡ getD (layoutOf (d .case) .widths) (j % n) 0
     → _≡_ {A = Span} (record { first = at + s; past = at + s + w }) (spanOf file d j)
 unfolding spanOf lineAt fieldPast lineOf fieldOf

@@ -14,13 +14,13 @@ use Rattle.laws.specs.Choice.{pick, false-not-true, and-left, and-right}
 use Rattle.laws.specs.Ranges.{allAre, in-range}
 use Rattle.line.specs.Line.{refusal, passed}
 use Rattle.line.specs.declared.Refusal.{Refusal}
-use Rattle.codes.specs.Form.{Form, skip, text, identification, real, integer, forms, formOf}
+use Rattle.codes.specs.Form.{Form, skip, text, identification, real, integer, forms, formOf, lastForm}
 use Rattle.codes.specs.FormLaws.{formOf-past}
 use Rattle.layout.specs.Columns.{total}
 use Rattle.field.specs.Field.{columnsOf, mayBlank, fieldNumber}
 use Rattle.rows.specs.Row.{Field, Row}
-use Rattle.record.specs.Check.{orElse, orColumn, otherwise, strayIn, strayFault, fieldsFault, firstByte, stray, fieldsRefusal, conditionFault, rowRefusal}
 use Rattle.rows.specs.Records.{fieldList}
+use Rattle.record.specs.Check.{orElse, orColumn, otherwise, strayIn, strayFault, fieldsFault, firstByte, stray, fieldsRefusal, conditionFault, rowRefusal}
 
 -- a number above 0 is the refusal; 0 is none
 pub orElse-here : (n c : ℕ) (rest : Refusal) → 0 < n → orElse n c rest ≡ refusal n c
@@ -102,7 +102,7 @@ owns (integer r o) = true
 abbrev ownsColumns : ℕ → Bool
 ownsColumns k = owns (formOf k)
 
-owned : allAre ownsColumns true 1 30 ≡ true
+owned : allAre ownsColumns true 1 lastForm ≡ true
 unfolding formOf forms
 owned = refl
 
@@ -140,11 +140,11 @@ past-width a w = omega arith
 
 -- no byte of a field lies outside the fields
 module _ (k c : ℕ) (cols : List ℕ) where
-  pub strayIn-past : 31 ≤ k → strayIn (formOf k) c cols ≡ firstByte c cols
+  pub strayIn-past : lastForm < k → strayIn (formOf k) c cols ≡ firstByte c cols
   strayIn-past h = rw (formOf-past k h) refl
 
-  pub strayIn-field : (k ≡ 0 → ⊥) → k ≤ 30 → strayIn (formOf k) c cols ≡ 0
-  strayIn-field n h = strayIn-of (formOf k) c cols (in-range ownsColumns true 1 30 k owned (omega arith) (omega arith))
+  pub strayIn-field : (k ≡ 0 → ⊥) → k ≤ lastForm → strayIn (formOf k) c cols ≡ 0
+  strayIn-field n h = strayIn-of (formOf k) c cols (in-range ownsColumns true 1 lastForm k owned (omega arith) (omega arith))
 
 -- one turn of a loop over the fields: field k, of width w, from the column at on
 module _ (ks ws line : List ℕ) (k at w : ℕ) (h : k < length ws) (l : length ws ≤ length ks) (q : w ≡ getD ws k 0) where

@@ -23,7 +23,7 @@ use Rattle.field.specs.Item.{Item, isZeroInteger, isZeroReal, isAboveZero}
 use Rattle.field.specs.Field.{columnsOf, integerItem, realItem}
 use Rattle.rows.specs.Row.{Field, Condition, none, zeroIfUneven, aboveZero, firstNotAbove, breach}
 use Rattle.rows.specs.TabledLaws.{recordOf-past}
-use Rattle.rows.specs.Records.{records, recordOf, dataRow, fieldList}
+use Rattle.rows.specs.Records.{records, recordOf, dataRow, fieldList, noRecord}
 use Rattle.record.specs.Check.{breachFault, itemsOf, conditionFault}
 
 -- what the columns from a to before e hold: the integer 0, a zero, a number above zero
@@ -85,7 +85,7 @@ unfolding recordOf records
 unbound-others k a b =
     ⊎-elim (λ h. in-range unbound true 0 3 k refl (omega arith) h)
     (λ h. ⊎-elim (λ l. in-range unbound true 4 6 k refl (above h a) l)
-    (λ h′. ⊎-elim (λ l. in-range unbound true 11 19 k refl (above h′ b) l) (λ m. rw (recordOf-past k m) refl) (below-or-not k 30))
+    (λ h′. ⊎-elim (λ l. in-range unbound true 11 19 k refl (above h′ b) l) (λ m. rw (recordOf-past k m) refl) (below-or-not k noRecord))
     (below-or-not k 10))
     (below-or-not k 3)
   where
@@ -137,10 +137,10 @@ pub fields-all : (k n : ℕ) → 12 ≤ n → take n (recordOf k .fields) ≡ re
 unfolding recordOf records
 fields-all k n m =
     ⊎-elim
-    (λ h. let l : length (recordOf k .fields) ≤ 12 = leb-true _ _ (in-range twelve true 0 30 k refl (omega arith) (omega arith)) in
+    (λ h. let l : length (recordOf k .fields) ≤ 12 = leb-true _ _ (in-range twelve true 0 noRecord k refl (omega arith) (omega arith)) in
     take-all n (recordOf k .fields) (omega arith))
     (λ h. rw (recordOf-past k h) (take-nil n))
-    (below-or-not k 30)
+    (below-or-not k noRecord)
 
 pub data-all : (c n : ℕ) → 6 ≤ n → take n (dataRow c .fields) ≡ dataRow c .fields
 unfolding dataRow

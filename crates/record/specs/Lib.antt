@@ -2,4 +2,6 @@ pub mod Check
 pub mod CheckLaws
 pub mod NumberLaws
 pub mod ConditionLaws
+pub mod Declared
+pub mod DeclaredLaws
 pub mod Written

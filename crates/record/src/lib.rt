@@ -7,7 +7,7 @@ ghost use Rattle.layout.specs.Columns.{total};
 ghost use Rattle.field.specs.Field.{mayBlank, fieldNumber};
 ghost use Rattle.rows.specs.Records.{recordOf, dataRow, fieldList};
 ghost use Rattle.record.specs.Check.{fieldsFault, firstByte, strayIn, stray, fieldsRefusal, conditionFault, rowRefusal};
-use codes::ORDERS;
+use codes::LAST_FORM;
 use codes::REAL;
 use codes::SKIP;
 use laws::index;
@@ -84,7 +84,7 @@ fn stray_at(line: &[u8; 80], form: u8, at: usize, width: usize) -> usize
     if form == SKIP {
         return first_byte(line, at, at + width);
     }
-    if ORDERS < form {
+    if LAST_FORM < form {
         return first_byte(line, at, at + width);
     }
     0

@@ -97,6 +97,20 @@ records =
     ∷ plain (E 15 ∷ E 15 ∷ E 15 ∷ E 15 ∷ E 15 ∷ [])
     ∷ []
 
+-- 58's line 7, 82's entries and 1815's lists, by number
+abbrev pub dataForm : ℕ
+dataForm = 3
+
+abbrev pub traceEntries : ℕ
+traceEntries = 6
+
+abbrev pub orderLists : ℕ
+orderLists = 29
+
+-- how many they are; as a record's number it stands for none
+abbrev pub noRecord : ℕ
+noRecord = 30
+
 unfoldable pub recordOf : ℕ → Row
 recordOf k = getD records k (plain [])
 

@@ -10,7 +10,7 @@ use lib.ListN.{length, replicate, List·getD-eq-default}
 use native.Mathlib.Omega.{arith}
 use Rattle.laws.specs.Choice.{and-left, and-right}
 use Rattle.layout.specs.Columns.{total}
-use Rattle.rows.specs.Records.{plain, records, recordOf, fieldList}
+use Rattle.rows.specs.Records.{plain, records, recordOf, fieldList, noRecord}
 use Rattle.rows.specs.Tabled.{Tabled}
 
 -- twelve forms and twelve widths that fit the line
@@ -28,11 +28,11 @@ tabled fs ws row k e t w = record {
 }
 
 -- there is no record past the table
-pub recordOf-past : (k : ℕ) → 30 ≤ k → recordOf k ≡ plain []
+pub recordOf-past : (k : ℕ) → noRecord ≤ k → recordOf k ≡ plain []
 unfolding recordOf records
 recordOf-past k h = List·getD-eq-default records (plain []) h
 
-pub tabled-past : (k : ℕ) → 30 ≤ k → Tabled k (replicate 12 0) (replicate 12 0)
+pub tabled-past : (k : ℕ) → noRecord ≤ k → Tabled k (replicate 12 0) (replicate 12 0)
 unfolding fieldList total
 tabled-past k h = record {
   listed = rw (recordOf-past k h) refl;

@@ -38,10 +38,37 @@ const T: u8 = codes::IDENTIFICATION;
 
 const X: u8 = codes::SKIP;
 
-// The records that ask something of their fields together, by number; specs/Records.antt has all records in order.
+// 58's line 7, 82's entries, 164's factors and 1815's lists, by number; specs/Records.antt has all records in order.
 pub const DATA_FORM: usize = 3;
 
+pub const TRACE_ENTRIES: usize = 6;
+
 pub const FACTORS: usize = 10;
+
+pub const ORDER_LISTS: usize = 29;
+
+// How many records there are; as a record's number it stands for none.
+pub const NO_RECORD: usize = 30;
+
+// The kinds of sets: the typed ones, and any other.
+pub const KIND_58: usize = 0;
+
+pub const KIND_82: usize = 1;
+
+pub const KIND_151: usize = 2;
+
+pub const KIND_164: usize = 3;
+
+pub const KIND_1815: usize = 4;
+
+pub const UNTYPED: usize = 5;
+
+// How many records a 58 has before its data, how many before those of its axes, and the place of its line 7, from 0.
+pub const HEADER_LINES: usize = 11;
+
+pub const BEFORE_AXES: usize = 7;
+
+pub const LINE_SEVEN: usize = 6;
 
 // A record's fields: their forms, and their widths, which a width of 0 ends.
 pub struct RowNumbers {

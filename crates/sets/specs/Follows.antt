@@ -1,42 +1,14 @@
--- A typed set's lines as the walk follows them, with the numbers that lines carry taken from their items.
+-- A typed set's lines as the walk follows them.
 use mathlib.Core.Path.{_≡_}
 use mathlib.Core.Bool.{true, false}
 use mathlib.Core.List.{List, [], _∷_}
-use Prim.Native.Nat.{ℕ, _*_}
-use lib.Dec.{ltb, eqb}
-use lib.ListN.{getD}
-use Rattle.laws.specs.Choice.{pick}
-use Rattle.layout.specs.Layout.{caseOf, numbersOf}
-use Rattle.field.specs.Item.{Item, blank, natural}
+use Rattle.field.specs.Item.{Item}
 use Rattle.rows.specs.Row.{Row}
-use Rattle.walk.specs.Due.{due, recordDue, rowDue, isClosed, settled, afterList, next}
+use Rattle.walk.specs.Due.{mayClose, mayContinue, rowDue, afterItems}
 use Rattle.walk.specs.declared.Due.{Due}
 
--- the number at a place of a line's items, from 0
-unfoldable pub numberOf : List Item → ℕ → ℕ
-numberOf is k = natural (getD is k blank)
-
--- the case of a 58, from the items of its line 7
-unfoldable pub caseFrom : List Item → ℕ
-caseFrom is = caseOf (numberOf is 0) (numberOf is 2)
-
--- after a record: `afterRecord` by items
-unfoldable pub afterRecordItems : Due → List Item → Due
-afterRecordItems d is =
-    pick (eqb (d .kind) 0)
-    (pick (eqb (d .at) 6) (due 0 7 (caseFrom is) (numberOf is 1 * numbersOf (caseFrom is)) 0) (next d))
-    (pick (eqb (d .kind) 1)
-    (pick (eqb (d .at) 0) (due 1 1 0 (numberOf is 1) 0) (next d))
-    (pick (eqb (d .kind) 4)
-    (pick (eqb (d .at) 23) (settled (due 4 24 0 (numberOf is 0) (numberOf is 1))) (next d))
-    (next d)))
-
--- after a line that passes: `after` by items
-unfoldable pub afterItems : Due → List Item → Due
-afterItems d is = pick (ltb (recordDue d) 30) (afterRecordItems d is) (afterList d)
-
--- from this state, lines of these items have these rows, and after them the set is closed
+-- from this state, lines of these items have these rows, and after them the set may close
 pub data Follows : Due → List (List Item) → List Row → Type 0 where
-  closed : {d : Due} → isClosed d ≡ true → Follows d [] []
+  closed : {d : Due} → mayClose d ≡ true → Follows d [] []
   more : {d : Due} {is : List Item} {iss : List (List Item)} {rs : List Row}
-      → isClosed d ≡ false → Follows (afterItems d is) iss rs → Follows d (is ∷ iss) (rowDue d ∷ rs)
+      → mayContinue d ≡ true → Follows (afterItems d is) iss rs → Follows d (is ∷ iss) (rowDue d ∷ rs)

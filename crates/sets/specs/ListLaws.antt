@@ -4,14 +4,14 @@ use mathlib.Core.Bool.{Bool, true, false}
 use mathlib.Core.List.{List, [], _∷_, append-nil}
 use Prim.Native.Nat.{_<_}
 use native.Mathlib.Omega.{arith}
-use borrow.Author.Tests.{eqb-true, eqb-false}
+use borrow.Author.Tests.{eqb-true, eqb-false, ltb-true}
 use lib.Dec.{leb, eqb}
 use lib.ListN.{length}
 use Rattle.laws.specs.Choice.{pick, and-right}
 use Rattle.field.specs.Item.{Item}
-use Rattle.walk.specs.Due.{due, recordDue, listRow, rowDue, isClosed, settled, afterList}
+use Rattle.rows.specs.Records.{noRecord}
+use Rattle.walk.specs.Due.{due, recordDue, listRow, mayClose, mayContinue, rowDue, settled, afterList, afterItems}
 use Rattle.walk.specs.declared.Due.{Due}
-use Rattle.sets.specs.Follows.{afterItems}
 use Rattle.sets.specs.LinesForLaws.{listRows-none, listRows-more}
 use Rattle.sets.specs.Owed.{rowsLeft, Listing, Owes, Next}
 
@@ -31,7 +31,7 @@ unfolding rowsLeft listRow
 rowsLeft-settled d = settled-cases (λ (s : Due). rowsLeft s ≡ rowsLeft d) d (λ z. rw z (simp (listRows-none, append-nil))) (λ n. refl)
 
 -- a settled state with its records done stands in its lists
-pub listing-settled : (d : Due) → recordDue d ≡ 30 → 0 < length (listRow d .fields) → Listing (settled d)
+pub listing-settled : (d : Due) → recordDue d ≡ noRecord → 0 < length (listRow d .fields) → Listing (settled d)
 unfolding recordDue listRow
 listing-settled d p w =
     settled-cases
@@ -41,19 +41,17 @@ listing-settled d p w =
     (λ n. record { past = p; none = λ z. absurd (n z); wide = λ _. w })
 
 module _ (d : Due) (l : Listing d) where
-  -- a closed set owes nothing
-  pub lists-closed : isClosed d ≡ true → rowsLeft d ≡ []
-  unfolding isClosed rowsLeft
+  -- a set that may close owes nothing
+  pub lists-closed : mayClose d ≡ true → rowsLeft d ≡ []
+  unfolding mayClose rowsLeft
   lists-closed h =
-      let z : d .left ≡ 0 = eqb-true (d .left) 0 (and-right (leb 30 (recordDue d)) (eqb (d .left) 0) h) in
+      let z : d .left ≡ 0 = eqb-true (d .left) 0 (and-right (leb noRecord (recordDue d)) (eqb (d .left) 0) h) in
       rw (z, l .none z, listRows-none) refl
 
-  -- a set that is not closed owes some numbers
-  lists-some : isClosed d ≡ false → 0 < d .left
-  unfolding isClosed
-  lists-some h =
-      let n : d .left ≡ 0 → ⊥ = eqb-false (d .left) 0 (rw (l .past) at h) in
-      omega arith
+  -- a set that may go on owes some numbers
+  lists-some : mayContinue d ≡ true → 0 < d .left
+  unfolding mayContinue
+  lists-some h = ltb-true 0 (d .left) (rw (l .past) at h)
 
   -- a line of a list has as much of the list's row as is left
   rowsLeft-more : 0 < d .left → rowsLeft d ≡ rowDue d ∷ rowsLeft (afterList d)
@@ -61,7 +59,7 @@ module _ (d : Due) (l : Listing d) where
   rowsLeft-more p = rw (l .past, rowsLeft-settled, listRows-more (listRow d) (d .left) (l .wide p) p) refl
 
   -- one line of a list owed
-  pub lists-next : (iss : List (List Item)) → isClosed d ≡ false → Next d iss (rowsLeft d)
+  pub lists-next : (iss : List (List Item)) → mayContinue d ≡ true → Next d iss (rowsLeft d)
   unfolding afterItems afterList recordDue listRow
   lists-next iss h =
       let p : 0 < d .left = lists-some h in

@@ -7,28 +7,20 @@ use lib.ListN.{length, getD, drop}
 use Rattle.laws.specs.Choice.{pick}
 use Rattle.field.specs.Item.{Item}
 use Rattle.rows.specs.Row.{Row}
-use Rattle.rows.specs.Records.{recordOf}
-use Rattle.rows.specs.Sequence.{sequence}
+use Rattle.rows.specs.Records.{recordOf, noRecord}
+use Rattle.rows.specs.TypedSets.{sequence, untyped, following}
 use Rattle.theory.specs.Due.{listRows, listsOf}
-use Rattle.walk.specs.Due.{due, opening, recordDue, listRow, rowDue}
+use Rattle.walk.specs.Due.{due, recordDue, listRow, rowDue, countPlace, counted, afterItems}
 use Rattle.walk.specs.declared.Due.{Due}
-use Rattle.sets.specs.Follows.{afterItems, afterRecordItems}
 
 -- a state of this kind, with this many lines of its records taken
 abbrev pub Stands : ℕ → ℕ → Due → Type 0
 Stands k a d = d ≡ due k a (d .case) (d .left) (d .second)
 
--- the record that counts what follows the records, by its place from 0; 30, past them all, where a kind has none
-unfoldable pub countPlace : ℕ → ℕ
-countPlace k = getD (6 ∷ 0 ∷ 30 ∷ 30 ∷ 23 ∷ []) k 30
-
--- what is known of the lists when this many records have come, of a set with these lines: nothing up to the record that counts
-unfoldable pub counted : ℕ → List (List Item) → ℕ → Due
-counted k ls a = pick (leb a (countPlace k)) (opening k) (afterRecordItems (due k (countPlace k) 0 0 0) (getD ls (countPlace k) []))
-
--- the state then
-abbrev pub reached : ℕ → List (List Item) → ℕ → Due
-reached k ls a = due k a (counted k ls a .case) (counted k ls a .left) (counted k ls a .second)
+-- the state of a set with these lines when this many records have come: past the one that counts, the numbers are known
+unfoldable pub reached : ℕ → List (List Item) → ℕ → Due
+reached k ls a =
+    pick (leb a (countPlace (following k))) (due k a 0 0 0) (counted (following k) (getD ls (countPlace (following k)) []) (due k a 0 0 0))
 
 -- the rows of the lists still to come
 unfoldable pub rowsLeft : Due → List Row
@@ -36,14 +28,14 @@ rowsLeft d = listRows (listRow d) (d .left) ++ listRows (listRow d) (d .second)
 
 -- a state in the lists: the records are done, the first list is done only where the second is, and a full line holds some number
 pub record Listing (d : Due) : Type 0 where
-  pub past : recordDue d ≡ 30
+  pub past : recordDue d ≡ noRecord
   pub none : d .left ≡ 0 → d .second ≡ 0
   pub wide : 0 < d .left → 0 < length (listRow d .fields)
 
 -- the rows owed from a state, if lines of these items come: the records and lists that document 01 gives, or the lists alone
 pub data Owes : Due → List (List Item) → List Row → Type 0 where
   records : (k a : ℕ) (ls : List (List Item)) {iss : List (List Item)}
-      → k < 5 → a < length (sequence k) → drop a ls ≡ iss → Owes (reached k ls a) iss (map recordOf (drop a (sequence k)) ++ listsOf k ls)
+      → k < untyped → a < length (sequence k) → drop a ls ≡ iss → Owes (reached k ls a) iss (map recordOf (drop a (sequence k)) ++ listsOf k ls)
   lists : {d : Due} {iss : List (List Item)} → Listing d → Owes d iss (rowsLeft d)
 
 -- one line owed: its row, and what is owed after it

@@ -17,7 +17,7 @@ use Rattle.integer.specs.Integer as I
 use Rattle.integer.specs.Integer.{stepInteger, endInteger, integerOf}
 use Rattle.line.specs.Line.{isAllowed, withoutReturn, columns, firstBad, lineFault, filled}
 use Rattle.kind.specs.Kind.{thenBlank, isDelimiter, datasetNumber}
-use Rattle.rows.specs.Sequence.{kindOf, isTyped}
+use Rattle.rows.specs.TypedSets.{kindOf, isTyped, typedSets}
 use Rattle.walk.specs.Step as W
 use Rattle.walk.specs.Step.{start, opened, outsideStep, numberStep, plainStep}
 use Rattle.judge.specs.declared.Reply.{Reply}
@@ -57,7 +57,7 @@ abbrev returns : List (List ℕ)
 returns = (bytes "    -1" ++ (13 ∷ [])) ∷ ((10 ∷ bytes "  2420") ++ (13 ∷ [])) ∷ ((10 ∷ bytes "    -1") ++ (13 ∷ [])) ∷ (10 ∷ []) ∷ [] ∷ []
 
 pub returns-accepted : (answers fresh returns ≡ SoFar 0 ∷ SoFar 1 ∷ SoFar 2 ∷ SoFar 3 ∷ SoFar 3 ∷ []) × (ends fresh returns ≡ reply 0 3)
-unfolding stepOf answerOf push pushAll over cut run allBlank isDigit I.push stepInteger endInteger integerOf isAllowed withoutReturn columns firstBad lineFault filled thenBlank isDelimiter datasetNumber kindOf isTyped opened outsideStep numberStep plainStep W.stepOf lineStep
+unfolding stepOf answerOf push pushAll over cut run allBlank isDigit I.push stepInteger endInteger integerOf isAllowed withoutReturn columns firstBad lineFault filled thenBlank isDelimiter datasetNumber kindOf isTyped typedSets opened outsideStep numberStep plainStep W.stepOf lineStep
 returns-accepted = (refl, refl)
 
 -- a CR that ends a burst and has no LF after it is a byte not allowed. A judge that drops it at once accepts the line.

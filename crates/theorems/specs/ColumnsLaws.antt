@@ -9,6 +9,7 @@ use Rattle.laws.specs.Choice.{below-or-not}
 use Rattle.layout.specs.Columns.{lineOf, fieldOf}
 use Rattle.layout.specs.ColumnsLaws.{fieldOf-inside, stored-at}
 use Rattle.layout.specs.Layout.{numbersOf}
+use Rattle.rows.specs.TypedSets.{headerLines}
 use Rattle.theory.specs.Sets.{Set}
 use Rattle.parts.specs.Parts.{Part, lineStart}
 use Rattle.parts.specs.Function.{dataStart, firstByte, pastByte}
@@ -24,7 +25,7 @@ pub owned-within : {p : Part} {count x : ℕ} → Owned p count x → (j : ℕ) 
 owned-within o = (o .index, (o .some, record { from = o .from; past = o .past }))
 
 -- the data lines of a 58 begin at its twelfth line
-pub data-start : {s : Set} {p : Part} → Holds s p → s .number ≡ 58 → dataStart p ≡ lineStart p 11
+pub data-start : {s : Set} {p : Part} → Holds s p → s .number ≡ 58 → dataStart p ≡ lineStart p headerLines
 unfolding dataStart
 data-start h e = rw (number-held h, e) refl
 

@@ -13,13 +13,13 @@ use Rattle.line.specs.Line.{filled, refusal}
 use Rattle.line.specs.declared.Refusal.{Refusal}
 use Rattle.kind.specs.Kind.{isDelimiter, datasetNumber}
 use Rattle.field.specs.Item.{Item}
-use Rattle.rows.specs.Sequence.{isTyped}
+use Rattle.rows.specs.TypedSets.{isTyped}
 use Rattle.record.specs.Check.{rowRefusal}
 use Rattle.walk.specs.declared.Due.{Due}
 use Rattle.walk.specs.declared.Place.the-variants.{Outside, Plain, Typed}
 use Rattle.walk.specs.declared.Outcome.{Outcome}
 use Rattle.walk.specs.declared.Outcome.the-variants.{Next, Refused}
-use Rattle.walk.specs.Due.{rowDue, isClosed}
+use Rattle.walk.specs.Due.{mayClose, mayContinue, rowDue}
 use Rattle.walk.specs.Step as Step
 use Rattle.theory.specs.Sets.{Set, set}
 use Rattle.theorems.specs.Reader.{Reading, outside, number, plain, typed, bad, closed, typedOn, readLine}
@@ -68,6 +68,6 @@ step-image (number acc) cs s =
     agrees-pick (ltb 0 v) (agrees-opened acc v _ (isTyped v)) (agrees-refused 5 1)
 step-image (plain acc v iss) cs s = agrees-pick (isDelimiter (filled cs)) (agrees-closed acc v iss) (stands (plain acc v _) tt)
 step-image (typed acc v iss d) cs s =
-    agrees-pick (isDelimiter (filled cs)) (agrees-pick (isClosed d) (agrees-closed acc v iss) (agrees-refused 6 1))
-    (agrees-pick (isClosed d) (agrees-refused 7 1) (agrees-unless (rowRefusal (rowDue d) (filled cs)) (typed acc v _ _) tt))
+    agrees-pick (isDelimiter (filled cs)) (agrees-pick (mayClose d) (agrees-closed acc v iss) (agrees-refused 6 1))
+    (agrees-pick (mayContinue d) (agrees-unless (rowRefusal (rowDue d) (filled cs)) (typed acc v _ _) tt) (agrees-refused 7 1))
 step-image bad cs s = absurd s

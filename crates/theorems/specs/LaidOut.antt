@@ -5,8 +5,8 @@ use Prim.Native.Nat.{ℕ, _<_}
 use lib.IntN.{ℤ, pos, natAbs}
 use lib.ListN.{length, getD}
 use Rattle.laws.specs.Cut.{cut}
-use Rattle.rows.specs.Records.{recordOf}
-use Rattle.rows.specs.Sequence.{sequence}
+use Rattle.rows.specs.Records.{recordOf, noRecord}
+use Rattle.rows.specs.TypedSets.{sequence, headerLines, kind58}
 use Rattle.record.specs.Written.{Written}
 use Rattle.parts.specs.Parts.{columnsIn}
 use Rattle.header.specs.declared.Header.{Header}
@@ -31,9 +31,9 @@ pub record LaidOut (header : List ℕ) (xs ss : List ℤ) : Type 0 where
   pub set : Set
   pub number : set .number ≡ 58
   pub proper : Proper (set ∷ []) (writtenSet header (headerOf header .case) xs ss)
-  pub eleven : length (cut header .lines) ≡ 11
+  pub eleven : length (cut header .lines) ≡ headerLines
   pub ended : cut header .rest ≡ []
-  pub items : (i : ℕ) → i < 11 → Written (recordOf (getD (sequence 0) i 30)) (getD (set .lines) i []) (columnsIn (getD (cut header .lines) i []))
+  pub items : (i : ℕ) → i < headerLines → Written (recordOf (getD (sequence kind58) i noRecord)) (getD (set .lines) i []) (columnsIn (getD (cut header .lines) i []))
   pub lent : Proper (set ∷ []) (lentFile header (headerOf header .case) xs ss)
   pub rewritten : rewrittenFile (lentFile header (headerOf header .case) xs ss) ≡ writtenSet header (headerOf header .case) xs ss
   pub form : InForm (set ∷ []) (writtenSet header (headerOf header .case) xs ss)

@@ -9,10 +9,10 @@ use Rattle.text.specs.Text.{trimmed}
 use Rattle.line.specs.Line.{filled}
 use Rattle.kind.specs.Kind.{isDelimiter, datasetNumber}
 use Rattle.field.specs.Item.{Item, text}
-use Rattle.rows.specs.Sequence.{kindOf, isTyped}
+use Rattle.rows.specs.TypedSets.{kindOf, isTyped}
 use Rattle.record.specs.Check.{itemsOf, rowRefusal}
 use Rattle.walk.specs.declared.Due.{Due}
-use Rattle.walk.specs.Due.{opening, rowDue, isClosed, after}
+use Rattle.walk.specs.Due.{opening, mayClose, mayContinue, rowDue, after}
 use Rattle.theory.specs.Sets.{Set, set}
 
 -- outside sets; after an opening delimiter; in a plain or a typed set of a number, with its lines so far; or refused
@@ -43,10 +43,10 @@ readLine (outside acc) cs =
 readLine (number acc) cs = pick (ltb 0 (datasetNumber (filled cs))) (opened acc (datasetNumber (filled cs))) bad
 readLine (plain acc v iss) cs = pick (isDelimiter (filled cs)) (closed acc v iss) (plain acc v (iss ++ ((text (trimmed cs) ∷ []) ∷ [])))
 readLine (typed acc v iss d) cs =
-    pick (isDelimiter (filled cs)) (pick (isClosed d) (closed acc v iss) bad)
-    (pick (isClosed d) bad
+    pick (isDelimiter (filled cs)) (pick (mayClose d) (closed acc v iss) bad)
+    (pick (mayContinue d)
     (typedOn (rowRefusal (rowDue d) (filled cs) .number)
-    (typed acc v (iss ++ (itemsOf (rowDue d .fields) 0 (filled cs) ∷ [])) (after d (filled cs)))))
+    (typed acc v (iss ++ (itemsOf (rowDue d .fields) 0 (filled cs) ∷ [])) (after d (filled cs)))) bad)
 readLine bad cs = bad
 
 -- the lines of a file, one after the other

@@ -15,10 +15,8 @@ use Rattle.kind.specs.KindLaws.{isDelimiter-complete, datasetNumber-complete, d
 use Rattle.field.specs.Item.{Item, text}
 use Rattle.reading.specs.LineReading.{written-complete}
 use Rattle.record.specs.Written.{Written}
-use Rattle.walk.specs.Due.{rowDue, isClosed}
+use Rattle.walk.specs.Due.{mayClose, mayContinue, rowDue, afterItems}
 use Rattle.walk.specs.declared.Due.{Due}
-use Rattle.sets.specs.Follows.{afterItems}
-use Rattle.sets.specs.FollowsLaws.{after-items}
 use Rattle.theory.specs.Sets.{Set}
 use Rattle.theory.specs.Proper.{Inside, BlankLines, PlainLines, SetLines, Lines}
 use Rattle.theorems.specs.Reader.{Reading, outside, number, plain, typed, closed, opened, readLine, readLines}
@@ -58,18 +56,18 @@ plain-line : (acc : List Set) (v : ℕ) (c : List (List Item)) (t cs : List ℕ)
 plain-line acc v c t cs i n = rw (inside-complete cs n, trimmed-complete i) refl
 
 -- a line of a typed set, written by the row due
-typed-line : (acc : List Set) (v : ℕ) (c : List (List Item)) (d : Due) (is : List Item) (cs : List ℕ) → isClosed d ≡ false
+typed-line : (acc : List Set) (v : ℕ) (c : List (List Item)) (d : Due) (is : List Item) (cs : List ℕ) → mayContinue d ≡ true
     → Written (rowDue d) is (filled cs) → Inside cs → readLine (typed acc v c d) cs ≡ typed acc v (c ++ (is ∷ [])) (afterItems d is)
 typed-line acc v c d is cs k w n =
     let o = written-complete (filled cs) (filled-length cs) (rowDue d) is w in
-    rw (inside-complete cs n, k, o .0, after-items d (filled cs), o .1) refl
+    rw (inside-complete cs n, k, o .0, o .1) refl
 
 module _ (acc : List Set) (v : ℕ) (last : List ℕ) (later : List (List ℕ)) (e : Delimiter (filled last)) where
   -- the closing delimiter
   plain-closes : (c : List (List Item)) → readLine (plain acc v c) last ≡ closed acc v c
   plain-closes c = rw (isDelimiter-complete e) refl
 
-  typed-closes : (c : List (List Item)) (d : Due) → isClosed d ≡ true → readLine (typed acc v c d) last ≡ closed acc v c
+  typed-closes : (c : List (List Item)) (d : Due) → mayClose d ≡ true → readLine (typed acc v c d) last ≡ closed acc v c
   typed-closes c d k = rw (isDelimiter-complete e, k) refl
 
   -- all of a plain set's lines, and its closing delimiter

@@ -16,12 +16,10 @@ use Rattle.line.specs.LineLaws.{filled-length}
 use Rattle.kind.specs.Kind.{Delimiter, NumberLine, isDelimiter, datasetNumber}
 use Rattle.kind.specs.KindLaws.{isDelimiter-sound, datasetNumber-sound}
 use Rattle.field.specs.Item.{Item, text}
-use Rattle.rows.specs.Sequence.{kindOf, isTyped}
+use Rattle.rows.specs.TypedSets.{kindOf, isTyped}
 use Rattle.record.specs.Check.{itemsOf, rowRefusal}
-use Rattle.walk.specs.Due.{opening, rowDue, isClosed, after}
+use Rattle.walk.specs.Due.{opening, mayClose, mayContinue, rowDue, after, afterItems}
 use Rattle.walk.specs.declared.Due.{Due}
-use Rattle.sets.specs.Follows.{afterItems}
-use Rattle.sets.specs.FollowsLaws.{after-items}
 use Rattle.theory.specs.Sets.{Set, set}
 use Rattle.theory.specs.Proper.{BlankLines, PlainLines, SetLines, Lines}
 use Rattle.theorems.specs.Reader.{Reading, outside, number, plain, typed, bad, closed, opened, typedOn, readLine, readLines}
@@ -61,8 +59,8 @@ within-line (number acc) cs w =
     within-pick (ltb 0 (datasetNumber (filled cs))) _ bad (λ e. within-pick (isTyped (datasetNumber (filled cs))) _ _ (λ t. w) w) tt
 within-line (plain acc v c) cs w = within-pick (isDelimiter (filled cs)) (closed acc v c) _ (λ e. within-closed acc (set v c) w) w
 within-line (typed acc v c d) cs w =
-    within-pick (isDelimiter (filled cs)) _ _ (λ e. within-pick (isClosed d) (closed acc v c) bad (λ k. within-closed acc (set v c) w) tt)
-    (within-pick (isClosed d) bad _ (λ k. tt) (within-typedOn (rowRefusal (rowDue d) (filled cs) .number) _ w))
+    within-pick (isDelimiter (filled cs)) _ _ (λ e. within-pick (mayClose d) (closed acc v c) bad (λ k. within-closed acc (set v c) w) tt)
+    (within-pick (mayContinue d) _ bad (λ k. within-typedOn (rowRefusal (rowDue d) (filled cs) .number) _ w) tt)
 within-line bad cs w = tt
 
 within-lines : (css : List (List ℕ)) (r : Reading) → Within r → Within (readLines r css)
@@ -173,19 +171,19 @@ module _ (cs : List ℕ) (css : List (List ℕ)) (short : length cs ≤ 80) (ih 
   plain-case acc v c m false e h =
       rest-line PlainLines PlainLines _ cs (λ iss body l. PlainLines.more (trimmed-sound cs) (inside-sound cs e) l) (ih .of-plain acc v _ m h)
 
-  typed-case : (acc : List Set) (v : ℕ) (c : List (List Item)) (d : Due) (m : List Set) (t k : Bool) (n : ℕ) → isDelimiter (filled cs) ≡ t → isClosed d ≡ k
+  typed-case : (acc : List Set) (v : ℕ) (c : List (List Item)) (d : Due) (m : List Set) (t k o : Bool) (n : ℕ) → isDelimiter (filled cs) ≡ t → mayClose d ≡ k → mayContinue d ≡ o
       → rowRefusal (rowDue d) (filled cs) .number ≡ n
       → readLines (pick t (pick k (closed acc v c) bad)
-      (pick k bad (typedOn n (typed acc v (c ++ (itemsOf (rowDue d .fields) 0 (filled cs) ∷ [])) (after d (filled cs)))))) css ≡ outside m
+      (pick o (typedOn n (typed acc v (c ++ (itemsOf (rowDue d .fields) 0 (filled cs) ∷ [])) (after d (filled cs)))) bad)) css ≡ outside m
       → Rest (TypedRun d) acc v c m (cs ∷ css)
-  typed-case acc v c d m true true n e k f h = rest-close (TypedRun d) v c cs (TypedRun.closed k) (isDelimiter-sound (filled cs) e) (ih .of-outside _ m h)
-  typed-case acc v c d m true false n e k f h = not-bad css m h
-  typed-case acc v c d m false true n e k f h = not-bad css m h
-  typed-case acc v c d m false false zero e k f h =
+  typed-case acc v c d m true true o n e k g f h = rest-close (TypedRun d) v c cs (TypedRun.closed k) (isDelimiter-sound (filled cs) e) (ih .of-outside _ m h)
+  typed-case acc v c d m true false o n e k g f h = not-bad css m h
+  typed-case acc v c d m false q false n e k g f h = not-bad css m h
+  typed-case acc v c d m false q true zero e k g f h =
       let is : List Item = itemsOf (rowDue d .fields) 0 (filled cs) in
-      rest-line (TypedRun (afterItems d is)) (TypedRun d) is cs (λ iss body r. TypedRun.more k (rowDue-sound d cs f) (inside-sound cs e) r)
-      (ih .of-typed acc v _ _ m (rw (after-items d (filled cs)) at h))
-  typed-case acc v c d m false false (suc n) e k f h = not-bad css m h
+      rest-line (TypedRun (afterItems d is)) (TypedRun d) is cs (λ iss body r. TypedRun.more g (rowDue-sound d cs f) (inside-sound cs e) r)
+      (ih .of-typed acc v _ _ m h)
+  typed-case acc v c d m false q true (suc n) e k g f h = not-bad css m h
 
 -- from each state, by the lines
 sound : {css : List (List ℕ)} → Short css → Sound css
@@ -200,7 +198,7 @@ sound (Short.more {cs} {css} short s) = record {
   of-outside = λ acc m h. outside-case cs css short (sound s) acc m _ _ (ltb (length acc) 4096) refl refl h;
   of-number = λ acc m h. number-case cs css short (sound s) acc m _ _ refl refl h;
   of-plain = λ acc v c m h. plain-case cs css short (sound s) acc v c m _ refl h;
-  of-typed = λ acc v c d m h. typed-case cs css short (sound s) acc v c d m _ _ _ refl refl refl h;
+  of-typed = λ acc v c d m h. typed-case cs css short (sound s) acc v c d m _ _ _ _ refl refl refl refl h;
 }
 
 -- what is read as a list of sets is a writing of it, of 4,096 sets at most

@@ -7,7 +7,7 @@ use Prim.Native.Nat.{ℕ, zero, suc, _≤_}
 use native.Mathlib.Nat.{le-trans}
 use native.Mathlib.Omega.{arith}
 use borrow.Author.Tests.{leb-true}
-use lib.Dec.{leb, ltb, eqb}
+use lib.Dec.{leb, ltb}
 use lib.ListN.{take}
 use Rattle.laws.specs.Choice.{pick, below-or-not}
 use Rattle.laws.specs.Ranges.{in-range}
@@ -15,10 +15,11 @@ use Rattle.layout.specs.Columns.{total}
 use Rattle.layout.specs.Layout.{layoutOf}
 use Rattle.layout.specs.LayoutLaws.{total-inside}
 use Rattle.rows.specs.Row.{Field, Row, cut}
-use Rattle.rows.specs.Records.{E, records, recordOf, dataRow}
+use Rattle.rows.specs.Records.{E, records, recordOf, dataRow, noRecord}
 use Rattle.rows.specs.TabledLaws.{recordOf-past}
+use Rattle.rows.specs.TypedSets.{Following, nothing, list, lists, dataLines, following}
 use Rattle.record.specs.CheckLaws.{total-take}
-use Rattle.walk.specs.Due.{recordDue, listRow, rowDue}
+use Rattle.walk.specs.Due.{recordDue, listRow, rowDue, fullRow}
 use Rattle.walk.specs.declared.Due.{Due}
 
 -- the widths of a row's fields
@@ -37,9 +38,9 @@ recordOf-fits : (k : ℕ) → Fits (recordOf k)
 unfolding recordOf records total
 recordOf-fits k =
     ⊎-elim
-    (λ h. leb-true _ _ (in-range narrow true 0 30 k refl (omega arith) (omega arith)))
+    (λ h. leb-true _ _ (in-range narrow true 0 noRecord k refl (omega arith) (omega arith)))
     (λ h. rw (recordOf-past k h) (omega arith))
-    (below-or-not k 30)
+    (below-or-not k noRecord)
 
 -- the fields of a data line have its layout's widths
 widths-data : (ws : List ℕ) → widths (map E ws) ≡ ws
@@ -65,15 +66,19 @@ cut-fits : (n : ℕ) (r : Row) → Fits r → Fits (cut n r)
 cut-fits n r h = rw (widths-take n (r .fields)) (le-trans (total-take (widths (r .fields)) n) h)
 
 -- a full line of the list that follows the records
+fullRow-fits : (f : Following) (c : ℕ) → Fits (fullRow f c)
+fullRow-fits nothing c = recordOf-fits noRecord
+fullRow-fits (list r p i) c = recordOf-fits r
+fullRow-fits (lists r p i j) c = recordOf-fits r
+fullRow-fits (dataLines p) c = dataRow-fits c
+
 listRow-fits : (d : Due) → Fits (listRow d)
 unfolding listRow
-listRow-fits d =
-    pick-fits (eqb (d .kind) 0) (dataRow (d .case)) _ (dataRow-fits (d .case))
-    (pick-fits (eqb (d .kind) 1) (recordOf 6) (recordOf 29) (recordOf-fits 6) (recordOf-fits 29))
+listRow-fits d = fullRow-fits (following (d .kind)) (d .case)
 
 -- the row of the next line, a record or what is left of a list
 pub rowDue-fits : (d : Due) → total (map (λ (f : Field). f .width) (rowDue d .fields)) ≤ 80
 unfolding rowDue
 rowDue-fits d =
-    pick-fits (ltb (recordDue d) 30) (recordOf (recordDue d)) (cut (d .left) (listRow d)) (recordOf-fits (recordDue d))
+    pick-fits (ltb (recordDue d) noRecord) (recordOf (recordDue d)) (cut (d .left) (listRow d)) (recordOf-fits (recordDue d))
     (cut-fits (d .left) (listRow d) (listRow-fits d))

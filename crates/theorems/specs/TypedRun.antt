@@ -6,14 +6,13 @@ use Prim.Native.Nat.{ℕ}
 use Rattle.line.specs.Line.{filled}
 use Rattle.field.specs.Item.{Item}
 use Rattle.record.specs.Written.{Written}
-use Rattle.walk.specs.Due.{rowDue, isClosed}
+use Rattle.walk.specs.Due.{mayClose, mayContinue, rowDue, afterItems}
 use Rattle.walk.specs.declared.Due.{Due}
 use Rattle.theory.specs.Proper.{Inside}
-use Rattle.sets.specs.Follows.{afterItems}
 
 -- from this state, lines of these columns write these items, each by the row due, and after them the set is closed
 pub data TypedRun : Due → List (List Item) → List (List ℕ) → Type 0 where
-  closed : {d : Due} → isClosed d ≡ true → TypedRun d [] []
+  closed : {d : Due} → mayClose d ≡ true → TypedRun d [] []
   more : {d : Due} {is : List Item} {cs : List ℕ} {iss : List (List Item)} {css : List (List ℕ)}
-      → isClosed d ≡ false → Written (rowDue d) is (filled cs) → Inside cs → TypedRun (afterItems d is) iss css
+      → mayContinue d ≡ true → Written (rowDue d) is (filled cs) → Inside cs → TypedRun (afterItems d is) iss css
       → TypedRun d (is ∷ iss) (cs ∷ css)

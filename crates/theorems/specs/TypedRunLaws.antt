@@ -6,7 +6,7 @@ use Prim.Native.Nat.{ℕ, suc}
 use lib.ListN.{length}
 use Rattle.field.specs.Item.{Item}
 use Rattle.rows.specs.Row.{Row}
-use Rattle.rows.specs.Sequence.{kindOf, isTyped}
+use Rattle.rows.specs.TypedSets.{kindOf, isTyped}
 use Rattle.walk.specs.Due.{opening, rowDue}
 use Rattle.walk.specs.declared.Due.{Due}
 use Rattle.theory.specs.Due.{rowsOf}

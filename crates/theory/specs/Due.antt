@@ -1,14 +1,12 @@
 -- The rows of a typed set's lines, from its number and its items alone (01, "Records").
 use mathlib.Core.List.{List, [], _∷_, _++_, map}
-use Prim.Native.Nat.{ℕ, zero, suc, _+_, _-_, _*_, _/_}
-use lib.Dec.{eqb}
-use lib.ListN.{length}
-use Rattle.laws.specs.Choice.{pick}
-use Rattle.layout.specs.Layout.{caseOf, numbersOf}
+use Prim.Native.Nat.{ℕ, zero, suc, _+_, _-_, _/_}
+use lib.ListN.{length, getD}
 use Rattle.field.specs.Item.{Item}
 use Rattle.rows.specs.Row.{Row, cut}
-use Rattle.rows.specs.Sequence.{kindOf, sequence}
+use Rattle.rows.specs.TypedSets.{kindOf, sequence, Following, nothing, list, lists, dataLines, following}
 use Rattle.rows.specs.Records.{recordOf, dataRow}
+use Rattle.record.specs.Declared.{caseBy, storedBy}
 use Rattle.theory.specs.Sets.{numberAt}
 
 -- how many lines hold this many numbers, of n in a full line
@@ -23,16 +21,16 @@ numberRows r (suc k) left = cut left r ∷ numberRows r k (left - length (r .fie
 abbrev pub listRows : Row → ℕ → List Row
 listRows r left = numberRows r (linesFor (length (r .fields)) left) left
 
--- the lines after a set's records: 58's data lines, for the numbers that its count of values stores; 82's entries; 1815's two
--- lists, "no line at all for a count of 0"
+-- the rows of the lines that follow a set's records: none; a list, "no line at all for a count of 0"; two lists; 58's data lines, for the
+-- numbers that its count of values stores
+abbrev pub rowsAfter : Following → List (List Item) → List Row
+rowsAfter nothing ls = []
+rowsAfter (list r p i) ls = listRows (recordOf r) (numberAt ls p i)
+rowsAfter (lists r p i j) ls = listRows (recordOf r) (numberAt ls p i) ++ listRows (recordOf r) (numberAt ls p j)
+rowsAfter (dataLines p) ls = listRows (dataRow (caseBy (getD ls p []))) (storedBy (getD ls p []))
+
 unfoldable pub listsOf : ℕ → List (List Item) → List Row
-listsOf kind ls =
-    pick (eqb kind 0) (listRows (dataRow case) (numberAt ls 6 1 * numbersOf case))
-    (pick (eqb kind 1) (listRows (recordOf 6) (numberAt ls 0 1))
-    (pick (eqb kind 4) (listRows (recordOf 29) (numberAt ls 23 0) ++ listRows (recordOf 29) (numberAt ls 23 1)) []))
-  where
-    case : ℕ
-    case = caseOf (numberAt ls 6 0) (numberAt ls 6 2)
+listsOf kind ls = rowsAfter (following kind) ls
 
 -- the rows of a typed set's lines: its records in order, then those lines
 unfoldable pub rowsOf : ℕ → List (List Item) → List Row

@@ -13,9 +13,9 @@ use Rattle.line.specs.Line.{Allowed, filled}
 use Rattle.kind.specs.Kind.{Delimiter, NumberLine}
 use Rattle.field.specs.Item.{Item, text}
 use Rattle.rows.specs.Row.{Row}
+use Rattle.rows.specs.TypedSets.{isTyped}
 use Rattle.record.specs.Written.{Written}
 use Rattle.theory.specs.Sets.{Set, set}
-use Rattle.rows.specs.Sequence.{isTyped}
 use Rattle.theory.specs.Due.{rowsOf}
 
 -- "No line between a set's number line and its closing delimiter is a delimiter"

@@ -3,7 +3,8 @@
 use mathlib.Core.List.{List, []}
 use Prim.Native.Nat.{ℕ}
 use lib.ListN.{getD}
-use Rattle.field.specs.Item.{Item, blank, natural}
+use Rattle.field.specs.Item.{Item}
+use Rattle.record.specs.Declared.{naturalAt}
 
 -- a set: its number, and the items of its lines; a plain set's line is one text
 pub record Set : Type 0 where
@@ -15,4 +16,4 @@ set n ls = record { number = n; lines = ls }
 
 -- the number at a place of a line, both from 0
 unfoldable pub numberAt : List (List Item) → ℕ → ℕ → ℕ
-numberAt ls line place = natural (getD (getD ls line []) place blank)
+numberAt ls line place = naturalAt (getD ls line []) place

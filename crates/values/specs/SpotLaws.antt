@@ -15,6 +15,7 @@ use Rattle.layout.specs.Columns.{lineOf, fieldOf, fieldStart, fieldPast}
 use Rattle.layout.specs.ColumnsLaws.{fieldStart-next, fieldOf-inside, stored-at}
 use Rattle.layout.specs.Layout.{layoutOf, fieldsOf, cellOf}
 use Rattle.layout.specs.LayoutLaws.{fieldsOf-some, widths-six, fieldPast-inside}
+use Rattle.rows.specs.TypedSets.{headerLines}
 use Rattle.parts.specs.PartsLaws.{lines-end}
 use Rattle.parts.specs.Scan.{skipTo}
 use Rattle.parts.specs.SetLaws.{skip-stops, skip-none, skip-next}
@@ -73,10 +74,10 @@ module _ (n j : ℕ) (p : 0 < n) where
       )
 
 -- the first number opens the first data line
-pub spot-first : (file : List ℕ) (d : Data) (at : ℕ) → at ≡ skipTo 11 (d .closing) (d .body) (cut (drop (d .body) file) .lines) → spot at 0 at ≡ spotOf file d 0
+pub spot-first : (file : List ℕ) (d : Data) (at : ℕ) → at ≡ skipTo headerLines (d .closing) (d .body) (cut (drop (d .body) file) .lines) → spot at 0 at ≡ spotOf file d 0
 unfolding spotOf lineAt spanOf lineOf fieldOf fieldStart
 spot-first file d at e =
-    let z : skipTo 11 (d .closing) (d .body) (cut (drop (d .body) file) .lines) + 0 ≡ skipTo 11 (d .closing) (d .body) (cut (drop (d .body) file) .lines) = omega arith in
+    let z : skipTo headerLines (d .closing) (d .body) (cut (drop (d .body) file) .lines) + 0 ≡ skipTo headerLines (d .closing) (d .body) (cut (drop (d .body) file) .lines) = omega arith in
     rw (e, zero-div, zero-mod, z) refl
 
 -- stored number j is there, on a line that begins inside the file
@@ -132,9 +133,9 @@ module _ (file : List ℕ) (d : Data) (body : d .body ≤ length file) (eight : 
   opening m e h =
       let f : fieldOf n j ≡ s .field = sym (ap (λ (x : Spot). x .field) (at .spot-is)) in
       let q = next-line n j (fieldsOf-some (d .case) eight) (omega arith) in
-      let z : 11 + suc (lineOf n j) ≡ suc (11 + lineOf n j) = omega arith in
+      let z : headerLines + suc (lineOf n j) ≡ suc (headerLines + lineOf n j) = omega arith in
       let a : skips file (d .closing) 1 (s .line) ≡ lineAt file d (j + 1)
-      = ap (skips file (d .closing) 1) (ap (λ (x : Spot). x .line) (at .spot-is)) ∙ sym (rw (q .0, z) (skip-further file (d .closing) (11 + lineOf n j) (d .body) body)) in
+      = ap (skips file (d .closing) 1) (ap (λ (x : Spot). x .line) (at .spot-is)) ∙ sym (rw (q .0, z) (skip-further file (d .closing) (headerLines + lineOf n j) (d .body) body)) in
       let o : lineAt file d (j + 1) + 0 ≡ lineAt file d (j + 1) = omega arith in
       rw (le-ltb (s .field + 1) m h, a, q .1, o) refl
 

@@ -1,12 +1,12 @@
 -- The code's table of records, the numbers that a record gives, and the rows of lists.
-use mathlib.Core.Path.{_≡_, refl}
+use mathlib.Core.Path.{_≡_, refl, sym, ap, _∙_}
 use mathlib.Core.Logic.{⊎-elim}
-use mathlib.Core.Bool.{Bool, true, false}
+use mathlib.Core.Bool.{Bool, true, false, not}
 use mathlib.Core.List.{List, [], _∷_}
 use Prim.Native.Nat.{ℕ, zero, suc, _-_, _≤_, _<_}
 use native.Mathlib.Omega.{arith}
-use borrow.Author.Tests.{leb-true, lt-ltb, le-ltb}
-use lib.Dec.{leb, eqb}
+use borrow.Author.Tests.{leb-true, lt-ltb, le-ltb, eqb-true, eqb-false, ne-eqb, lt-leb, le-leb}
+use lib.Dec.{leb, eqb, ltb}
 use lib.ListN.{length, getD, take, List·getD-eq-default, length-map}
 use Rattle.laws.specs.Choice.{pick, below-or-not}
 use Rattle.laws.specs.Ranges.{in-range}
@@ -16,44 +16,44 @@ use Rattle.line.specs.Line.{passed}
 use Rattle.line.specs.declared.Refusal.{Refusal}
 use Rattle.kind.specs.Kind.{positive}
 use Rattle.layout.specs.Layout.{layouts, layoutOf, fieldsOf, numbersOf}
-use Rattle.field.specs.Item.{natural}
+use Rattle.field.specs.Item.{natural, Item}
 use Rattle.field.specs.Field.{integerItem}
 use Rattle.rows.specs.Row.{Row, none, breach}
-use Rattle.rows.specs.Records.{records, recordOf, dataRow}
-use Rattle.rows.specs.Sequence.{sequences, sequence}
-use Rattle.record.specs.Check.{orElse, otherwise, strayFault, fieldsFault, stray, fieldsRefusal, conditionFault, rowRefusal}
+use Rattle.rows.specs.Records.{records, recordOf, dataRow, noRecord}
+use Rattle.rows.specs.TypedSets.{typedSets, sequence, untyped, Following, nothing, list, lists, dataLines, kind58, kind82, kind1815, lineSeven, beforeAxes, following}
+use Rattle.record.specs.Check.{orElse, otherwise, strayFault, fieldsFault, stray, fieldsRefusal, conditionFault, rowRefusal, itemsOf}
+use Rattle.rows.specs.TypedSetsLaws.{isCounted, is-counted, typed-sound, sequence-past, following-past}
+use Rattle.rows.specs.TabledLaws.{recordOf-past}
+use Rattle.record.specs.Declared.{naturalAt, numberIn, caseIn, storedIn}
+use Rattle.record.specs.DeclaredLaws.{declares-items}
 use Rattle.walk.specs.declared.Due.{Due}
-use Rattle.walk.specs.Due.{due, recordDue, listRow, rowDue, settled, afterList}
+use Rattle.walk.specs.Due.{due, recordDue, listRow, rowDue, settled, afterList, fullRow, countPlace, next, itemsDue, afterRecord, afterItems, after, mayClose, mayContinue}
 
--- no sequence is longer than 24, and there are five
+-- no sequence is longer than 24
 abbrev short : ℕ → Bool
 short k = leb (length (sequence k)) 24
 
-sequence-past : (k : ℕ) → 5 ≤ k → sequence k ≡ []
-unfolding sequence sequences
-sequence-past k h = List·getD-eq-default sequences [] h
-
 sequence-short : (k : ℕ) → length (sequence k) ≤ 24
-unfolding sequence sequences
+unfolding sequence typedSets
 sequence-short k =
-    ⊎-elim (λ h. leb-true _ _ (in-range short true 0 5 k refl (omega arith) (omega arith))) (λ h. rw (sequence-past k h) (omega arith)) (below-or-not k 5)
+    ⊎-elim (λ h. leb-true _ _ (in-range short true 0 untyped k refl (omega arith) (omega arith))) (λ h. rw (sequence-past k h) (omega arith)) (below-or-not k untyped)
 
 module _ (d : Due) where
-  pub recordDue-kind-past : 5 ≤ d .kind → recordDue d ≡ 30
+  pub recordDue-kind-past : untyped ≤ d .kind → recordDue d ≡ noRecord
   unfolding recordDue
   recordDue-kind-past h = rw (sequence-past (d .kind) h) refl
 
-  pub recordDue-at-past : 24 ≤ d .at → recordDue d ≡ 30
+  pub recordDue-at-past : 24 ≤ d .at → recordDue d ≡ noRecord
   unfolding recordDue
-  recordDue-at-past h = let s : length (sequence (d .kind)) ≤ 24 = sequence-short (d .kind) in List·getD-eq-default (sequence (d .kind)) 30 (omega arith)
+  recordDue-at-past h = let s : length (sequence (d .kind)) ≤ 24 = sequence-short (d .kind) in List·getD-eq-default (sequence (d .kind)) noRecord (omega arith)
 
   -- a record is due only before the 24th has come
-  pub recordDue-at : recordDue d < 30 → d .at < 24
+  pub recordDue-at : recordDue d < noRecord → d .at < 24
   recordDue-at h =
-      ⊎-elim (λ l. l) (λ l. let e : recordDue d ≡ 30 = recordDue-at-past l in absurd (omega arith)) (below-or-not (d .at) 24)
+      ⊎-elim (λ l. l) (λ l. let e : recordDue d ≡ noRecord = recordDue-at-past l in absurd (omega arith)) (below-or-not (d .at) 24)
 
   -- the code's sequence of a kind
-  pub recordDue-sequence : (rs : List ℕ) (k : ℕ) → rs ≡ sequence k → d .kind ≡ k → getD rs (d .at) 30 ≡ recordDue d
+  pub recordDue-sequence : (rs : List ℕ) (k : ℕ) → rs ≡ sequence k → d .kind ≡ k → getD rs (d .at) noRecord ≡ recordDue d
   unfolding recordDue
   recordDue-sequence rs k e h = rw (e, h) refl
 
@@ -108,22 +108,91 @@ rowRefusal-none r line e =
     rw e (orElse-passed (fieldsFault (r .fields) 0 line .number) (fieldsFault (r .fields) 0 line .column) (strayFault (stray (r .fields) 0 line))
     (strayFault-passed (stray (r .fields) 0 line)))
 
--- a full line of a list is such a row
+-- a full line of what follows the records is such a row
+fullRow-none : (n : ℕ) (f : Following) (c : ℕ) → isCounted n f ≡ true → fullRow f c .condition ≡ none
+unfolding dataRow
+fullRow-none n nothing c t = rw (recordOf-past noRecord (omega arith)) refl
+fullRow-none n (list r p i) c t = is-counted n r p t .free
+fullRow-none n (lists r p i j) c t = is-counted n r p t .free
+fullRow-none n (dataLines p) c t = refl
+
 listRow-none : (d : Due) → listRow d .condition ≡ none
-unfolding listRow dataRow recordOf records
-listRow-none d = go (eqb (d .kind) 0) (eqb (d .kind) 1)
-  where
-    go : (t u : Bool) → pick t (dataRow (d .case)) (pick u (recordOf 6) (recordOf 29)) .condition ≡ none
-    go true u = refl
-    go false true = refl
-    go false false = refl
+unfolding listRow
+listRow-none d =
+    ⊎-elim
+    (λ h. fullRow-none (length (sequence (d .kind))) (following (d .kind)) (d .case) (typed-sound (d .kind) h .counted))
+    (λ h. rw (following-past (d .kind) h) (fullRow-none 0 nothing (d .case) refl))
+    (below-or-not (d .kind) untyped)
 
 -- the row due: a record, or the first fields of a list's line
 module _ (d : Due) (line : List ℕ) where
-  pub rowRefusal-record : recordDue d < 30 → rowRefusal (rowDue d) line ≡ rowRefusal (recordOf (recordDue d)) line
+  pub rowRefusal-record : recordDue d < noRecord → rowRefusal (rowDue d) line ≡ rowRefusal (recordOf (recordDue d)) line
   unfolding rowDue
   rowRefusal-record h = simp (lt-ltb _ _ h)
 
-  pub rowRefusal-list : 30 ≤ recordDue d → rowRefusal (rowDue d) line ≡ fieldsRefusal (take (d .left) (listRow d .fields)) line
+  pub rowRefusal-list : noRecord ≤ recordDue d → rowRefusal (rowDue d) line ≡ fieldsRefusal (take (d .left) (listRow d .fields)) line
   unfolding rowDue
   rowRefusal-list h = simp (le-ltb _ _ h) (rowRefusal-none _ line (listRow-none d))
+
+-- the kinds whose records nothing follows
+pub following-none : (k : ℕ) → (k ≡ kind58 → ⊥) → (k ≡ kind82 → ⊥) → (k ≡ kind1815 → ⊥) → following k ≡ nothing
+unfolding following typedSets
+following-none k a b c =
+    ⊎-elim (λ h. among k h a b c) (λ h. following-past k h) (below-or-not k untyped)
+  where
+    among : (k : ℕ) → k < untyped → (k ≡ kind58 → ⊥) → (k ≡ kind82 → ⊥) → (k ≡ kind1815 → ⊥) → following k ≡ nothing
+    among zero h a b c = absurd (a refl)
+    among (suc zero) h a b c = absurd (b refl)
+    among (suc (suc zero)) h a b c = refl
+    among (suc (suc (suc zero))) h a b c = refl
+    among (suc (suc (suc (suc zero)))) h a b c = absurd (c refl)
+    among (suc (suc (suc (suc (suc k))))) h a b c = absurd (omega arith)
+
+-- the code's accounts of the records that count: 58's line 7, 82's line 1 and 1815's record 24
+module _ (d : Due) (line : List ℕ) where
+  pub afterRecord-data : d .kind ≡ kind58 → d .at ≡ lineSeven → due kind58 beforeAxes (caseIn line) (storedIn line) 0 ≡ afterRecord d (itemsDue d line)
+  unfolding afterRecord following typedSets rowDue recordDue sequence
+  afterRecord-data k a = let e = declares-items line in rw (k, a, e .case, e .stored) refl
+
+  pub afterRecord-trace : d .kind ≡ kind82 → d .at ≡ 0 → due kind82 1 0 (numberIn 10 20 line) 0 ≡ afterRecord d (itemsDue d line)
+  unfolding afterRecord following typedSets rowDue recordDue sequence recordOf records itemsOf numberIn naturalAt
+  afterRecord-trace k a = rw (k, a) refl
+
+  pub afterRecord-orders : d .kind ≡ kind1815 → d .at ≡ 23
+      → settled (due kind1815 24 0 (numberIn 0 12 line) (numberIn 12 24 line)) ≡ afterRecord d (itemsDue d line)
+  unfolding afterRecord following typedSets rowDue recordDue sequence recordOf records itemsOf numberIn naturalAt
+  afterRecord-orders k a = rw (k, a) refl
+
+-- any other record only moves the place
+pub afterRecord-next : (d : Due) (is : List Item) (p : ℕ) → countPlace (following (d .kind)) ≡ p → (d .at ≡ p → ⊥) → next d ≡ afterRecord d is
+unfolding afterRecord
+afterRecord-next d is p e n = rw (e, ne-eqb (d .at) p n) refl
+
+-- a 58 after one of its records
+pub after-58 : (d : Due) (line : List ℕ) → d .kind ≡ kind58 → recordDue d < noRecord
+    → after d line ≡ pick (eqb (d .at) lineSeven) (due kind58 beforeAxes (caseIn line) (storedIn line) 0) (next d)
+unfolding afterItems following typedSets
+after-58 d line k h = rw (lt-ltb (recordDue d) noRecord h) (go (eqb (d .at) lineSeven) refl)
+  where
+    place : countPlace (following (d .kind)) ≡ lineSeven
+    place = rw k refl
+
+    go : (t : Bool) → eqb (d .at) lineSeven ≡ t → afterRecord d (itemsDue d line) ≡ pick t (due kind58 beforeAxes (caseIn line) (storedIn line) 0) (next d)
+    go true e = sym (afterRecord-data d line k (eqb-true (d .at) lineSeven e))
+    go false e = sym (afterRecord-next d (itemsDue d line) lineSeven place (eqb-false (d .at) lineSeven e))
+
+-- of every set there is today either the delimiter may come or a line, and not both
+pub continue-or-close : (d : Due) → mayContinue d ≡ not (mayClose d)
+unfolding mayClose mayContinue
+continue-or-close d =
+    ⊎-elim
+    (λ h. rw (lt-ltb (recordDue d) noRecord h, lt-leb noRecord (recordDue d) h) refl)
+    (λ h. rw (le-ltb (recordDue d) noRecord h, le-leb noRecord (recordDue d) h) (some (d .left)))
+    (below-or-not (recordDue d) noRecord)
+  where
+    some : (n : ℕ) → ltb 0 n ≡ not (eqb n 0)
+    some zero = refl
+    some (suc n) = rw (lt-ltb 0 (suc n) (omega arith), ne-eqb (suc n) 0 (λ e. omega arith)) refl
+
+pub open-continues : (d : Due) → mayClose d ≡ false → mayContinue d ≡ true
+open-continues d h = continue-or-close d ∙ ap not h

@@ -8,7 +8,7 @@ use Rattle.text.specs.Blank.{allBlank}
 use Rattle.line.specs.Line.{refusal}
 use Rattle.line.specs.declared.Refusal.{Refusal}
 use Rattle.kind.specs.Kind.{isDelimiter, datasetNumber}
-use Rattle.rows.specs.Sequence.{kindOf, isTyped}
+use Rattle.rows.specs.TypedSets.{kindOf, isTyped}
 use Rattle.record.specs.Check.{rowRefusal}
 use Rattle.walk.specs.declared.Due.{Due}
 use Rattle.walk.specs.declared.Place.{Place}
@@ -16,7 +16,7 @@ use Rattle.walk.specs.declared.Place.the-variants.{Outside, Number, Plai
 use Rattle.walk.specs.declared.State.{State}
 use Rattle.walk.specs.declared.Outcome.{Outcome}
 use Rattle.walk.specs.declared.Outcome.the-variants.{Next, Refused}
-use Rattle.walk.specs.Due.{opening, rowDue, isClosed, after}
+use Rattle.walk.specs.Due.{opening, mayClose, mayContinue, rowDue, after}
 
 abbrev pub state : Place → ℕ → State
 state p n = record { place = p; sets = n }
@@ -55,8 +55,8 @@ plainStep n line = pick (isDelimiter line) (Next (state Outside n)) (Next (state
 -- in a typed set: 7 for a "delimiter while a typed set has lines due", 8 for "another line where the delimiter is due"
 unfoldable pub typedStep : Due → ℕ → List ℕ → Outcome
 typedStep d n line =
-    pick (isDelimiter line) (pick (isClosed d) (Next (state Outside n)) (Refused (refusal 7 1)))
-    (pick (isClosed d) (Refused (refusal 8 1)) (unless (rowRefusal (rowDue d) line) (state (Typed (after d line)) n)))
+    pick (isDelimiter line) (pick (mayClose d) (Next (state Outside n)) (Refused (refusal 7 1)))
+    (pick (mayContinue d) (unless (rowRefusal (rowDue d) line) (state (Typed (after d line)) n)) (Refused (refusal 8 1)))
 
 -- by the place where the file stands
 abbrev pub placeStep : Place → ℕ → List ℕ → Outcome

@@ -1,18 +1,30 @@
 // The walk over a file's lines: the state, and the step of one line. It is the only place that knows what is due.
 ghost use mathlib.Core.Path.{_≡_};
-ghost use Prim.Native.Nat.{_≤_, _<_, _*_};
+ghost use Prim.Native.Nat.{_≤_, _<_};
 ghost use lib.ListN.{length, getD};
 ghost use Rattle.line.specs.Line.{refusal};
-ghost use Rattle.layout.specs.Layout.{numbersOf};
-ghost use Rattle.rows.specs.Sequence.{kindOf, isTyped};
+ghost use Rattle.rows.specs.Records.{noRecord};
+ghost use Rattle.rows.specs.TypedSets.{kind58, kind82, kind1815, beforeAxes, kindOf, isTyped};
 ghost use Rattle.record.specs.Check.{rowRefusal};
-ghost use Rattle.walk.specs.Due.{due, next, recordDue, listRow, rowDue, isClosed, settled, numberIn, caseIn, afterRecord, afterList, after};
+ghost use Rattle.record.specs.Declared.{numberIn, caseIn, countIn, storedIn};
+ghost use Rattle.walk.specs.Due.{due, next, recordDue, listRow, rowDue, mayClose, mayContinue, settled, itemsDue, afterRecord, afterList, after};
 ghost use Rattle.walk.specs.Step.{state, opened, outsideStep, numberStep, plainStep, typedStep, stepOf};
 use integer::integer_field;
 use laws::index;
 use line::Refusal;
+use rows::BEFORE_AXES;
+use rows::KIND_58;
+use rows::KIND_82;
+use rows::KIND_151;
+use rows::KIND_164;
+use rows::KIND_1815;
+use rows::LINE_SEVEN;
+use rows::NO_RECORD;
+use rows::ORDER_LISTS;
+use rows::TRACE_ENTRIES;
+use rows::UNTYPED;
 
-// What is due in a typed set: the kind of set (58, 82, 151, 164, 1815 from 0), how many of its records have come, the case of a
+// What is due in a typed set: the kind of set, how many of its records have come, the case of a
 // 58 from 0, how many numbers are left in the list that follows the records, and how many a second list has.
 pub struct Due {
     pub kind: usize,
@@ -82,49 +94,41 @@ const RECORDS_1815: [u8; 24] = [
     28,
 ];
 
-// What is due where all records have come.
-const NO_RECORD: usize = 30;
-
-// The records that a full line of a list is: 82's entries, 1815's numbers.
-const ENTRIES: usize = 6;
-
-const NUMBERS: usize = 29;
-
 // The most sets that a file may have.
 const MOST_SETS: u32 = 4096;
 
-// The kind of a set of this number: 58, 82, 151, 164, 1815 from 0; 5 for any other.
+// The kind of a set of this number.
 pub fn kind_of(number: u32) -> usize
     ensures { λ r. ⌜ r ≡ kindOf number ⌝ }
 {
     if number == 58 {
-        return 0;
+        return KIND_58;
     }
     if number == 82 {
-        return 1;
+        return KIND_82;
     }
     if number == 151 {
-        return 2;
+        return KIND_151;
     }
     if number == 164 {
-        return 3;
+        return KIND_164;
     }
     if number == 1815 {
-        return 4;
+        return KIND_1815;
     }
-    5
+    UNTYPED
 }
 
 // Whether a set of this number is typed.
 pub fn is_typed(number: u32) -> bool
     ensures { λ r. ⌜ r ≡ isTyped number ⌝ }
 {
-    kind_of(number) < 5
+    kind_of(number) < UNTYPED
 }
 
-// The record at this place of a sequence; 30 past its end.
+// The record at this place of a sequence; none past its end.
 fn record_at(records: &[u8], at: usize) -> usize
-    ensures { λ r. ⌜ r ≡ getD (now (records .entry)) at 30 ⌝ }
+    ensures { λ r. ⌜ r ≡ getD (now (records .entry)) at noRecord ⌝ }
 {
     if at < records.len() {
         return index(records[at]);
@@ -132,38 +136,49 @@ fn record_at(records: &[u8], at: usize) -> usize
     NO_RECORD
 }
 
-// The number of the record due; 30 where all have come.
+// The number of the record due; none where all have come.
 pub fn record_due(d: Due) -> usize
     ensures { λ r. ⌜ r ≡ recordDue d ⌝ }
 {
     let at = d.at;
-    if d.kind == 0 {
+    if d.kind == KIND_58 {
         return record_at(&RECORDS_58, at);
     }
-    if d.kind == 1 {
+    if d.kind == KIND_82 {
         return record_at(&RECORDS_82, at);
     }
-    if d.kind == 2 {
+    if d.kind == KIND_151 {
         return record_at(&RECORDS_151, at);
     }
-    if d.kind == 3 {
+    if d.kind == KIND_164 {
         return record_at(&RECORDS_164, at);
     }
-    if d.kind == 4 {
+    if d.kind == KIND_1815 {
         return record_at(&RECORDS_1815, at);
     }
     NO_RECORD
 }
 
-// Whether no line is due any more: the delimiter is.
-fn is_closed(d: Due, number: usize) -> bool
+// Whether the delimiter may come: no record is due, and no number.
+fn may_close(d: Due, number: usize) -> bool
     requires { ⌜ number ≡ recordDue d ⌝ }
-    ensures { λ r. ⌜ r ≡ isClosed d ⌝ }
+    ensures { λ r. ⌜ r ≡ mayClose d ⌝ }
 {
     if number < NO_RECORD {
         return false;
     }
     d.left == 0
+}
+
+// Whether a line may come: a record is due, or some number.
+fn may_continue(d: Due, number: usize) -> bool
+    requires { ⌜ number ≡ recordDue d ⌝ }
+    ensures { λ r. ⌜ r ≡ mayContinue d ⌝ }
+{
+    if number < NO_RECORD {
+        return true;
+    }
+    0 < d.left
 }
 
 // Where a list is done, the second one is next.
@@ -198,15 +213,22 @@ pub fn case_in(line: &[u8; 80]) -> usize
     layout::case_of(number_in(line, 0, 10), number_in(line, 20, 30))
 }
 
+// The declared count of a 58, from its line 7.
+pub fn count_in(line: &[u8; 80]) -> u32
+    ensures { λ r. ⌜ r ≡ countIn (now (line .entry)) ⌝ }
+{
+    number_in(line, 10, 20)
+}
+
 // After 58's line 7: the numbers of its values follow.
 fn after_data_form(line: &[u8; 80]) -> Due
-    ensures { λ r. ⌜ r ≡ due 0 7 (caseIn (now (line .entry))) (numberIn 10 20 (now (line .entry)) * numbersOf (caseIn (now (line .entry)))) 0 ⌝ }
+    ensures { λ r. ⌜ r ≡ due kind58 beforeAxes (caseIn (now (line .entry))) (storedIn (now (line .entry))) 0 ⌝ }
 {
     let case = case_in(line);
-    let values = number_in(line, 10, 20) as usize;
+    let values = count_in(line) as usize;
     Due {
-        kind: 0,
-        at: 7,
+        kind: KIND_58,
+        at: BEFORE_AXES,
         case,
         left: values * layout::numbers_of(case),
         second: 0,
@@ -215,11 +237,11 @@ fn after_data_form(line: &[u8; 80]) -> Due
 
 // After 82's line 1: its entries follow.
 fn after_trace(line: &[u8; 80]) -> Due
-    ensures { λ r. ⌜ r ≡ due 1 1 0 (numberIn 10 20 (now (line .entry))) 0 ⌝ }
+    ensures { λ r. ⌜ r ≡ due kind82 1 0 (numberIn 10 20 (now (line .entry))) 0 ⌝ }
 {
     let entries = number_in(line, 10, 20) as usize;
     Due {
-        kind: 1,
+        kind: KIND_82,
         at: 1,
         case: 0,
         left: entries,
@@ -229,12 +251,12 @@ fn after_trace(line: &[u8; 80]) -> Due
 
 // After 1815's record 24: two lists follow.
 fn after_orders(line: &[u8; 80]) -> Due
-    ensures { λ r. ⌜ r ≡ settled (due 4 24 0 (numberIn 0 12 (now (line .entry))) (numberIn 12 24 (now (line .entry)))) ⌝ }
+    ensures { λ r. ⌜ r ≡ settled (due kind1815 24 0 (numberIn 0 12 (now (line .entry))) (numberIn 12 24 (now (line .entry)))) ⌝ }
 {
     let first = number_in(line, 0, 12) as usize;
     let second = number_in(line, 12, 24) as usize;
     settled(Due {
-        kind: 4,
+        kind: KIND_1815,
         at: 24,
         case: 0,
         left: first,
@@ -259,21 +281,21 @@ fn next_record(d: Due) -> Due
 // After a record: 58's line 7, 82's line 1 and 1815's record 24 say how many numbers follow the records.
 fn after_record(d: Due, line: &[u8; 80]) -> Due
     requires { ⌜ d .at < 24 ⌝ }
-    ensures { λ r. ⌜ r ≡ afterRecord d (now (line .entry)) ⌝ }
+    ensures { λ r. ⌜ r ≡ afterRecord d (itemsDue d (now (line .entry))) ⌝ }
 {
-    if d.kind == 0 {
-        if d.at == 6 {
+    if d.kind == KIND_58 {
+        if d.at == LINE_SEVEN {
             return after_data_form(line);
         }
         return next_record(d);
     }
-    if d.kind == 1 {
+    if d.kind == KIND_82 {
         if d.at == 0 {
             return after_trace(line);
         }
         return next_record(d);
     }
-    if d.kind == 4 {
+    if d.kind == KIND_1815 {
         if d.at == 23 {
             return after_orders(line);
         }
@@ -286,13 +308,16 @@ fn after_record(d: Due, line: &[u8; 80]) -> Due
 fn list_fields(d: Due) -> usize
     ensures { λ r. ⌜ r ≡ length (listRow d .fields) ⌝ }
 {
-    if d.kind == 0 {
+    if d.kind == KIND_58 {
         return layout::fields_of(d.case);
     }
-    if d.kind == 1 {
+    if d.kind == KIND_82 {
         return 8;
     }
-    5
+    if d.kind == KIND_1815 {
+        return 5;
+    }
+    0
 }
 
 // After a line of the list.
@@ -337,13 +362,16 @@ fn check_due(d: Due, number: usize, line: &[u8; 80]) -> Refusal
     if number < NO_RECORD {
         return record::check_record(line, number);
     }
-    if d.kind == 0 {
+    if d.kind == KIND_58 {
         return record::check_data(line, d.case, d.left);
     }
-    if d.kind == 1 {
-        return record::check_list(line, ENTRIES, d.left);
+    if d.kind == KIND_82 {
+        return record::check_list(line, TRACE_ENTRIES, d.left);
     }
-    record::check_list(line, NUMBERS, d.left)
+    if d.kind == KIND_1815 {
+        return record::check_list(line, ORDER_LISTS, d.left);
+    }
+    record::check_list(line, NO_RECORD, d.left)
 }
 
 // The file goes on.
@@ -418,21 +446,20 @@ pub fn typed_step(d: Due, sets: u32, line: &[u8; 80]) -> Outcome
     ensures { λ r. ⌜ r ≡ typedStep d sets (now (line .entry)) ⌝ }
 {
     let number = record_due(d);
-    let closed = is_closed(d, number);
     if kind::is_delimiter(line) {
-        if closed {
+        if may_close(d, number) {
             return goes_on(Place::Outside, sets);
         }
         return refused(7);
     }
-    if closed {
-        return refused(8);
+    if may_continue(d, number) {
+        let found = check_due(d, number, line);
+        if 0 < found.number {
+            return Outcome::Refused(found);
+        }
+        return goes_on(Place::Typed(after(d, number, line)), sets);
     }
-    let found = check_due(d, number, line);
-    if 0 < found.number {
-        return Outcome::Refused(found);
-    }
-    goes_on(Place::Typed(after(d, number, line)), sets)
+    refused(8)
 }
 
 // The step of one line.

@@ -23,14 +23,14 @@ use Rattle.layout.specs.Layout.{layoutOf, fieldsOf, numbersOf}
 use Rattle.layout.specs.LayoutLaws.{fieldsOf-some, total-inside}
 use Rattle.field.specs.Item.{Item}
 use Rattle.rows.specs.Row.{Row}
-use Rattle.rows.specs.Records.{plain, records, recordOf}
-use Rattle.rows.specs.Sequence.{kindOf, sequence, sequences}
+use Rattle.rows.specs.Records.{plain, records, recordOf, noRecord}
+use Rattle.rows.specs.TypedSets.{kindOf, sequence, typedSets, headerLines, kind58, lineSeven}
 use Rattle.record.specs.Written.{Written}
 use Rattle.decimal.specs.Decimal.{fits, fieldText}
 use Rattle.decimal.specs.DecimalLaws.{fieldText-length, SameNumber, ReadBack, fits-read}
 use Rattle.laws.specs.Choice.{false-not-true}
 use Rattle.laws.specs.Cut.{cut}
-use Rattle.walk.specs.Due.{numberIn, caseIn}
+use Rattle.record.specs.Declared.{caseIn, countIn, storedIn}
 use Rattle.header.specs.declared.Header.{Header}
 use Rattle.header.specs.Header.{headerOf}
 use Rattle.theory.specs.Sets.{Set}
@@ -102,18 +102,18 @@ fit-at {c} {j} zero (AllFit.more n f t) h = record { small = n; fit = rw add-zer
 fit-at {c} {j} (suc i) (AllFit.more n f t) h = let z : j + suc i ≡ suc j + i = omega arith in rw z (fit-at i t (omega arith))
 
 -- the rows of a 58's first eleven lines
-header-row : (iss : List (List Item)) (i : ℕ) → i < 11 → getD (rowsOf 58 iss) i (plain []) ≡ recordOf (getD (sequence 0) i 30)
-unfolding rowsOf kindOf sequence sequences recordOf records
+header-row : (iss : List (List Item)) (i : ℕ) → i < headerLines → getD (rowsOf 58 iss) i (plain []) ≡ recordOf (getD (sequence kind58) i noRecord)
+unfolding rowsOf kindOf sequence typedSets recordOf records
 header-row iss i h =
     let ks : List ℕ = 1 ∷ 1 ∷ 1 ∷ 1 ∷ 1 ∷ 2 ∷ 3 ∷ 4 ∷ 4 ∷ 4 ∷ 4 ∷ [] in
-    List·getD-append (map recordOf ks) (listsOf 0 iss) (plain []) i h ∙ List·getD-map recordOf ks i 30
+    List·getD-append (map recordOf ks) (listsOf kind58 iss) (plain []) i h ∙ List·getD-map recordOf ks i noRecord
 
-rows-eleven : (iss : List (List Item)) (i : ℕ) → i < 11 → i < length (rowsOf 58 iss)
-unfolding rowsOf kindOf sequence sequences
-rows-eleven iss i h = rw (length-append (map recordOf (1 ∷ 1 ∷ 1 ∷ 1 ∷ 1 ∷ 2 ∷ 3 ∷ 4 ∷ 4 ∷ 4 ∷ 4 ∷ [])) (listsOf 0 iss)) (omega arith)
+rows-eleven : (iss : List (List Item)) (i : ℕ) → i < headerLines → i < length (rowsOf 58 iss)
+unfolding rowsOf kindOf sequence typedSets
+rows-eleven iss i h = rw (length-append (map recordOf (1 ∷ 1 ∷ 1 ∷ 1 ∷ 1 ∷ 2 ∷ 3 ∷ 4 ∷ 4 ∷ 4 ∷ 4 ∷ [])) (listsOf kind58 iss)) (omega arith)
 
-header-line : {s : Set} {css : List (List ℕ)} → SetLines s css → s .number ≡ 58 → (i : ℕ) → i < 11
-    → Written (recordOf (getD (sequence 0) i 30)) (getD (s .lines) i []) (filled (getD css i []))
+header-line : {s : Set} {css : List (List ℕ)} → SetLines s css → s .number ≡ 58 → (i : ℕ) → i < headerLines
+    → Written (recordOf (getD (sequence kind58) i noRecord)) (getD (s .lines) i []) (filled (getD css i []))
 header-line (SetLines.typed {n} {iss} {css} t l) e i h =
     subst (λ (r : Row). Written r (getD iss i []) (filled (getD css i []))) (header-row iss i h) (typed-line i (rw e at l) (rows-eleven iss i h))
 header-line (SetLines.plain {n} t l) e i h = false-not-true (sym (rw e at t) ∙ typed-58)
@@ -145,14 +145,14 @@ module _ (header : List ℕ) (p : Passed header) (xs ss : List ℤ) (stored : le
   data-lines = dataLines (length xs) (layoutOf c .widths) xs ss
 
   -- the lines of the header stand first in the set
-  line-first : (i : ℕ) → i < 11 → Parts.lineOf lent i ≡ Parts.columnsIn (getD (cut header .lines) i [])
+  line-first : (i : ℕ) → i < headerLines → Parts.lineOf lent i ≡ Parts.columnsIn (getD (cut header .lines) i [])
   unfolding Parts.lineOf
   line-first i h = ap Parts.columnsIn (List·getD-append (cut header .lines) data-lines [] i (omega (arith, p .lines)))
 
-  line-seven : Parts.lineOf lent 6 ≡ Parts.columnsIn (getD (cut header .lines) 6 [])
-  line-seven = line-first 6 (omega arith)
+  line-seven : Parts.lineOf lent lineSeven ≡ Parts.columnsIn (getD (cut header .lines) lineSeven [])
+  line-seven = line-first lineSeven (omega arith)
 
-  line-later : (q : ℕ) → Parts.lineOf lent (11 + q) ≡ Parts.columnsIn (getD data-lines q [])
+  line-later : (q : ℕ) → Parts.lineOf lent (headerLines + q) ≡ Parts.columnsIn (getD data-lines q [])
   unfolding Parts.lineOf
   line-later q = ap Parts.columnsIn (ap (λ (n : ℕ). getD (cut header .lines ++ data-lines) (n + q) []) (sym (p .lines)) ∙ getD-append-add (cut header .lines) data-lines q [])
 
@@ -185,7 +185,7 @@ module _ (header : List ℕ) (p : Passed header) (xs ss : List ℤ) (stored : le
         let z : fieldOf (fieldsOf c) first ≡ 0 = field-at (fieldsOf c) q 0 first (fieldsOf-some c (p .case-below)) (omega arith) in
         fit-line c (p .case-below) (layoutOf c .widths) (fit-drop first fit) (rw (zero-add, z) refl)
 
-    line-columns : Parts.lineOf lent (11 + q) ≡ line ++ replicate (80 - length line) 32
+    line-columns : Parts.lineOf lent (headerLines + q) ≡ line ++ replicate (80 - length line) 32
     line-columns =
         line-later q
         ∙ ap Parts.columnsIn (line-of (length xs) (layoutOf c .widths) q xs ss (omega arith) (omega (arith, place)) (omega (arith, field)))
@@ -213,18 +213,18 @@ module _ (header : List ℕ) (p : Passed header) (xs ss : List ℤ) (stored : le
     set-number = sym (number-held h) ∙ plainNumber-again 58 (omega arith) (omega arith)
 
     -- the items of its first eleven lines are written in the header's lines
-    pub set-header : (i : ℕ) → i < 11 → Written (recordOf (getD (sequence 0) i 30)) (getD (s .lines) i []) (Parts.columnsIn (getD (cut header .lines) i []))
+    pub set-header : (i : ℕ) → i < headerLines → Written (recordOf (getD (sequence kind58) i noRecord)) (getD (s .lines) i []) (Parts.columnsIn (getD (cut header .lines) i []))
     set-header i l = rw (← line-first i l, lineOf-columns lent i) (header-line (h .lines) set-number i l)
 
     pub set-case : caseOf s ≡ c
     set-case = sym (case-held h set-number) ∙ lent-case
 
     pub set-stored : storedCount s ≡ length xs
-    unfolding storedCount declared
+    unfolding storedCount declared storedIn
     set-stored =
-        let line : List ℕ = Parts.columnsIn (getD (cut header .lines) 6 []) in
+        let line : List ℕ = Parts.columnsIn (getD (cut header .lines) lineSeven []) in
         let k : caseIn line ≡ c = sym (p .seventh .case) ∙ p .case in
-        let n : numberIn 10 20 line * numbersOf c ≡ length xs = rw k at (sym (p .seventh .left)) ∙ p .left ∙ sym stored in
+        let n : countIn line * numbersOf c ≡ length xs = rw k at (sym (p .seventh .left)) ∙ p .left ∙ sym stored in
         rw (set-case, set-number, ← count-held h set-number, line-seven) n
 
     pub stored-back : (j : ℕ) → j < length xs → Back (getD xs j (pos 0)) (getD ss j (pos 0)) (storedItem s j)

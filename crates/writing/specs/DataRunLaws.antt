@@ -5,7 +5,7 @@ use mathlib.Core.List.{List, [], _∷_, map}
 use Prim.Native.Nat.{ℕ, zero, suc, _+_, _-_, _^_, _≤_, _<_}
 use native.Mathlib.Nat.{add-zero}
 use native.Mathlib.Omega.{arith}
-use borrow.Author.Tests.{ne-eqb, eqb-true, leb-true}
+use borrow.Author.Tests.{ne-eqb, eqb-true, leb-true, lt-ltb}
 use lib.Dec.{leb, eqb}
 use lib.IntN.{ℤ, natAbs}
 use lib.ListN.{length, getD, take, drop, replicate, length-drop}
@@ -21,13 +21,13 @@ use Rattle.layout.specs.Layout.{layouts, layoutOf, fieldsOf}
 use Rattle.layout.specs.LayoutLaws.{fieldsOf-some, total-inside}
 use Rattle.rows.specs.Row as Row
 use Rattle.rows.specs.Records.{E, dataRow}
-use Rattle.rows.specs.Sequence.{sequence, sequences}
+use Rattle.rows.specs.TypedSets.{sequence, typedSets, headerLines, kind58, following}
 use Rattle.record.specs.Written.{FieldsIn, Written, Kept}
 use Rattle.reading.specs.LineReading.{written-complete}
 use Rattle.walk.specs.declared.Due.{Due}
 use Rattle.walk.specs.declared.Place.the-variants.{Typed}
 use Rattle.walk.specs.declared.Outcome.the-variants.{Next}
-use Rattle.walk.specs.Due.{due, recordDue, listRow, rowDue, isClosed, settled, afterList, after}
+use Rattle.walk.specs.Due.{due, recordDue, listRow, mayContinue, rowDue, settled, afterList, after, afterItems}
 use Rattle.walk.specs.DueLaws.{dataRow-length}
 use Rattle.walk.specs.Step.{state, stepOf, typedStep}
 use Rattle.judge.specs.Judge.{lineStep, Run, going, runStep, runEnd}
@@ -43,16 +43,16 @@ use Rattle.writing.specs.LineLaws.{Fit, itemsBack, fields-in, fields-all
 
 -- so many numbers are left of the data of a 58 of this case
 abbrev pub dataDue : ℕ → ℕ → Due
-dataDue c left = due 0 11 c left 0
+dataDue c left = due kind58 headerLines c left 0
 
 -- what is due in the data
 row-due : (c left : ℕ) → rowDue (dataDue c left) ≡ Row.cut left (dataRow c)
-unfolding rowDue recordDue listRow sequence sequences
+unfolding rowDue recordDue listRow sequence following typedSets
 row-due c left = refl
 
-still-open : (c left : ℕ) → 0 < left → isClosed (dataDue c left) ≡ false
-unfolding isClosed recordDue sequence sequences
-still-open c left h = ne-eqb left 0 (λ e. omega arith)
+still-open : (c left : ℕ) → 0 < left → mayContinue (dataDue c left) ≡ true
+unfolding mayContinue recordDue sequence typedSets
+still-open c left h = lt-ltb 0 left h
 
 -- after a line of it
 settled-same : (c left : ℕ) → settled (dataDue c left) ≡ dataDue c left
@@ -64,7 +64,7 @@ settled-same c left = by (eqb left 0) refl
     by false e = refl
 
 after-line : (c left : ℕ) (line : List ℕ) → after (dataDue c left) line ≡ dataDue c (left - fieldsOf c)
-unfolding after afterList recordDue listRow sequence sequences
+unfolding afterItems afterList recordDue listRow sequence following typedSets
 after-line c left line = rw (dataRow-length c) (settled-same c (left - fieldsOf c))
 
 -- a line of the data
@@ -95,9 +95,9 @@ module _ (c : ℕ) (w : ℕ) (ws : List ℕ) (x s : ℤ) (xs ss : List ℤ) (wid
         line-passes line a eighty e (fields-long fit),
         line-inside line a eighty e (fields-long fit),
         still-open c (suc (length xs)) (omega arith),
+        after-line c (suc (length xs)) (filled line),
         row-due c (suc (length xs)),
         written-complete (filled line) (filled-length line) _ _ line-written .0,
-        after-line c (suc (length xs)) (filled line),
       ) refl
 
 -- a number of each field fits, from number j on

@@ -12,6 +12,7 @@ use Rattle.laws.specs.Choice.{pick, below-or-not}
 use Rattle.laws.specs.Cut.{cut, over, judge}
 use Rattle.line.specs.declared.Refusal.{Refusal}
 use Rattle.line.specs.Line.{columns, lineFault}
+use Rattle.rows.specs.TypedSets.{headerLines, kind58}
 use Rattle.walk.specs.declared.Due.{Due}
 use Rattle.walk.specs.declared.State.{State}
 use Rattle.walk.specs.declared.Place.the-variants.{Number, Typed}
@@ -44,14 +45,14 @@ filed d n ls rest = runEnd (over runStep (going (state (Typed d) 1) (n + 2)) ls)
 record Halted (n : ℕ) (ls : List (List ℕ)) (h : Header) (r : Reply) : Type 0 where
   above : n < h .place
   below : h .place ≤ 12
-  alike : (length ls + n ≤ 11) ⊎ (h .place ≤ 11) → r ≡ replyAt (h .number) (h .place + 2) (h .column)
-  past : 11 < length ls + n → 11 < h .place → h .number ≡ twelfthNumber (getD ls (11 - n) [])
+  alike : (length ls + n ≤ headerLines) ⊎ (h .place ≤ headerLines) → r ≡ replyAt (h .number) (h .place + 2) (h .column)
+  past : headerLines < length ls + n → headerLines < h .place → h .number ≡ twelfthNumber (getD ls (headerLines - n) [])
 
 abbrev Halts : Due → ℕ → List (List ℕ) → List ℕ → Type 0
 Halts d n ls rest = Halted n ls (ended d n ls rest) (filed d n ls rest)
 
 -- refused at this line, one of eleven, or the twelfth where no LF ends it
-halted-here : (n k : ℕ) (ls : List (List ℕ)) → n ≤ 11 → (11 < length ls + n → n < 11) → Halted n ls (answer k (n + 1) 0 0) (reply k (n + 2 + 1))
+halted-here : (n k : ℕ) (ls : List (List ℕ)) → n ≤ headerLines → (headerLines < length ls + n → n < headerLines) → Halted n ls (answer k (n + 1) 0 0) (reply k (n + 2 + 1))
 halted-here n k ls b e =
     record {
       above = omega arith;
@@ -61,10 +62,10 @@ halted-here n k ls b e =
     }
 
 -- no line more
-halted-end : (d : Due) (n : ℕ) (rest : List ℕ) → n ≤ 11 → 0 < ended d n [] rest .number → Halts d n [] rest
+halted-end : (d : Due) (n : ℕ) (rest : List ℕ) → n ≤ headerLines → 0 < ended d n [] rest .number → Halts d n [] rest
 unfolding over
 halted-end d n (b ∷ bs) l h = halted-here n (lineFault false (b ∷ bs) .number) [] l (λ p. absurd (omega arith))
-halted-end d n [] l h = by (ltb n 11) h
+halted-end d n [] l h = by (ltb n headerLines) h
   where
     by : (t : Bool) → 0 < pick t (answer 7 (n + 1) 0 0) (answer 0 0 (d .case) (d .left)) .number
         → Halted n [] (pick t (answer 7 (n + 1) 0 0) (answer 0 0 (d .case) (d .left))) (reply 7 (n + 2 + 1))
@@ -76,12 +77,12 @@ module _ (d : Due) (n : ℕ) (l : List ℕ) (ls : List (List ℕ)) (rest : List 
   abbrev later : Due
   later = after d (columnsIn l)
 
-  halted-taken : n < 11 → Taken d l → Halts later (n + 1) ls rest → Halts d n (l ∷ ls) rest
+  halted-taken : n < headerLines → Taken d l → Halts later (n + 1) ls rest → Halts d n (l ∷ ls) rest
   unfolding over
   halted-taken h t r =
-      let z : 11 - n ≡ suc (11 - (n + 1)) = omega arith in
+      let z : headerLines - n ≡ suc (headerLines - (n + 1)) = omega arith in
       let y : n + 2 + 1 ≡ n + 1 + 2 = omega arith in
-      rw (lt-ltb n 11 h, t .step, y)
+      rw (lt-ltb n headerLines h, t .step, y)
       (record {
         above = omega (arith, r .above);
         below = r .below;
@@ -89,17 +90,17 @@ module _ (d : Due) (n : ℕ) (l : List ℕ) (ls : List (List ℕ)) (rest : List 
         past = λ p q. rw z (r .past (omega arith) q);
       })
 
-  halted-stopped : n < 11 → (f : Refusal) → lineStep (state (Typed d) 1) l ≡ Refused f → Halts d n (l ∷ ls) rest
+  halted-stopped : n < headerLines → (f : Refusal) → lineStep (state (Typed d) 1) l ≡ Refused f → Halts d n (l ∷ ls) rest
   unfolding over
   halted-stopped h f e =
-      rw (lt-ltb n 11 h, e, over-refused (reply (f .number) (n + 1)) ls, Judge.over-refused (reply (f .number) (n + 2 + 1)) ls)
+      rw (lt-ltb n headerLines h, e, over-refused (reply (f .number) (n + 1)) ls, Judge.over-refused (reply (f .number) (n + 2 + 1)) ls)
       (halted-here n (f .number) (l ∷ ls) (omega arith) (λ p. h))
 
-  halted-past : n ≡ 11 → Halts d n (l ∷ ls) rest
+  halted-past : n ≡ headerLines → Halts d n (l ∷ ls) rest
   unfolding over
   halted-past e =
-      let z : 11 - n ≡ 0 = omega arith in
-      rw (le-ltb n 11 (omega arith), over-refused (reply (twelfthNumber l) (n + 1)) ls)
+      let z : headerLines - n ≡ 0 = omega arith in
+      rw (le-ltb n headerLines (omega arith), over-refused (reply (twelfthNumber l) (n + 1)) ls)
       (record {
         above = omega arith;
         below = omega arith;
@@ -107,56 +108,56 @@ module _ (d : Due) (n : ℕ) (l : List ℕ) (ls : List (List ℕ)) (rest : List 
         past = λ p q. rw z refl;
       })
 
-  halted-line : Stood n d → n ≤ 11 → 0 < ended d n (l ∷ ls) rest .number
-      → (Stood (n + 1) later → n + 1 ≤ 11 → 0 < ended later (n + 1) ls rest .number → Halts later (n + 1) ls rest)
+  halted-line : Stood n d → n ≤ headerLines → 0 < ended d n (l ∷ ls) rest .number
+      → (Stood (n + 1) later → n + 1 ≤ headerLines → 0 < ended later (n + 1) ls rest .number → Halts later (n + 1) ls rest)
       → Halts d n (l ∷ ls) rest
   unfolding over
-  halted-line s b k ih = ⊎-elim (λ h. met h (line-met d l (not-closed n d s h))) (λ h. halted-past (omega arith)) (below-or-not n 11)
+  halted-line s b k ih = ⊎-elim (λ h. met h (line-met d l (not-closed n d s h))) (λ h. halted-past (omega arith)) (below-or-not n headerLines)
     where
-      met : n < 11 → Met d l → Halts d n (l ∷ ls) rest
-      met h (taken t) = halted-taken h t (ih (after-stood n d s h (columnsIn l) (t .row)) (omega arith) (rw (lt-ltb n 11 h, t .step) at k))
+      met : n < headerLines → Met d l → Halts d n (l ∷ ls) rest
+      met h (taken t) = halted-taken h t (ih (after-stood n d s h (columnsIn l) (t .row)) (omega arith) (rw (lt-ltb n headerLines h, t .step) at k))
       met h (stopped f e p) = halted-stopped h f e
 
-halted : (ls : List (List ℕ)) (d : Due) (n : ℕ) (rest : List ℕ) → Stood n d → n ≤ 11 → 0 < ended d n ls rest .number → Halts d n ls rest
+halted : (ls : List (List ℕ)) (d : Due) (n : ℕ) (rest : List ℕ) → Stood n d → n ≤ headerLines → 0 < ended d n ls rest .number → Halts d n ls rest
 halted [] d n rest s b h = halted-end d n rest b h
 halted (l ∷ ls) d n rest s b h = halted-line d n l ls rest s b h (λ t c k. halted ls (after d (columnsIn l)) (n + 1) rest t c k)
 
 module _ (header : List ℕ) (h : 0 < headerOf header .number) where
-  whole : Halted 0 (cut header .lines) (headerOf header) (filed (opening 0) 0 (cut header .lines) (cut header .rest))
+  whole : Halted 0 (cut header .lines) (headerOf header) (filed (opening kind58) 0 (cut header .lines) (cut header .rest))
   unfolding headerOf judge
-  whole = halted (cut header .lines) (opening 0) 0 (cut header .rest) opened-stood (omega arith) h
+  whole = halted (cut header .lines) (opening kind58) 0 (cut header .rest) opened-stood (omega arith) h
 
   -- refused at a line: "lines counted from 1", and none is read past a twelfth
   pub refused-place : (1 ≤ headerOf header .place) × (headerOf header .place ≤ 12)
   refused-place = (whole .above, whole .below)
 
   -- in a file the lines of the header are judged as they are here
-  file-run : length (headText 58 ++ header) ≤ 16777216 → judged (headText 58 ++ header) ≡ filed (opening 0) 0 (cut header .lines) (cut header .rest)
+  file-run : length (headText 58 ++ header) ≤ 16777216 → judged (headText 58 ++ header) ≡ filed (opening kind58) 0 (cut header .lines) (cut header .rest)
   unfolding judged judge
   file-run b =
       rw (le-ltb 16777216 (length (headText 58 ++ header)) b, cut-head header)
       (ap (λ (r : Run). runEnd r (cut header .rest)) (over-line start 0 plainDelimiter opens _ ∙ over-line (state Number 1) 1 (plainNumber 58) numbered _))
 
   -- "judged as lines 1 to 11 of a set": at most eleven lines are refused as the file is that they open, two lines further down there
-  pub refused-judged : length (cut header .lines) ≤ 11 → length (headText 58 ++ header) ≤ 16777216
+  pub refused-judged : length (cut header .lines) ≤ headerLines → length (headText 58 ++ header) ≤ 16777216
       → judged (headText 58 ++ header) ≡ replyAt (headerOf header .number) (headerOf header .place + 2) (headerOf header .column)
   refused-judged l b = file-run b ∙ whole .alike (inl (omega arith))
 
   -- so is a longer header that is refused at one of its first eleven lines
-  pub early-judged : headerOf header .place ≤ 11 → length (headText 58 ++ header) ≤ 16777216
+  pub early-judged : headerOf header .place ≤ headerLines → length (headText 58 ++ header) ≤ 16777216
       → judged (headText 58 ++ header) ≡ replyAt (headerOf header .number) (headerOf header .place + 2) (headerOf header .column)
   early-judged p b = file-run b ∙ whole .alike (inr p)
 
   -- one refused past them is refused for its twelfth line
-  pub past-number : 11 < length (cut header .lines) → 11 < headerOf header .place
-      → headerOf header .number ≡ twelfthNumber (getD (cut header .lines) 11 [])
+  pub past-number : headerLines < length (cut header .lines) → headerLines < headerOf header .place
+      → headerOf header .number ≡ twelfthNumber (getD (cut header .lines) headerLines [])
   past-number l p = whole .past (omega arith) p
 
 -- up to eleven lines are taken in a header as in a file
-step-alike : (s : State) (n : ℕ) (l : List ℕ) → n < 11 → headerStep (going s n) l ≡ onOutcome n (lineStep s l)
-step-alike s n l h = rw (lt-ltb n 11 h) refl
+step-alike : (s : State) (n : ℕ) (l : List ℕ) → n < headerLines → headerStep (going s n) l ≡ onOutcome n (lineStep s l)
+step-alike s n l h = rw (lt-ltb n headerLines h) refl
 
-steps-alike : (ls more : List (List ℕ)) (s : State) (n : ℕ) → length ls + n ≤ 11
+steps-alike : (ls more : List (List ℕ)) (s : State) (n : ℕ) → length ls + n ≤ headerLines
     → over headerStep (going s n) (ls ++ more) ≡ over headerStep (over runStep (going s n) ls) more
 unfolding over
 steps-alike [] more s n h = refl

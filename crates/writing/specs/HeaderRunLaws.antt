@@ -25,14 +25,15 @@ use Rattle.layout.specs.Layout.{layouts, layoutOf, caseOf, numbersOf}
 use Rattle.field.specs.Item.{Item, natural}
 use Rattle.field.specs.Field.{mayBlank, integerNumber, integerItem, fieldNumber}
 use Rattle.rows.specs.Row.{Field, Row}
-use Rattle.rows.specs.Records.{I, records, recordOf}
-use Rattle.rows.specs.Sequence.{sequences, sequence}
+use Rattle.rows.specs.Records.{I, records, recordOf, noRecord, dataForm}
+use Rattle.rows.specs.TypedSets.{typedSets, sequence, headerLines, beforeAxes, kind58, lineSeven}
 use Rattle.record.specs.Check.{orElse, fieldsFault, fieldsRefusal, conditionFault, rowRefusal}
+use Rattle.record.specs.Declared.{numberIn, caseIn, countIn, storedIn}
 use Rattle.walk.specs.declared.Due.{Due}
 use Rattle.walk.specs.declared.Place.the-variants.{Typed}
 use Rattle.walk.specs.declared.Outcome.the-variants.{Next, Refused}
-use Rattle.walk.specs.Due.{due, recordDue, rowDue, isClosed, opening, numberIn, caseIn, next, afterRecord, after}
-use Rattle.walk.specs.DueLaws.{numbersOf-few, rowRefusal-record}
+use Rattle.walk.specs.Due.{due, recordDue, mayClose, mayContinue, rowDue, opening, next, after}
+use Rattle.walk.specs.DueLaws.{numbersOf-few, rowRefusal-record, after-58, open-continues}
 use Rattle.walk.specs.Step.{state, unless, typedStep, stepOf}
 use Rattle.walk.specs.StepLaws.{unless-here, unless-on}
 use Rattle.judge.specs.Judge.{reply, lineStep, Run, going, refused, runStep}
@@ -129,10 +130,10 @@ fields-passed r line h =
     orElse-first (f .number) (f .column) _ (orElse-first _ _ (conditionFault r line) h)
 
 -- line 7 says both, where it passes
-seventh-bounds : (line : List ℕ) → rowRefusal (recordOf 3) line .number ≡ 0 → Bounds (caseIn line) (numberIn 10 20 line * numbersOf (caseIn line))
-unfolding recordOf records numberIn caseIn keeps
+seventh-bounds : (line : List ℕ) → rowRefusal (recordOf dataForm) line .number ≡ 0 → Bounds (caseIn line) (storedIn line)
+unfolding recordOf records numberIn caseIn countIn storedIn keeps
 seventh-bounds line h =
-    let a = fields-passed (recordOf 3) line h in
+    let a = fields-passed (recordOf dataForm) line h in
     let b = others-kept 0 line (I 10 ordinateType) _ a in
     let c = others-kept 10 line (I 10 count) _ b in
     let t : oneOf (2 ∷ 4 ∷ 5 ∷ 6 ∷ []) (numberIn 0 10 line) ≡ true = first-kept 0 line 10 ordinateType _ (λ v. refl) a in
@@ -143,52 +144,51 @@ seventh-bounds line h =
 
 -- what is due after n lines of a 58: line 7 has given its case and how many numbers it stores
 pub record Stood (n : ℕ) (d : Due) : Type 0 where
-  kind : d .kind ≡ 0
+  kind : d .kind ≡ kind58
   at : d .at ≡ n
   second : d .second ≡ 0
-  bounds : 7 ≤ n → Bounds (d .case) (d .left)
+  bounds : beforeAxes ≤ n → Bounds (d .case) (d .left)
 
 -- before the eleventh line has come a record is due
 abbrev some-record : ℕ → Bool
-some-record n = ltb (getD (sequence 0) n 30) 30
+some-record n = ltb (getD (sequence kind58) n noRecord) noRecord
 
-record-below : (n : ℕ) → n < 11 → getD (sequence 0) n 30 < 30
-unfolding sequence sequences
-record-below n h = ltb-true _ 30 (in-range some-record true 0 11 n refl (omega arith) (omega arith))
+record-below : (n : ℕ) → n < headerLines → getD (sequence kind58) n noRecord < noRecord
+unfolding sequence typedSets
+record-below n h = ltb-true _ noRecord (in-range some-record true 0 headerLines n refl (omega arith) (omega arith))
 
-module _ (n : ℕ) (d : Due) (s : Stood n d) (h : n < 11) where
-  due-record : recordDue d ≡ getD (sequence 0) n 30
+module _ (n : ℕ) (d : Due) (s : Stood n d) (h : n < headerLines) where
+  due-record : recordDue d ≡ getD (sequence kind58) n noRecord
   unfolding recordDue
   due-record = rw (s .kind, s .at) refl
 
-  due-below : recordDue d < 30
+  due-below : recordDue d < noRecord
   due-below = rw due-record (record-below n h)
 
-  pub not-closed : isClosed d ≡ false
-  unfolding isClosed
-  not-closed = rw (lt-leb 30 (recordDue d) due-below) refl
+  pub not-closed : mayClose d ≡ false
+  unfolding mayClose
+  not-closed = rw (lt-leb noRecord (recordDue d) due-below) refl
 
   module _ (l : List ℕ) (p : rowRefusal (rowDue d) l .number ≡ 0) where
-    after-record : after d l ≡ pick (eqb n 6) (due 0 7 (caseIn l) (numberIn 10 20 l * numbersOf (caseIn l)) 0) (next d)
-    unfolding after afterRecord
-    after-record = rw (lt-ltb (recordDue d) 30 due-below, s .kind, s .at) refl
+    after-record : after d l ≡ pick (eqb n lineSeven) (due kind58 beforeAxes (caseIn l) (storedIn l) 0) (next d)
+    after-record = after-58 d l (s .kind) due-below ∙ rw (s .at) refl
 
-    after-seventh : n ≡ 6 → Bounds (caseIn l) (numberIn 10 20 l * numbersOf (caseIn l))
-    unfolding sequence sequences
+    after-seventh : n ≡ lineSeven → Bounds (caseIn l) (storedIn l)
+    unfolding sequence typedSets
     after-seventh e =
-        let r : recordDue d ≡ 3 = due-record ∙ rw e refl in
-        let q : rowRefusal (rowDue d) l ≡ rowRefusal (recordOf 3) l = rowRefusal-record d l due-below ∙ ap (λ (x : ℕ). rowRefusal (recordOf x) l) r in
+        let r : recordDue d ≡ dataForm = due-record ∙ rw e refl in
+        let q : rowRefusal (rowDue d) l ≡ rowRefusal (recordOf dataForm) l = rowRefusal-record d l due-below ∙ ap (λ (x : ℕ). rowRefusal (recordOf x) l) r in
         seventh-bounds l (rw q at p)
 
     pub after-stood : Stood (n + 1) (after d l)
-    after-stood = rw after-record (by (eqb n 6) refl)
+    after-stood = rw after-record (by (eqb n lineSeven) refl)
       where
-        by : (t : Bool) → eqb n 6 ≡ t → Stood (n + 1) (pick t (due 0 7 (caseIn l) (numberIn 10 20 l * numbersOf (caseIn l)) 0) (next d))
+        by : (t : Bool) → eqb n lineSeven ≡ t → Stood (n + 1) (pick t (due kind58 beforeAxes (caseIn l) (storedIn l) 0) (next d))
         by true e =
-            let x : n ≡ 6 = eqb-true n 6 e in
+            let x : n ≡ lineSeven = eqb-true n lineSeven e in
             record { kind = refl; at = omega arith; second = refl; bounds = λ k. after-seventh x }
         by false e =
-            record { kind = s .kind; at = omega (arith, s .at); second = s .second; bounds = λ k. s .bounds (omega (arith, eqb-false n 6 e)) }
+            record { kind = s .kind; at = omega (arith, s .at); second = s .second; bounds = λ k. s .bounds (omega (arith, eqb-false n lineSeven e)) }
 
 -- bytes with no LF after them never pass
 open-fault : (cs : List ℕ) → 0 < lineFault false cs .number
@@ -211,7 +211,7 @@ pub data Met (d : Due) (l : List ℕ) : Type 0 where
   taken : Taken d l → Met d l
   stopped : (f : Refusal) → lineStep (state (Typed d) 1) l ≡ Refused f → 0 < f .number → Met d l
 
-module _ (d : Due) (l : List ℕ) (c : isClosed d ≡ false) where
+module _ (d : Due) (l : List ℕ) (c : mayClose d ≡ false) where
   -- a line that passes by itself is judged by its place
   step-place : lineFault true (columns true l) .number ≡ 0 → lineStep (state (Typed d) 1) l ≡ typedStep d 1 (columnsIn l)
   unfolding lineStep stepOf
@@ -223,7 +223,7 @@ module _ (d : Due) (l : List ℕ) (c : isClosed d ≡ false) where
 
   step-row : closes l ≡ false → typedStep d 1 (columnsIn l) ≡ unless (rowRefusal (rowDue d) (columnsIn l)) (state (Typed (after d (columnsIn l))) 1)
   unfolding typedStep closes
-  step-row h = rw (h, c) refl
+  step-row h = rw (h, open-continues d c) refl
 
   row-met : Fair l → closes l ≡ false → lineStep (state (Typed d) 1) l ≡ typedStep d 1 (columnsIn l) → Met d l
   row-met f o e =
@@ -265,25 +265,25 @@ ended d n ls rest = headerEnd (over headerStep (going (state (Typed d) 1) n) ls)
 
 record Ran (d : Due) (n : ℕ) (ls : List (List ℕ)) (rest : List ℕ) : Type 0 where
   due : Due
-  stood : Stood 11 due
+  stood : Stood headerLines due
   none-open : rest ≡ []
-  lines : length ls + n ≡ 11
+  lines : length ls + n ≡ headerLines
   inner : Inner ls
-  seventh : n ≤ 6 → Says (columnsIn (getD ls (6 - n) [])) due
-  kept : 7 ≤ n → (due .case ≡ d .case) × (due .left ≡ d .left)
+  seventh : n ≤ lineSeven → Says (columnsIn (getD ls (lineSeven - n) [])) due
+  kept : beforeAxes ≤ n → (due .case ≡ d .case) × (due .left ≡ d .left)
   run : (m k : ℕ) → k ≡ m + length ls → over runStep (going (state (Typed d) 1) m) ls ≡ going (state (Typed due) 1) k
   ends : ended d n ls rest ≡ answer 0 0 (due .case) (due .left)
 
 -- no line more: they are eleven, and nothing is left
-run-end : (d : Due) (n : ℕ) (rest : List ℕ) → Stood n d → n ≤ 11 → ended d n [] rest .number ≡ 0 → Ran d n [] rest
+run-end : (d : Due) (n : ℕ) (rest : List ℕ) → Stood n d → n ≤ headerLines → ended d n [] rest .number ≡ 0 → Ran d n [] rest
 unfolding over
 run-end d n (b ∷ bs) s l h = absurd (omega (arith, open-fault (b ∷ bs)))
-run-end d n [] s l h = by (ltb n 11) refl h
+run-end d n [] s l h = by (ltb n headerLines) refl h
   where
-    by : (t : Bool) → ltb n 11 ≡ t → pick t (answer 7 (n + 1) 0 0) (answer 0 0 (d .case) (d .left)) .number ≡ 0 → Ran d n [] []
+    by : (t : Bool) → ltb n headerLines ≡ t → pick t (answer 7 (n + 1) 0 0) (answer 0 0 (d .case) (d .left)) .number ≡ 0 → Ran d n [] []
     by true e k = absurd (omega arith)
     by false e k =
-        let x : n ≡ 11 = omega (arith, ltb-false n 11 e) in
+        let x : n ≡ headerLines = omega (arith, ltb-false n headerLines e) in
         record {
           due = d;
           stood = rw x at s;
@@ -302,27 +302,27 @@ module _ (d : Due) (n : ℕ) (l : List ℕ) (ls : List (List ℕ)) (rest : List 
   later = after d (columnsIn l)
 
   -- line 7 says the case and how many numbers are stored; no later line does
-  seventh-says : n < 11 → Taken d l → n ≡ 6 → Says (columnsIn l) later
+  seventh-says : n < headerLines → Taken d l → n ≡ lineSeven → Says (columnsIn l) later
   seventh-says h t e =
-      let x : later ≡ due 0 7 (caseIn (columnsIn l)) (numberIn 10 20 (columnsIn l) * numbersOf (caseIn (columnsIn l))) 0 = after-record n d s h (columnsIn l) (t .row) ∙ rw (eq-eqb n 6 e) refl in
+      let x : later ≡ due kind58 beforeAxes (caseIn (columnsIn l)) (storedIn (columnsIn l)) 0 = after-record n d s h (columnsIn l) (t .row) ∙ rw (eq-eqb n lineSeven e) refl in
       rw x (record { case = refl; left = refl })
 
-  later-kept : n < 11 → Taken d l → (n ≡ 6 → ⊥) → (later .case ≡ d .case) × (later .left ≡ d .left)
+  later-kept : n < headerLines → Taken d l → (n ≡ lineSeven → ⊥) → (later .case ≡ d .case) × (later .left ≡ d .left)
   later-kept h t e =
-      let x : later ≡ next d = after-record n d s h (columnsIn l) (t .row) ∙ rw (ne-eqb n 6 e) refl in
+      let x : later ≡ next d = after-record n d s h (columnsIn l) (t .row) ∙ rw (ne-eqb n lineSeven e) refl in
       rw x (refl, refl)
 
-  line-says : n < 11 → Taken d l → (r : Ran later (n + 1) ls rest) → n ≤ 6 → Says (columnsIn (getD (l ∷ ls) (6 - n) [])) (r .due)
+  line-says : n < headerLines → Taken d l → (r : Ran later (n + 1) ls rest) → n ≤ lineSeven → Says (columnsIn (getD (l ∷ ls) (lineSeven - n) [])) (r .due)
   line-says h t r k = ⊎-elim
-      (λ a. let z : 6 - n ≡ suc (6 - (n + 1)) = omega arith in rw z (r .seventh (omega arith)))
+      (λ a. let z : lineSeven - n ≡ suc (lineSeven - (n + 1)) = omega arith in rw z (r .seventh (omega arith)))
       (λ a.
-      let z : 6 - n ≡ 0 = omega arith in
+      let z : lineSeven - n ≡ 0 = omega arith in
       let y = seventh-says h t (omega arith) in
       let q = r .kept (omega arith) in
       rw z (record { case = q .0 ∙ y .case; left = q .1 ∙ y .left }))
-      (below-or-not n 6)
+      (below-or-not n lineSeven)
 
-  run-taken : n < 11 → Taken d l → Ran later (n + 1) ls rest → Ran d n (l ∷ ls) rest
+  run-taken : n < headerLines → Taken d l → Ran later (n + 1) ls rest → Ran d n (l ∷ ls) rest
   unfolding over
   run-taken h t r =
       record {
@@ -334,40 +334,40 @@ module _ (d : Due) (n : ℕ) (l : List ℕ) (ls : List (List ℕ)) (rest : List 
         seventh = line-says h t r;
         kept = λ k. let q = r .kept (omega arith) in let o = later-kept h t (λ e. omega arith) in (q .0 ∙ o .0, q .1 ∙ o .1);
         run = λ m k q. rw (t .step) (r .run (m + 1) k (omega arith));
-        ends = rw (lt-ltb n 11 h, t .step) (r .ends);
+        ends = rw (lt-ltb n headerLines h, t .step) (r .ends);
       }
 
-  run-next : ended d n (l ∷ ls) rest .number ≡ 0 → (Stood (n + 1) later → n + 1 ≤ 11 → ended later (n + 1) ls rest .number ≡ 0 → Ran later (n + 1) ls rest)
+  run-next : ended d n (l ∷ ls) rest .number ≡ 0 → (Stood (n + 1) later → n + 1 ≤ headerLines → ended later (n + 1) ls rest .number ≡ 0 → Ran later (n + 1) ls rest)
       → Ran d n (l ∷ ls) rest
   unfolding over
-  run-next k ih = ⊎-elim early late (below-or-not n 11)
+  run-next k ih = ⊎-elim early late (below-or-not n headerLines)
     where
-      late : 11 ≤ n → Ran d n (l ∷ ls) rest
+      late : headerLines ≤ n → Ran d n (l ∷ ls) rest
       late h =
           let m : ℕ = lineFault true (columns true l) .number in
-          not-passed (pastNumber m) (n + 1) ls rest (past-some m) (rw (le-ltb n 11 h) at k)
+          not-passed (pastNumber m) (n + 1) ls rest (past-some m) (rw (le-ltb n headerLines h) at k)
 
-      met : n < 11 → Met d l → Ran d n (l ∷ ls) rest
-      met h (taken t) = run-taken h t (ih (after-stood n d s h (columnsIn l) (t .row)) (omega arith) (rw (lt-ltb n 11 h, t .step) at k))
-      met h (stopped f e p) = not-passed (f .number) (n + 1) ls rest p (rw (lt-ltb n 11 h, e) at k)
+      met : n < headerLines → Met d l → Ran d n (l ∷ ls) rest
+      met h (taken t) = run-taken h t (ih (after-stood n d s h (columnsIn l) (t .row)) (omega arith) (rw (lt-ltb n headerLines h, t .step) at k))
+      met h (stopped f e p) = not-passed (f .number) (n + 1) ls rest p (rw (lt-ltb n headerLines h, e) at k)
 
-      early : n < 11 → Ran d n (l ∷ ls) rest
+      early : n < headerLines → Ran d n (l ∷ ls) rest
       early h = met h (line-met d l (not-closed n d s h))
 
-header-ran : (ls : List (List ℕ)) (d : Due) (n : ℕ) (rest : List ℕ) → Stood n d → n ≤ 11 → ended d n ls rest .number ≡ 0 → Ran d n ls rest
+header-ran : (ls : List (List ℕ)) (d : Due) (n : ℕ) (rest : List ℕ) → Stood n d → n ≤ headerLines → ended d n ls rest .number ≡ 0 → Ran d n ls rest
 header-ran [] d n rest s b h = run-end d n rest s b h
 header-ran (l ∷ ls) d n rest s b h =
     run-next d n l ls rest s h (λ t c k. header-ran ls (after d (columnsIn l)) (n + 1) rest t c k)
 
 -- a 58 that opens
-pub opened-stood : Stood 0 (opening 0)
+pub opened-stood : Stood 0 (opening kind58)
 opened-stood = record { kind = refl; at = refl; second = refl; bounds = λ h. absurd (omega arith) }
 
 pub header-passed : (header : List ℕ) → headerOf header .number ≡ 0 → Passed header
 unfolding headerOf judge
-header-passed header h = passes (header-ran (cut header .lines) (opening 0) 0 (cut header .rest) opened-stood (omega arith) h)
+header-passed header h = passes (header-ran (cut header .lines) (opening kind58) 0 (cut header .rest) opened-stood (omega arith) h)
   where
-    passes : Ran (opening 0) 0 (cut header .lines) (cut header .rest) → Passed header
+    passes : Ran (opening kind58) 0 (cut header .lines) (cut header .rest) → Passed header
     passes r =
         let b : Bounds (r .due .case) (r .due .left) = r .stood .bounds (omega arith) in
         let c : r .due .case ≡ headerOf header .case = sym (ap (λ (x : Header). x .case) (r .ends)) in
@@ -377,7 +377,7 @@ header-passed header h = passes (header-ran (cut header .lines) (opening 0) 0 (c
           rest = r .none-open;
           lines = omega (arith, r .lines);
           inner = r .inner;
-          run = λ n. r .run n (n + 11) (omega (arith, r .lines));
+          run = λ n. r .run n (n + headerLines) (omega (arith, r .lines));
           kind = r .stood .kind;
           at = r .stood .at;
           second = r .stood .second;

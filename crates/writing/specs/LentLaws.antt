@@ -19,13 +19,13 @@ use Rattle.integer.specs.Integer.{integerOf, endInteger, stepInteger, push}
 use Rattle.layout.specs.Columns.{fieldOf}
 use Rattle.layout.specs.Layout.{layoutOf, fieldsOf}
 use Rattle.layout.specs.LayoutLaws.{fieldsOf-some}
-use Rattle.rows.specs.Sequence.{kindOf, isTyped, sequence, sequences}
+use Rattle.rows.specs.TypedSets.{kindOf, isTyped, sequence, typedSets, headerLines, kind58}
 use Rattle.walk.specs.declared.Due.{Due}
 use Rattle.walk.specs.declared.State.{State}
 use Rattle.walk.specs.declared.Place.the-variants.{Outside, Number, Typed}
 use Rattle.walk.specs.declared.Outcome.{Outcome}
 use Rattle.walk.specs.declared.Outcome.the-variants.{Next}
-use Rattle.walk.specs.Due.{due, recordDue, isClosed}
+use Rattle.walk.specs.Due.{due, recordDue, mayClose}
 use Rattle.walk.specs.Step.{state, start, opened, stepOf, outsideStep, numberStep, typedStep}
 use Rattle.judge.specs.declared.Reply.{Reply}
 use Rattle.judge.specs.Judge.{judged, reply, lineStep, Run, going, onOutcome, runStep, runEnd}
@@ -89,11 +89,11 @@ unfolding lineStep columns withoutReturn lineFault firstBad isAllowed filled ste
 opens = refl
 
 pub numbered : lineStep (state Number 1) (plainNumber 58) ≡ Next Header.opened
-unfolding lineStep columns withoutReturn lineFault firstBad isAllowed filled stepOf numberStep plainNumber plainIn digitOrBlank opened isTyped kindOf datasetNumber allBlank integerOf endInteger run stepInteger isDigit push
+unfolding lineStep columns withoutReturn lineFault firstBad isAllowed filled stepOf numberStep plainNumber plainIn digitOrBlank opened isTyped kindOf typedSets datasetNumber allBlank integerOf endInteger run stepInteger isDigit push
 numbered = refl
 
 closed : (c : ℕ) → lineStep (state (Typed (dataDue c 0)) 1) plainDelimiter ≡ Next (state Outside 1)
-unfolding lineStep columns withoutReturn lineFault firstBad isAllowed filled stepOf typedStep allBlank isDelimiter thenBlank isClosed recordDue sequence sequences
+unfolding lineStep columns withoutReturn lineFault firstBad isAllowed filled stepOf typedStep allBlank isDelimiter thenBlank mayClose recordDue sequence typedSets
 closed c = refl
 
 -- the lines of a set up to its closing delimiter
@@ -176,20 +176,20 @@ module _ (header : List ℕ) (p : Passed header) (xs ss : List ℤ) (stored : le
   lent-cut = cut-head (header ++ (dataText c 0 xs ss ++ delimiterLine)) ∙ rw (cut-after header (dataText c 0 xs ss ++ delimiterLine) (p .rest), cut-data) refl
 
   data-due : p .due ≡ dataDue c (length xs)
-  data-due = due-is (p .due) 0 11 c (length xs) 0 (p .kind) (p .at) (p .case) (p .left ∙ sym stored) (p .second)
+  data-due = due-is (p .due) kind58 headerLines c (length xs) 0 (p .kind) (p .at) (p .case) (p .left ∙ sym stored) (p .second)
 
   lent-run : over runStep (going start 0) (plainDelimiter ∷ plainNumber 58 ∷ (cut header .lines ++ (lines ++ (plainDelimiter ∷ []))))
-      ≡ going (state Outside 1) (2 + 11 + length lines + 1)
+      ≡ going (state Outside 1) (2 + headerLines + length lines + 1)
   lent-run =
       over-line start 0 plainDelimiter opens _ ∙ over-line (state Number 1) 1 (plainNumber 58) numbered _
       ∙ over-append runStep (going Header.opened 2) (cut header .lines) (lines ++ (plainDelimiter ∷ []))
-      ∙ ap (λ (r : Run). over runStep r (lines ++ (plainDelimiter ∷ []))) (p .run 2 ∙ ap (λ (d : Due). going (state (Typed d) 1) (2 + 11)) data-due)
-      ∙ over-append runStep (going (state (Typed (dataDue c (length xs))) 1) (2 + 11)) lines (plainDelimiter ∷ [])
-      ∙ ap (λ (r : Run). over runStep r (plainDelimiter ∷ [])) (ran (2 + 11) .run)
-      ∙ over-line (state (Typed (dataDue c 0)) 1) (2 + 11 + length lines) plainDelimiter (closed c) []
-      ∙ over-end (going (state Outside 1) (2 + 11 + length lines + 1))
+      ∙ ap (λ (r : Run). over runStep r (lines ++ (plainDelimiter ∷ []))) (p .run 2 ∙ ap (λ (d : Due). going (state (Typed d) 1) (2 + headerLines)) data-due)
+      ∙ over-append runStep (going (state (Typed (dataDue c (length xs))) 1) (2 + headerLines)) lines (plainDelimiter ∷ [])
+      ∙ ap (λ (r : Run). over runStep r (plainDelimiter ∷ [])) (ran (2 + headerLines) .run)
+      ∙ over-line (state (Typed (dataDue c 0)) 1) (2 + headerLines + length lines) plainDelimiter (closed c) []
+      ∙ over-end (going (state Outside 1) (2 + headerLines + length lines + 1))
 
-  lent-judge : judge runStep runEnd (going start 0) (lentFile header c xs ss) ≡ reply 0 (2 + 11 + length lines + 1)
+  lent-judge : judge runStep runEnd (going start 0) (lentFile header c xs ss) ≡ reply 0 (2 + headerLines + length lines + 1)
   unfolding judge
   lent-judge = rw (lent-cut, lent-run) refl
 
@@ -215,7 +215,7 @@ module _ (header : List ℕ) (p : Passed header) (xs ss : List ℤ) (stored : le
         length-append (dataText c 0 xs ss) delimiterLine,
       )
 
-  pub lent-accepted : judged (lentFile header c xs ss) ≡ reply 0 (2 + 11 + length lines + 1)
+  pub lent-accepted : judged (lentFile header c xs ss) ≡ reply 0 (2 + headerLines + length lines + 1)
   unfolding judged
   lent-accepted = rw (le-ltb 16777216 (length (lentFile header c xs ss)) lent-length) lent-judge
 

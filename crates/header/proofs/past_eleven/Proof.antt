@@ -4,6 +4,7 @@ use mathlib.Core.List.{[]}
 use Prim.Native.Nat.{_≤_, _-_}
 use lib.ListN.{length, take}
 use Rattle.laws.specs.Cut.{cut}
+use Rattle.rows.specs.TypedSets.{headerLines}
 use Rattle.header.specs.HeaderLaws.{lines-to, rest-to, all-few}
 use native.Mathlib.Omega.{arith}
 use borrow.Author.Needs.{needs}
@@ -11,7 +12,7 @@ use Rattle.header.proofs.past_eleven.Statement.{statement}
 use Rattle.header.proofs.past_eleven.Tie as tie
 
 abbrev Inv-loop : tie.InvT-loop
-Inv-loop header lines₀ at₀ lines at = (at ≤ length header) × ((lines ≤ 11) × ((length (cut (take at header) .lines) ≡ lines) × (cut (take at header) .rest ≡ [])))
+Inv-loop header lines₀ at₀ lines at = (at ≤ length header) × ((lines ≤ headerLines) × ((length (cut (take at header) .lines) ≡ lines) × (cut (take at header) .rest ≡ [])))
 
 abbrev μ-loop : tie.MeasureT-loop
 μ-loop header lines₀ at₀ lines at = length header - at

@@ -2,7 +2,7 @@
 use mathlib.Core.Path.{refl}
 use Rattle.layout.specs.Columns.{total}
 use Rattle.codes.specs.Form.{forms, formOf}
-use Rattle.rows.specs.Records.{records, recordOf, fieldList}
+use Rattle.rows.specs.Records.{noRecord, records, recordOf, fieldList}
 use Rattle.rows.specs.TabledLaws.{isWhole, tabled, tabled-past, Differs, past}
 use Rattle.rows.proofs.row_numbers.Statement.{statement}
 use Rattle.rows.proofs.row_numbers.Tie as tie
@@ -129,7 +129,7 @@ returns-30 c = tabled _ _ _ 29 (c .match .keys30) refl refl
 
 returns-31 : tie.Need-returns-31
 unfolding Differs
-returns-31 c = tabled-past _ (past 30 _ (c .match .rest))
+returns-31 c = tabled-past _ (past noRecord _ (c .match .rest))
 
 pub row-numbers-spec : {M : Type 1} → statement M
 row-numbers-spec =

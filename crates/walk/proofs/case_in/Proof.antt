@@ -1,6 +1,6 @@
 -- `walk::case_in` meets its contract.
 use mathlib.Core.Path.{refl, _∙_}
-use Rattle.walk.specs.Due.{caseIn}
+use Rattle.record.specs.Declared.{caseIn}
 use borrow.Author.Needs.{needs}
 use Rattle.walk.proofs.case_in.Statement.{statement}
 use Rattle.walk.proofs.case_in.Tie as tie

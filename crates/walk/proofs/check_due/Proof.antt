@@ -1,9 +1,9 @@
 -- `walk::check_due` meets its contract.
-use mathlib.Core.Path.{sym, _∙_}
+use mathlib.Core.Path.{refl, sym, _∙_}
 use native.Mathlib.Omega.{arith}
-use borrow.Author.Tests.{eq-eqb, ne-eqb}
+use Rattle.rows.specs.TypedSets.{typedSets, following}
 use Rattle.walk.specs.Due.{listRow}
-use Rattle.walk.specs.DueLaws.{rowRefusal-record, rowRefusal-list}
+use Rattle.walk.specs.DueLaws.{rowRefusal-record, rowRefusal-list, following-none}
 use borrow.Author.Needs.{needs}
 use Rattle.walk.proofs.check_due.Statement.{statement}
 use Rattle.walk.proofs.check_due.Tie as tie
@@ -18,22 +18,32 @@ check-data-requires : tie.Need-check-data-requires
 check-data-requires c κs = search needs
 
 returns-2 : tie.Need-returns-2
-unfolding listRow
-returns-2 c = c .check-data .ensures ∙ sym (rowRefusal-list _ _ (omega arith) ∙ simp (eq-eqb _ _ (c .before .if2 .taken)))
+unfolding listRow following typedSets
+returns-2 c = c .check-data .ensures ∙ sym (rowRefusal-list _ _ (omega arith) ∙ rw (c .before .if2 .taken) refl)
 
 check-list-requires : tie.Need-check-list-requires
 check-list-requires c κs = search needs
 
 returns-3 : tie.Need-returns-3
-unfolding listRow
-returns-3 c = c .check-list .ensures ∙ sym (rowRefusal-list _ _ (omega arith) ∙ simp (ne-eqb _ _ (c .before .before .before .if2 .left), eq-eqb _ _ (c .before .if3 .taken)))
+unfolding listRow following typedSets
+returns-3 c = c .check-list .ensures ∙ sym (rowRefusal-list _ _ (omega arith) ∙ rw (c .before .if3 .taken) refl)
 
 check-list-requires-2 : tie.Need-check-list-requires-2
 check-list-requires-2 c κs = search needs
 
 returns-4 : tie.Need-returns-4
+unfolding listRow following typedSets
+returns-4 c = c .check-list2 .ensures ∙ sym (rowRefusal-list _ _ (omega arith) ∙ rw (c .before .if4 .taken) refl)
+
+check-list-requires-3 : tie.Need-check-list-requires-3
+check-list-requires-3 c κs = search needs
+
+returns-5 : tie.Need-returns-5
 unfolding listRow
-returns-4 c = c .check-list2 .ensures ∙ sym (rowRefusal-list _ _ (omega arith) ∙ simp (ne-eqb _ _ (c .before .before .before .if2 .left), ne-eqb _ _ (c .before .if3 .left)))
+returns-5 c =
+    let at-if3 = c .before .before .before in
+    let at-if2 = at-if3 .before .before in
+    c .check-list3 .ensures ∙ sym (rowRefusal-list _ _ (omega arith) ∙ rw (following-none _ (at-if2 .if2 .left) (at-if3 .if3 .left) (c .before .if4 .left)) refl)
 
 pub check-due-spec : {M : Type 1} → statement M
 check-due-spec =
@@ -46,4 +56,6 @@ check-due-spec =
     check-list-requires
     returns-3
     check-list-requires-2
-    returns-4)
+    returns-4
+    check-list-requires-3
+    returns-5)

@@ -1,6 +1,6 @@
 -- `walk::number_in` meets its contract.
 use mathlib.Core.Path.{refl, sym, _∙_}
-use Rattle.walk.specs.Due.{numberIn}
+use Rattle.record.specs.Declared.{numberIn}
 use Rattle.walk.specs.DueLaws.{natural-positive}
 use borrow.Author.Needs.{needs}
 use Rattle.walk.proofs.number_in.Statement.{statement}

@@ -1,5 +1,5 @@
+use Rattle.rows.specs.TypedSets.{sequence, typedSets}
 use Rattle.walk.specs.DueLaws.{recordDue-sequence, recordDue-kind-past}
-use Rattle.rows.specs.Sequence.{sequence, sequences}
 use mathlib.Core.Path.{refl, sym, _∙_}
 use native.Mathlib.Omega.{arith}
 use borrow.Author.Needs.{needs}
@@ -19,7 +19,7 @@ record-at-requires c κs = search needs
 
 -- src/lib.rt:141:9
 returns : tie.Need-returns
-unfolding sequence sequences
+unfolding sequence typedSets
 returns c = c .record-at .ensures ∙ recordDue-sequence _ _ 0 refl (c .before .before .if1 .taken)
 
 -- src/lib.rt:144:26
@@ -32,7 +32,7 @@ record-at-requires-2 c κs = search needs
 
 -- src/lib.rt:144:9
 returns-2 : tie.Need-returns-2
-unfolding sequence sequences
+unfolding sequence typedSets
 returns-2 c = c .record-at2 .ensures ∙ recordDue-sequence _ _ 1 refl (c .before .before .if2 .taken)
 
 -- src/lib.rt:147:26
@@ -45,7 +45,7 @@ record-at-requires-3 c κs = search needs
 
 -- src/lib.rt:147:9
 returns-3 : tie.Need-returns-3
-unfolding sequence sequences
+unfolding sequence typedSets
 returns-3 c = c .record-at3 .ensures ∙ recordDue-sequence _ _ 2 refl (c .before .before .if3 .taken)
 
 -- src/lib.rt:150:26
@@ -58,7 +58,7 @@ record-at-requires-4 c κs = search needs
 
 -- src/lib.rt:150:9
 returns-4 : tie.Need-returns-4
-unfolding sequence sequences
+unfolding sequence typedSets
 returns-4 c = c .record-at4 .ensures ∙ recordDue-sequence _ _ 3 refl (c .before .before .if4 .taken)
 
 -- src/lib.rt:153:26
@@ -71,7 +71,7 @@ record-at-requires-5 c κs = search needs
 
 -- src/lib.rt:153:9
 returns-5 : tie.Need-returns-5
-unfolding sequence sequences
+unfolding sequence typedSets
 returns-5 c = c .record-at5 .ensures ∙ recordDue-sequence _ _ 4 refl (c .before .before .if5 .taken)
 
 -- src/lib.rt:136:1
