@@ -1,4 +1,5 @@
 pub mod Check
 pub mod CheckLaws
+pub mod Condition
 pub mod ConditionLaws
 pub mod Written

@@ -7,7 +7,8 @@ use native.Mathlib.Omega.{arith}
 use borrow.Author.Tests.{eqb-true, eqb-false}
 use lib.Dec.{leb, eqb}
 use lib.ListN.{length}
-use Rattle.laws.specs.Choice.{pick, and-right}
+use Rattle.laws.specs.Choice.{pick}
+use Rattle.laws.specs.ChoiceLaws.{and-right}
 use Rattle.field.specs.Item.{Item}
 use Rattle.walk.specs.Due.{due, recordDue, listRow, rowDue, isClosed, settled, afterList}
 use Rattle.walk.specs.declared.Due.{Due}

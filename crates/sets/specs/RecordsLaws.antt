@@ -11,8 +11,9 @@ use borrow.Author.Tests.{ltb-true, eqb-true, eqb-false, ne-eqb, le-ltb, le-leb, 
 use lib.Dec.{leb, ltb, eqb}
 use lib.ListN.{length, getD, drop, length-map}
 use lib.Seq.{drop-cons, drop-length, getD-drop, drop-drop}
-use Rattle.laws.specs.Choice.{below-or-not}
-use Rattle.laws.specs.Ranges.{allAre, in-range}
+use Rattle.laws.specs.ChoiceLaws.{below-or-not}
+use Rattle.laws.specs.Ranges.{allAre}
+use Rattle.laws.specs.RangesLaws.{in-range}
 use Rattle.field.specs.Item.{Item}
 use Rattle.layout.specs.Layout.{numbersOf, fieldsOf}
 use Rattle.layout.specs.LayoutLaws.{fieldsOf-some}
