@@ -8,10 +8,11 @@ use native.Mathlib.Omega.{arith}
 use borrow.Author.Tests.{le-leb, ne-eqb}
 use lib.IntN.{ℤ, pos, natAbs, negℤ, _+ℤ_, _-ℤ_, +ℤ-negℤ-cancel}
 use lib.Pow.{pow-add}
-use Rattle.laws.specs.Choice.{below-or-not}
-use Rattle.decimal.specs.Decimal.{count, short, exponentOf, fits}
-use Rattle.decimal.specs.CountLaws.{countIn-least, countIn-above, countIn-below, shortIn-above, Zeros, shortIn-zeros, shortIn-end}
-use Rattle.decimal.specs.DecimalLaws.{ten-above, SameNumber, move}
+use Rattle.laws.specs.ChoiceLaws.{below-or-not}
+use Rattle.decimal.specs.Decimal.{count, short, exponentOf, fits, SameNumber}
+use Rattle.decimal.specs.Count.{Zeros}
+use Rattle.decimal.specs.CountLaws.{countIn-least, countIn-above, countIn-below, shortIn-above, shortIn-zeros, shortIn-end}
+use Rattle.decimal.specs.DecimalLaws.{ten-above, move}
 use SameNumber.{zeros, moved}
 
 -- the smaller power has the smaller exponent

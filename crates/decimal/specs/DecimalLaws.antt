@@ -12,17 +12,16 @@ use lib.Dec.{leb}
 use lib.IntN.{ℤ, pos, negsuc, natAbs, negℤ, _+ℤ_, _-ℤ_, +ℤ-assoc, +ℤ-comm, +ℤ-negℤ-cancel}
 use lib.ListN.{length, replicate, length-append, length-replicate}
 use lib.Pow.{pow-add}
-use Rattle.laws.specs.Choice.{and-left, and-right, below-or-not}
+use Rattle.laws.specs.ChoiceLaws.{and-left, and-right, below-or-not}
 use Rattle.text.specs.BlankLaws.{blanks-replicate}
 use Rattle.text.specs.Parts.{Sign, Digits, none, more, signed}
-use Rattle.real.specs.declared.Number.{Number}
-use Rattle.real.specs.declared.Real.the-variants.{Value}
 use Rattle.real.specs.Spelling.{Letter, ExponentSign, TwoOrThree, ExponentSpelling, lettered, bare, RealSpelling, spelled}
-use Rattle.real.specs.Real.{belowZero, numberOf, realOf}
+use Rattle.real.specs.Real.{belowZero, numberOf}
 use Rattle.real.specs.RealLaws.{realOf-complete}
 use Rattle.real.specs.EndLaws.{signed-size}
-use Rattle.decimal.specs.Decimal.{shortIn, count, short, exponentOf, fits, digitsOf, shown, minusText, coefficientText, signByte, exponentText, numberText, fieldText, leadText}
-use Rattle.decimal.specs.CountLaws.{countIn-least, countIn-above, countIn-below, shortIn-most, shortIn-above, Zeros, shortIn-zeros}
+use Rattle.decimal.specs.Decimal.{shortIn, count, short, exponentOf, fits, digitsOf, shown, minusText, coefficientText, signByte, exponentText, numberText, fieldText, leadText, SameNumber, ReadBack, zeros, moved}
+use Rattle.decimal.specs.Count.{Zeros}
+use Rattle.decimal.specs.CountLaws.{countIn-least, countIn-above, countIn-below, shortIn-most, shortIn-above, shortIn-zeros}
 use Rattle.decimal.specs.DigitLaws.{digitsOf-length}
 use Rattle.decimal.specs.PutLaws.{exponent-cases, leadText-length, tail-length, field-blank, field-parts}
 
@@ -130,11 +129,6 @@ field-spelled w d c s h g v x =
     (spelled bl (minusText c) whole (digitsOf d n) (exponentText y) (blanks-replicate (w - length (numberText d c s))) (minus-spelled c)
     (first-spelled d n v) (omega arith) (omega arith) (exponent-spelled y x)))
 
--- n × 10^s and m × 10^t are one number: both are zero, or they are the same once zeros are moved between number and scale
-pub data SameNumber : ℕ → ℤ → ℕ → ℤ → Type 0 where
-  zeros : {s t : ℤ} → SameNumber 0 s 0 t
-  moved : {n m : ℕ} {s t : ℤ} (a b : ℕ) → n * 10 ^ a ≡ m * 10 ^ b → s +ℤ pos b ≡ t +ℤ pos a → SameNumber n s m t
-
 pub move : (s : ℤ) (p a z d : ℕ) → p + a ≡ z + d → s +ℤ pos z ≡ s +ℤ pos p -ℤ pos d +ℤ pos a
 move s p a z d h =
     let swap : s +ℤ pos p -ℤ pos d +ℤ pos a ≡ s +ℤ pos p +ℤ pos a -ℤ pos d =
@@ -161,13 +155,6 @@ shown-same d (suc n) s h g =
     moved a (z .zeros) m
     (move s (count (suc n) - 1) a (z .zeros) d (omega (arith, z .digits, countIn-least 19 (short (suc n))))
     ∙ ap (λ (y : ℤ). y -ℤ pos d +ℤ pos a) (sym x))
-
--- how a field is read back
-pub record ReadBack (c s : ℤ) (l : List ℕ) : Type 0 where
-  pub number : Number
-  pub read : realOf l ≡ Value number
-  pub sign : number .minus ≡ belowZero c
-  pub same : SameNumber (natAbs c) s (number .coefficient) (signed (number .below) (number .scale))
 
 -- a number that fits is read back as the same number; a real field has at most 18 digits
 pub fits-read : (w d : ℕ) (c s : ℤ) → natAbs c < 10 ^ 20 → d ≤ 17 → d + 7 ≤ w → fits d c s ≡ true → ReadBack c s (fieldText w d c s)

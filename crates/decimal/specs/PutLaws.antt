@@ -15,10 +15,12 @@ use lib.Seq.{take-suc-set, take-all, set-at, length-take-le, drop-length, take-a
 use mir.Syntax.{w16, w64}
 use mir.Val.{SFits, toZ, ofZ}
 use mir.ValLaws.{toZ-ofZ}
-use Rattle.laws.specs.Choice.{pick, below-or-not}
+use Rattle.laws.specs.Choice.{pick}
+use Rattle.laws.specs.ChoiceLaws.{below-or-not}
 use Rattle.real.specs.Real.{belowZero}
 use Rattle.decimal.specs.Decimal.{leadText, digitsOf, signByte, coefficientText, minusText, exponentText, exponentOf, shown, short, count, numberText, fieldText}
-use Rattle.decimal.specs.SignLaws.{back, exponent-back}
+use Rattle.decimal.specs.Sign.{back}
+use Rattle.decimal.specs.SignLaws.{exponent-back}
 use Rattle.decimal.specs.DigitLaws.{digitsOf-length}
 
 -- the blanks, and a minus in the last of them

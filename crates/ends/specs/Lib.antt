@@ -1,6 +1,7 @@
 pub mod Ends
 pub mod EndsLaws
-pub mod LineTests
+pub mod LineTestsLaws
 pub mod Short
 pub mod ShortLaws
 pub mod NoDelimiter
+pub mod NoDelimiterLaws

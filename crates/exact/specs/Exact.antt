@@ -6,6 +6,7 @@ use Prim.Native.Nat.{ℕ, _^_}
 use lib.Dec.{leb}
 use lib.IntN.{pos}
 use lib.Ieee.{Float, binary64, ofInt, mul, div, neg}
+use lib.Ieee.Exact.{HasValue}
 use Rattle.laws.specs.Choice.{pick}
 use Rattle.exact.specs.declared.Exact.{Exact}
 use Rattle.exact.specs.declared.Exact.the-variants.{Value, Outside}
@@ -28,3 +29,7 @@ signed false x = x
 -- of a sign (true: minus), a coefficient, whether the scale is below zero, and the scale's size
 unfoldable pub exactOf : Bool → ℕ → Bool → ℕ → Exact
 exactOf n c b k = pick (leb c 9007199254740992) (pick (leb k 22) (Value (signed n (magnitudeOf c b k))) Outside) Outside
+
+-- the f64 is the number n
+abbrev pub Is : Float → ℕ → Type 0
+Is x n = HasValue x false n 1

@@ -10,18 +10,14 @@ use lib.Dec.{leb, ltb}
 use lib.IntN.{pos}
 use lib.Pow.{pow-add, pow-mono, shl-lt}
 use lib.Ieee.{Float, nan, inf, fin, Format, binary64, prec, emax, low, up, down, odd, units, round, ofInt, ofBits, neg, mul, div, isNan}
-use lib.Ieee.Exact.{HasValue, round-exact}
+use lib.Ieee.Exact.{round-exact}
 use lib.Ieee.Fits.{down-pos}
 use lib.Ieee.Scale.{round-same}
 use Rattle.laws.specs.Choice.{pick}
-use Rattle.laws.specs.Ranges.{in-range}
-use Rattle.laws.specs.Table.{agree-below}
+use Rattle.laws.specs.RangesLaws.{in-range}
+use Rattle.laws.specs.TableLaws.{agree-below}
 use Rattle.exact.specs.declared.Exact.the-variants.{Value, Outside}
-use Rattle.exact.specs.Exact.{tenOf, magnitudeOf, signed, exactOf}
-
--- the f64 is the number n
-abbrev pub Is : Float → ℕ → Type 0
-Is x n = HasValue x false n 1
+use Rattle.exact.specs.Exact.{tenOf, magnitudeOf, signed, exactOf, Is}
 
 -- a number below 2^53 times a power of two is an f64
 ofInt-exact : (n q j : ℕ) → q < 2 ^ 53 → j ≤ 53 → n ≡ q * 2 ^ j → Is (ofInt binary64 (pos n)) n

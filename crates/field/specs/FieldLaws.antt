@@ -7,8 +7,9 @@ use Prim.Native.Nat.{ℕ, zero, suc, _≤_, _<_}
 use native.Mathlib.Omega.{arith}
 use borrow.Author.Tests.{leb-true, ne-eqb}
 use lib.Dec.{leb, ltb, eqb}
-use Rattle.laws.specs.Choice.{pick, and-left, and-right, false-not-true, below-or-not}
-use Rattle.laws.specs.Ranges.{in-range}
+use Rattle.laws.specs.Choice.{pick}
+use Rattle.laws.specs.ChoiceLaws.{and-left, and-right, false-not-true, below-or-not}
+use Rattle.laws.specs.RangesLaws.{in-range}
 use Rattle.text.specs.Blank.{allBlank}
 use Rattle.integer.specs.Integer.{integerOf}
 use Rattle.codes.specs.Form.{Form, Optional, skip, text, identification, real, integer, never, within, forms, formOf, optionalOf, ruleOf, allowedOf, blankFrom, blankPast, lastForm}

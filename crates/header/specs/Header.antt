@@ -2,10 +2,13 @@
 -- is 8; 1 isn't given)"). Fewer lines are 7 at lines + 1; a twelfth is 8 whatever it is, after its own 2, 3, 4.
 use mathlib.Core.Bool.{true, false}
 use mathlib.Core.List.{List, [], _∷_}
-use Prim.Native.Nat.{ℕ, zero, suc, _+_}
+use mathlib.Core.Path.{_≡_}
+use Prim.Native.Nat.{ℕ, zero, suc, _+_, _≤_, _<_}
 use lib.Dec.{ltb}
+use lib.ListN.{length, take}
 use Rattle.laws.specs.Choice.{pick}
 use Rattle.laws.specs.Cut as Cut
+use Rattle.laws.specs.Cut.{cut}
 use Rattle.line.specs.Line.{columns, lineFault}
 use Rattle.rows.specs.TypedSets.{headerLines, kind58}
 use Rattle.walk.specs.declared.Place.{Place}
@@ -58,3 +61,9 @@ headerEnd (refused r) rest = answerWith r 0 0
 
 unfoldable pub headerOf : List ℕ → Header
 headerOf bytes = Cut.judge headerStep headerEnd (going opened 0) bytes
+
+-- the bytes of the first eleven lines; all of them where there are fewer
+pub record FirstEleven (b : List ℕ) (k : ℕ) : Type 0 where
+  pub within : k ≤ length b
+  pub few : length (cut (take k b) .lines) ≤ headerLines
+  pub full : k < length b → length (cut (take k b) .lines) ≡ headerLines

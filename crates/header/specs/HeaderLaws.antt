@@ -10,8 +10,10 @@ use borrow.Author.Tests.{lt-ltb, le-ltb, eq-eqb, ne-eqb}
 use lib.Dec.{eqb}
 use lib.ListN.{length, take, drop, length-append, length-drop, take-append-drop}
 use lib.Seq.{take-append-add, drop-append-le, length-take-le, take-all}
-use Rattle.laws.specs.Choice.{pick, below-or-not}
-use Rattle.laws.specs.Cut.{text, onto, lineLen, cut, cut-append, cut-open, over, over-append, judge, judge-at}
+use Rattle.laws.specs.Choice.{pick}
+use Rattle.laws.specs.ChoiceLaws.{below-or-not}
+use Rattle.laws.specs.Cut.{text, onto, lineLen, cut, over, judge}
+use Rattle.laws.specs.CutLaws.{cut-append, cut-open, over-append, judge-at}
 use Rattle.line.specs.Line.{columns, lineFault}
 use Rattle.line.specs.LineLaws.{columns-take}
 use Rattle.line.specs.declared.Refusal.{Refusal}
@@ -22,10 +24,10 @@ use Rattle.walk.specs.declared.Outcome.{Outcome}
 use Rattle.walk.specs.declared.Outcome.the-variants.{Next, Refused}
 use Rattle.judge.specs.declared.Reply.{Reply}
 use Rattle.judge.specs.declared.Lines.{Lines}
-use Rattle.judge.specs.Judge.{lineStep, Run, going, refused, onOutcome, reply, runStep, runEnd}
+use Rattle.judge.specs.Judge.{lineStep, Run, going, refused, onOutcome, reply, runStep}
 use Rattle.judge.specs.JudgeLaws as Judge
 use Rattle.judge.specs.Lines.{runOf, LinesJudged}
-use Rattle.header.specs.Header.{answer, answerWith, opened, pastNumber, headerStep, leaves, headerEnd, headerOf}
+use Rattle.header.specs.Header.{answer, answerWith, opened, pastNumber, headerStep, leaves, headerEnd, headerOf, FirstEleven}
 
 -- a line past the eleventh
 module _ (l : List ℕ) (n : ℕ) (e : n ≡ length (columns true l)) (f : Refusal) (q : f ≡ lineFault true (take n l)) where
@@ -74,12 +76,6 @@ module _ (s : State) (n : ℕ) (l : List ℕ) (at e : ℕ) (a : at ≤ length l)
   pub header-past : (m : ℕ) → m ≡ pastNumber (lineFault true (columns true (take (e - at) (drop at l))) .number) → headerLines ≤ n
       → answer m (n + 1) 0 0 ≡ judge headerStep headerEnd (going s n) (drop at l)
   header-past m u p = sym (turn ∙ rw (le-ltb n headerLines p, ← u) (judge-refused (reply m (n + 1)) (drop (e + 1) l)))
-
--- the bytes of the first eleven lines; all of them where there are fewer
-pub record FirstEleven (b : List ℕ) (k : ℕ) : Type 0 where
-  pub within : k ≤ length b
-  pub few : length (cut (take k b) .lines) ≤ headerLines
-  pub full : k < length b → length (cut (take k b) .lines) ≡ headerLines
 
 -- the first line with its LF
 cut-first : (d : List ℕ) → lineLen d < length d → cut (take (suc (lineLen d)) d) ≡ text (take (lineLen d) d ∷ []) []

@@ -8,7 +8,8 @@ use borrow.Author.Tests.{leb-true, leb-false, eqb-true, lt-ltb, lt-leb, ne-eqb}
 use lib.Dec.{leb, eqb}
 use lib.ListN.{length}
 use Rattle.laws.specs.Choice.{pick}
-use Rattle.laws.specs.Run.{run, run-append}
+use Rattle.laws.specs.Run.{run}
+use Rattle.laws.specs.RunLaws.{run-append}
 use Rattle.text.specs.Blank.{Blanks, none, one}
 use Rattle.text.specs.Parts.{Sign, bare, plus, minus, Digits, Digits.none as no-digit, more, isDigit}
 use Rattle.text.specs.PartsLaws.{isDigit-low, isDigit-high, isDigit-complete}

@@ -11,7 +11,8 @@ use lib.Dec.{eqb}
 use lib.ListN.{length, take, drop, length-drop}
 use lib.Seq.{drop-drop}
 use Rattle.laws.specs.Choice.{pick}
-use Rattle.laws.specs.Cut.{text, cut, lineLen, cut-line, cut-open, over, judge}
+use Rattle.laws.specs.Cut.{text, cut, lineLen, over, judge}
+use Rattle.laws.specs.CutLaws.{cut-line, cut-open}
 use Rattle.line.specs.declared.Refusal.{Refusal}
 use Rattle.walk.specs.declared.State.{State}
 use Rattle.walk.specs.declared.Outcome.{Outcome}

@@ -9,7 +9,8 @@ use borrow.Author.Tests.{eqb-true, le-leb, ne-eqb}
 use lib.Dec.{eqb}
 use lib.ListN.{length, getD, take, drop, replicate, length-append, take-append-drop}
 use lib.Seq.{take-at, drop-at, length-take-le}
-use Rattle.laws.specs.Choice.{pick, and-left, and-right, false-not-true}
+use Rattle.laws.specs.Choice.{pick}
+use Rattle.laws.specs.ChoiceLaws.{and-left, and-right, false-not-true}
 use Rattle.text.specs.Blank.{Blanks, allBlank}
 use Rattle.text.specs.BlankLaws.{allBlank-complete, allBlank-sound}
 use Rattle.text.specs.Parts.{Digits, none, more}

@@ -1,6 +1,6 @@
 -- The layout of 58's data lines (01, "Records": the table of the eight cases), and the FORMATs that 001 prints for them.
 use mathlib.Core.Bool.{_&&_, _||_}
-use mathlib.Core.List.{List, [], _∷_, _++_}
+use mathlib.Core.List.{List, [], _∷_, _++_, map}
 use Prim.Native.Nat.{ℕ, zero, suc, _+_}
 use lib.Dec.{ltb, eqb}
 use lib.ListN.{length, getD}
@@ -92,3 +92,10 @@ unfoldable pub cellOf : ℕ → ℕ → ℕ
 cellOf c k =
     pick (ltb k 6) (getD (layoutOf c .widths) k 0)
     (pick (eqb k 6) (fieldsOf c) (pick (eqb k 7) (valuesOf c) 0))
+
+-- the table's rows are the published FORMATs, by ordinate type and spacing
+abbrev pub shape : Layout → ℕ × (ℕ × List ℕ)
+shape l = (l .ordinate, (l .spacing, l .widths))
+
+abbrev pub shape-printed : Printed → ℕ × (ℕ × List ℕ)
+shape-printed p = (p .ordinate, (p .spacing, map (λ (e : Edit). e .width) (p .format)))

@@ -9,19 +9,13 @@ use native.Mathlib.Omega.{arith}
 use borrow.Author.Tests.{leb-true, eqb-true, le-ltb, ne-eqb}
 use lib.Dec.{leb, ltb, eqb}
 use lib.ListN.{length, getD, List·getD-eq-default, replicate}
-use Rattle.laws.specs.Choice.{pick-same, and-left, and-right, below-or-not}
-use Rattle.laws.specs.Ranges.{in-range}
-use Rattle.laws.specs.Table.{tabulate, table-at}
+use Rattle.laws.specs.ChoiceLaws.{pick-same, and-left, and-right, below-or-not}
+use Rattle.laws.specs.RangesLaws.{in-range}
+use Rattle.laws.specs.Table.{tabulate}
+use Rattle.laws.specs.TableLaws.{table-at}
 use Rattle.layout.specs.Columns.{fieldStart, fieldPast, total}
 use Rattle.layout.specs.ColumnsLaws.{fieldPast-total, fieldStart-total}
-use Rattle.layout.specs.Layout.{Layout, Edit, layouts, layoutOf, fieldsOf, valuesOf, numbersOf, printed, cellOf, layout, Printed, caseOf}
-
--- the table's rows are the published FORMATs, by ordinate type and spacing
-abbrev pub shape : Layout → ℕ × (ℕ × List ℕ)
-shape l = (l .ordinate, (l .spacing, l .widths))
-
-abbrev pub shape-printed : Printed → ℕ × (ℕ × List ℕ)
-shape-printed p = (p .ordinate, (p .spacing, map (λ (e : Edit). e .width) (p .format)))
+use Rattle.layout.specs.Layout.{Layout, layouts, layoutOf, fieldsOf, valuesOf, numbersOf, printed, cellOf, layout, caseOf, shape, shape-printed}
 
 pub layouts-printed : map shape layouts ≡ map shape-printed printed
 unfolding layouts printed

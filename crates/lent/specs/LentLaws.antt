@@ -10,7 +10,8 @@ use borrow.Author.Tests.{ltb-false, le-ltb, eq-eqb, ne-eqb}
 use borrow.Rule.Slice.PartMut.{putMid, midOf}
 use lib.ListN.{length, getD, take, drop, set, replicate, length-drop, length-append}
 use lib.Seq.{take-suc, drop-cons, append-snoc, set-at, take-at, drop-at, take-all, take-length, drop-length, drop-drop, length-take-le, getD-set-same, getD-set-other}
-use Rattle.laws.specs.Choice.{pick, false-not-true}
+use Rattle.laws.specs.Choice.{pick}
+use Rattle.laws.specs.ChoiceLaws.{false-not-true}
 use Rattle.walk.specs.declared.Place.{Place}
 use Rattle.walk.specs.declared.Place.the-variants.{Outside, Number, Plain, Typed}
 use Rattle.walk.specs.Step.{state}

@@ -11,7 +11,8 @@ use borrow.Author.Tests.{le-ltb, ltb-false, le-leb, leb-true, ne-eqb}
 use lib.Dec.{leb, ltb, eqb}
 use lib.ListN.{length, getD, take, drop, set, replicate, length-append, length-take, length-drop, length-replicate, replicate-append-replicate, drop-of-length-le}
 use lib.Seq.{drop-cons, drop-drop, take-suc, take-all, take-at, take-append-le, take-take, length-take-le, set-at}
-use Rattle.laws.specs.Choice.{pick, and-left, and-right, and-both, and-assoc, below-or-not}
+use Rattle.laws.specs.Choice.{pick}
+use Rattle.laws.specs.ChoiceLaws.{and-left, and-right, and-both, and-assoc, below-or-not}
 use Rattle.laws.specs.Cut.{lineLen}
 use Rattle.line.specs.declared.Refusal.{Refusal}
 use Rattle.line.specs.Line.{refusal, passed, Allowed, none, more, isAllowed, withoutReturn, columns, firstBad, lineFault, filled, allAllowed}

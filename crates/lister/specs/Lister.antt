@@ -2,7 +2,7 @@
 -- first byte, byte past the closing line, first byte of the data lines, bytes from 0. The third and sixth are 0 unless it is a 58.
 -- Later places keep their contents. It answers the number of sets.").
 use mathlib.Core.List.{List, [], _∷_, _++_}
-use Prim.Native.Nat.{ℕ, suc, _*_}
+use Prim.Native.Nat.{ℕ, suc, _*_, _≤_, _<_}
 use lib.Dec.{ltb}
 use lib.ListN.{length, drop}
 use Rattle.laws.specs.Choice.{pick}
@@ -10,6 +10,7 @@ use Rattle.judge.specs.declared.Reply.{Reply}
 use Rattle.judge.specs.Judge.{judged, reply}
 use Rattle.parts.specs.Parts.{Part, partsOf, numberOf, pastOf}
 use Rattle.parts.specs.Function.{countOf, dataStart}
+use Rattle.parts.specs.declared.Extent.{Extent}
 
 -- the six numbers of a set
 unfoldable pub entry : Part → List ℕ
@@ -30,3 +31,8 @@ unfoldable pub listRows : List ℕ → List ℕ → List ℕ
 listRows file rows =
     pick (ltb 0 (judged file .number)) rows
     (pick (ltb (length rows) (6 * length (partsOf file))) rows (rowsOf (partsOf file) ++ drop (6 * length (partsOf file)) rows))
+
+-- the places of a set are in the file
+pub record Places (file : List ℕ) (e : Extent) : Type 0 where
+  pub lines : e .lines < e .past
+  pub first : e .first ≤ e .past

@@ -1,9 +1,9 @@
 -- The laws of a loop over the sets of a file.
 use mathlib.Core.Path.{_≡_, refl, sym, ap, _∙_}
-use mathlib.Core.Bool.{Bool, true, false}
+use mathlib.Core.Bool.{false}
 use mathlib.Core.List.{List, [], _∷_, _++_, append-assoc, append-nil}
 use Prim.Native.Nat.{ℕ, suc, _+_, _-_, _*_, _≤_, _<_}
-use native.Mathlib.Nat.{zero-add, add-zero}
+use native.Mathlib.Nat.{zero-add}
 use native.Mathlib.Numerals.{add-one}
 use native.Mathlib.Omega.{arith}
 use lib.ListN.{length, take, drop, set, length-append, length-drop, take-append-drop}
@@ -15,14 +15,15 @@ use borrow.Author.Tests.{lt-ltb, le-ltb}
 use Rattle.judge.specs.declared.Reply.{Reply}
 use Rattle.judge.specs.Judge.{judged, reply}
 use Rattle.parts.specs.declared.Extent.{Extent}
-use Rattle.parts.specs.Parts.{Part, outside, partsFrom, partsOf, numberOf, lineStart, closingStart, pastOf, throughOf, lineOf}
+use Rattle.parts.specs.Parts.{Part, partsOf, numberOf, lineStart, closingStart, pastOf, throughOf, lineOf}
 use Rattle.parts.specs.Function.{countOf, dataStart}
 use Rattle.parts.specs.FunctionLaws.{lineFrom-own}
 use Rattle.parts.specs.Scan.{firstOf, skipTo, lineFrom}
-use Rattle.lister.specs.Lister.{listReply, listRows, entry, rowsOf}
+use Rattle.lister.specs.Lister.{listReply, listRows, entry, rowsOf, Places}
 use Rattle.lister.specs.Found.{declaredAt, dataAt, entryAt}
-use Rattle.parts.specs.ScanLaws.{First, found-none}
-use Rattle.parts.specs.SetLaws.{remaining, line-at}
+use Rattle.parts.specs.ScanLaws.{found-none}
+use Rattle.parts.specs.Set.{remaining}
+use Rattle.parts.specs.SetLaws.{line-at}
 use Rattle.parts.specs.Turn.{Turn}
 use Rattle.parts.specs.TurnLaws.{closing-from}
 
@@ -125,11 +126,6 @@ rows-left file n at i e t =
     let a : length (remaining file n at) ≡ suc (length (t .first .others)) = ap length (t .first .sets) in
     let b : length (t .first .others) ≡ length (remaining file (e .through) (e .past)) = ap length (t .others) in
     omega arith
-
--- the places of a set are in the file
-pub record Places (file : List ℕ) (e : Extent) : Type 0 where
-  pub lines : e .lines < e .past
-  pub first : e .first ≤ e .past
 
 through-more : (p : Part) → p .lines < throughOf p
 unfolding throughOf

@@ -4,7 +4,8 @@ use mathlib.Core.List.{List}
 use Prim.Native.Nat.{ℕ}
 use Rattle.parts.specs.Scan.{lineFrom}
 use Rattle.parts.specs.Parts.{Part, lineStart, closingStart, lineOf}
-use Rattle.parts.specs.SetLaws.{Standing, line-at, line-columns}
+use Rattle.parts.specs.Set.{Standing}
+use Rattle.parts.specs.SetLaws.{line-at, line-columns}
 
 pub lineFrom-own : (file : List ℕ) (n at : ℕ) (p : Part) (ps : List Part) → Standing file n at p ps → (k : ℕ)
     → lineFrom (closingStart p) (lineStart p 0) file k ≡ lineOf p k

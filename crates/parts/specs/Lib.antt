@@ -3,6 +3,7 @@ pub mod PartsLaws
 pub mod Scan
 pub mod Function
 pub mod ScanLaws
+pub mod Set
 pub mod SetLaws
 pub mod Turn
 pub mod TurnLaws

@@ -2,9 +2,10 @@
 -- its lines, a delimiter"). A line is given by the bytes before its LF.
 use mathlib.Core.Bool.{Bool, true}
 use mathlib.Core.List.{List, [], _∷_, _++_}
-use Prim.Native.Nat.{ℕ, suc, _+_}
+use mathlib.Core.Path.{_≡_}
+use Prim.Native.Nat.{ℕ, suc, _+_, _≤_}
 use lib.Dec.{eqb}
-use lib.ListN.{length, getD, take}
+use lib.ListN.{length, getD, take, drop}
 use Rattle.laws.specs.Choice.{pick}
 use Rattle.laws.specs.Cut.{cut}
 use Rattle.line.specs.Line.{columns, filled}
@@ -88,3 +89,8 @@ throughOf p = p .lines + length (p .opening ∷ p .number ∷ (p .body ++ (p .cl
 -- whether it is a 58
 abbrev pub isFunction : Part → Bool
 isFunction p = eqb (numberOf p) 58
+
+-- the lines of a file from the byte at on, past those given
+pub record Past (f : List ℕ) (at : ℕ) (pre post : List (List ℕ)) : Type 0 where
+  pub within : at + bytesIn pre ≤ length f
+  pub lines : cut (drop (at + bytesIn pre) f) .lines ≡ post

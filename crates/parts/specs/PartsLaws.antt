@@ -1,17 +1,16 @@
 -- The parts of a file, line by line and set by set.
 use mathlib.Core.Path.{_≡_, refl, sym, ap, _∙_}
 use mathlib.Core.Logic.{⊎-elim}
-use mathlib.Core.Bool.{Bool, true, false}
-use mathlib.Core.List.{List, [], _∷_, _++_, append-nil}
-use Prim.{Unit, tt}
-use Prim.Native.Nat.{ℕ, zero, suc, _+_, _-_, _≤_, _<_}
+use mathlib.Core.List.{List, [], _∷_, _++_}
+use Prim.Native.Nat.{ℕ, suc, _+_, _-_, _≤_, _<_}
 use native.Mathlib.Nat.{add-zero}
 use native.Mathlib.Omega.{arith}
-use lib.ListN.{length, take, drop, length-append, length-drop}
+use lib.ListN.{length, take, drop, length-drop}
 use lib.Seq.{length-take-le, drop-drop}
-use Rattle.laws.specs.Choice.{pick, below-or-not}
-use Rattle.laws.specs.Cut.{cut, lineLen, Text, text, cut-line, cut-open}
-use Rattle.parts.specs.Parts.{closes, bytesIn, Part, part, Stand, outside, opened, inside, next, ended, partsFrom, pastOf, throughOf}
+use Rattle.laws.specs.ChoiceLaws.{below-or-not}
+use Rattle.laws.specs.Cut.{cut, lineLen, Text}
+use Rattle.laws.specs.CutLaws.{cut-line, cut-open}
+use Rattle.parts.specs.Parts.{bytesIn, Past}
 
 -- bytes of lines in two parts
 pub bytesIn-append : (a b : List (List ℕ)) → bytesIn (a ++ b) ≡ bytesIn a + bytesIn b
@@ -35,11 +34,6 @@ module _ (f : List ℕ) (at e : ℕ) (a : at ≤ length f) (q : e ≡ at + lineL
 
   pub lines-end : length f ≤ e → cut (drop at f) .lines ≡ []
   lines-end h = ap (λ (t : Text). t .lines) (cut-open (drop at f) (simp length-drop (omega arith)))
-
--- the lines of a file from the byte at on, past those given
-pub record Past (f : List ℕ) (at : ℕ) (pre post : List (List ℕ)) : Type 0 where
-  pub within : at + bytesIn pre ≤ length f
-  pub lines : cut (drop (at + bytesIn pre) f) .lines ≡ post
 
 past-one : (f : List ℕ) (at : ℕ) (l : List ℕ) (pre post : List (List ℕ)) → at ≤ length f → cut (drop at f) .lines ≡ l ∷ (pre ++ post)
     → ((b : ℕ) → b ≤ length f → cut (drop b f) .lines ≡ pre ++ post → Past f b pre post) → Past f at (l ∷ pre) post

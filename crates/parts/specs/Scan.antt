@@ -1,7 +1,9 @@
 -- Where the next set of a file stands, by numbers alone, as the code looks for it line by line.
 use mathlib.Core.Bool.{true, false, _&&_}
 use mathlib.Core.List.{List, [], _∷_}
+use mathlib.Core.Path.{_≡_}
 use Prim.Native.Nat.{ℕ, zero, suc, _+_}
+use Prim.{Unit}
 use lib.Dec.{leb, eqb}
 use lib.ListN.{length, take, drop}
 use Rattle.laws.specs.Cut.{cut, lineLen}
@@ -9,7 +11,7 @@ use Rattle.laws.specs.Choice.{pick}
 use Rattle.kind.specs.Kind.{datasetNumber}
 use Rattle.parts.specs.declared.Seen.{Seen}
 use Rattle.parts.specs.declared.Extent.{Extent}
-use Rattle.parts.specs.Parts.{columnsIn, closes, Part, numberOf, lineStart, closingStart, pastOf, throughOf}
+use Rattle.parts.specs.Parts.{columnsIn, closes, Part, numberOf, lineStart, closingStart, pastOf, throughOf, bytesIn, Stand, outside, opened, inside}
 
 abbrev pub seen : ℕ → ℕ → ℕ → ℕ → ℕ → Seen
 seen p n at v b = record { place = p; lines = n; first = at; number = v; body = b }
@@ -52,3 +54,28 @@ columnsAt stop at file = columnsIn (pick (leb stop at) [] (take (lineLen (drop a
 -- the 80 columns of line k of lines that begin at the byte from and stop before the byte stop
 unfoldable pub lineFrom : ℕ → ℕ → List ℕ → ℕ → List ℕ
 lineFrom stop from file k = columnsAt stop (skipTo k stop from (cut (drop from file) .lines)) file
+
+-- what the code keeps of where a file stands
+abbrev pub image : Stand → Seen
+image outside = seen 0 0 0 0 0
+image (opened n at o) = seen 1 n at 0 0
+image (inside n at o v ls) = seen 2 n at (datasetNumber (columnsIn v)) (at + bytesIn (o ∷ v ∷ []))
+
+-- as many lines and bytes have come as a set's lines so far are
+abbrev pub Fitting : Stand → ℕ → ℕ → Type 0
+Fitting outside n at = Unit {0}
+Fitting (opened m b o) n at = (n ≡ suc m) × (at ≡ b + suc (length o))
+Fitting (inside m b o v ls) n at = (n ≡ m + suc (suc (length ls))) × (at ≡ (b + bytesIn (o ∷ v ∷ [])) + bytesIn ls)
+
+-- what is found is the first of the sets
+pub record First (ps : List Part) (e : Extent) : Type 0 where
+  pub set : Part
+  pub others : List Part
+  pub sets : ps ≡ set ∷ others
+  pub lines : e .lines ≡ set .lines
+  pub first : e .first ≡ set .bytes
+  pub number : e .number ≡ numberOf set
+  pub body : e .body ≡ lineStart set 0
+  pub closing : e .closing ≡ closingStart set
+  pub past : e .past ≡ pastOf set
+  pub through : e .through ≡ throughOf set

@@ -2,32 +2,21 @@
 use mathlib.Core.Path.{_≡_, refl, sym, ap, _∙_}
 use mathlib.Core.Bool.{Bool, true, false, _&&_}
 use mathlib.Core.List.{List, [], _∷_, _++_}
-use Prim.{Unit, tt}
-use Prim.Native.Nat.{ℕ, zero, suc, _+_, _-_, _≤_, _<_}
+use Prim.{tt}
+use Prim.Native.Nat.{ℕ, suc, _+_, _-_, _≤_, _<_}
 use native.Mathlib.Numerals.{add-one}
 use native.Mathlib.Omega.{arith}
 use lib.Dec.{eqb}
 use lib.ListN.{length, take, drop, length-append}
 use Rattle.laws.specs.Cut.{cut, lineLen}
-use Rattle.laws.specs.Choice.{pick, false-not-true}
+use Rattle.laws.specs.Choice.{pick}
+use Rattle.laws.specs.ChoiceLaws.{false-not-true}
 use Rattle.kind.specs.Kind.{datasetNumber}
 use Rattle.parts.specs.declared.Seen.{Seen}
 use Rattle.parts.specs.declared.Extent.{Extent}
-use Rattle.parts.specs.Parts.{columnsIn, closes, bytesIn, Part, part, Stand, outside, opened, inside, next, ended, partsFrom, numberOf, lineStart, closingStart, pastOf, throughOf}
+use Rattle.parts.specs.Parts.{columnsIn, closes, bytesIn, Part, part, Stand, outside, opened, inside, partsFrom, numberOf, lineStart, closingStart, pastOf, throughOf}
 use Rattle.parts.specs.PartsLaws.{bytesIn-append, lines-at, line-length, lines-end}
-use Rattle.parts.specs.Scan.{seen, extent, nowhere, firstOf, seenStep, scanFrom}
-
--- what the code keeps of where a file stands
-abbrev pub image : Stand → Seen
-image outside = seen 0 0 0 0 0
-image (opened n at o) = seen 1 n at 0 0
-image (inside n at o v ls) = seen 2 n at (datasetNumber (columnsIn v)) (at + bytesIn (o ∷ v ∷ []))
-
--- as many lines and bytes have come as a set's lines so far are
-abbrev pub Fitting : Stand → ℕ → ℕ → Type 0
-Fitting outside n at = Unit {0}
-Fitting (opened m b o) n at = (n ≡ suc m) × (at ≡ b + suc (length o))
-Fitting (inside m b o v ls) n at = (n ≡ m + suc (suc (length ls))) × (at ≡ (b + bytesIn (o ∷ v ∷ [])) + bytesIn ls)
+use Rattle.parts.specs.Scan.{seen, extent, nowhere, firstOf, seenStep, scanFrom, image, Fitting, First}
 
 -- the number line of a set
 pub fitting-number : (m b : ℕ) (o l : List ℕ) (n at : ℕ) → Fitting (opened m b o) n at → Fitting (inside m b o l []) (suc n) (at + suc (length l))
@@ -107,19 +96,6 @@ pub seenStep-number : (s : Seen) (n at : ℕ) (l : List ℕ) (v b : ℕ) → s .
     → seen 2 (s .lines) (s .first) v b ≡ seenStep s n at l
 unfolding seenStep
 seenStep-number s n at l v b p e q = rw (p, e, q) refl
-
--- what is found is the first of the sets
-pub record First (ps : List Part) (e : Extent) : Type 0 where
-  pub set : Part
-  pub others : List Part
-  pub sets : ps ≡ set ∷ others
-  pub lines : e .lines ≡ set .lines
-  pub first : e .first ≡ set .bytes
-  pub number : e .number ≡ numberOf set
-  pub body : e .body ≡ lineStart set 0
-  pub closing : e .closing ≡ closingStart set
-  pub past : e .past ≡ pastOf set
-  pub through : e .through ≡ throughOf set
 
 pub found-first : (ps : List Part) (e : Extent) → e ≡ firstOf ps → e .found ≡ true → First ps e
 unfolding firstOf

@@ -7,26 +7,19 @@ use Prim.{tt}
 use Prim.Native.Nat.{ℕ, zero, suc, _+_, _-_, _≤_, _<_}
 use native.Mathlib.Omega.{arith}
 use borrow.Author.Tests.{le-leb, lt-leb, eqb-true}
-use lib.Dec.{leb, eqb}
+use lib.Dec.{eqb}
 use native.Mathlib.Nat.{le-refl}
 use lib.ListN.{length, getD, take, drop, length-append, length-drop, take-append-drop, List·getD-eq-default}
 use lib.Seq.{drop-cons, take-all, length-take-le, getD-drop}
 use Rattle.line.specs.LineLaws.{lineLen-most}
-use Rattle.laws.specs.Choice.{pick, below-or-not}
+use Rattle.laws.specs.Choice.{pick}
+use Rattle.laws.specs.ChoiceLaws.{below-or-not}
 use Rattle.laws.specs.Cut.{cut, lineLen}
-use Rattle.parts.specs.Parts.{columnsIn, lineOf, closes, bytesIn, Part, part, Stand, outside, opened, inside, partsFrom, lineStart, closingStart, pastOf, throughOf}
-use Rattle.parts.specs.PartsLaws.{bytesIn-append, Past, lines-past, lines-at, line-length, lines-end}
-use Rattle.parts.specs.ScanLaws.{Fitting, fitting-number, fitting-line}
-use Rattle.parts.specs.Scan.{skipTo, columnsAt}
-
--- the first of these sets among lines, which n lines and at bytes come before
-pub record Among (n at : ℕ) (ls : List (List ℕ)) (p : Part) (ps : List Part) : Type 0 where
-  pub before : List (List ℕ)
-  pub more : List (List ℕ)
-  pub lines : ls ≡ before ++ (p .opening ∷ p .number ∷ (p .body ++ (p .closing ∷ more)))
-  pub count : p .lines ≡ n + length before
-  pub bytes : p .bytes ≡ at + bytesIn before
-  pub rest : ps ≡ partsFrom outside (throughOf p) (pastOf p) more
+use Rattle.parts.specs.Parts.{columnsIn, lineOf, closes, bytesIn, Part, part, outside, opened, inside, partsFrom, lineStart, closingStart, pastOf, throughOf}
+use Rattle.parts.specs.PartsLaws.{bytesIn-append, lines-past, lines-at, line-length, lines-end}
+use Rattle.parts.specs.ScanLaws.{fitting-number, fitting-line}
+use Rattle.parts.specs.Scan.{skipTo, columnsAt, Fitting}
+use Rattle.parts.specs.Set.{Among, remaining, Standing, Somewhere}
 
 -- the same from inside it, with the lines so far
 record Within (m b : ℕ) (o v : List ℕ) (bs ls : List (List ℕ)) (p : Part) (ps : List Part) : Type 0 where
@@ -112,21 +105,6 @@ pub among : (n at : ℕ) (ls : List (List ℕ)) (p : Part) (ps : List Part) → 
 unfolding partsFrom
 among n at [] p ps e = let z : 0 ≡ suc (length ps) = ap length e in absurd (omega arith)
 among n at (l ∷ ls) p ps e = among-by n at l ls p ps (closes l) (among (suc n) (at + suc (length l)) ls p ps) e
-
--- the sets of a file from the byte at on, which n lines come before
-abbrev pub remaining : List ℕ → ℕ → ℕ → List Part
-remaining file n at = partsFrom outside n at (cut (drop at file) .lines)
-
--- the first of them: its lines, and those after it, by their bytes
-pub record Standing (file : List ℕ) (n at : ℕ) (p : Part) (ps : List Part) : Type 0 where
-  pub more : List (List ℕ)
-  pub count : throughOf p ≤ n + (pastOf p - at)
-  pub from : at ≤ p .bytes
-  pub inside : lineStart p 0 ≤ length file
-  pub own : cut (drop (lineStart p 0) file) .lines ≡ p .body ++ (p .closing ∷ more)
-  pub later : closingStart p < pastOf p
-  pub past : pastOf p ≤ length file
-  pub rest : ps ≡ remaining file (throughOf p) (pastOf p)
 
 -- as many bytes as lines, at least
 lines-bytes : (ls : List (List ℕ)) → length ls ≤ bytesIn ls
@@ -342,12 +320,6 @@ module _ (file : List ℕ) (n at : ℕ) (p : Part) (ps : List Part) (s : Standin
   line-end k h =
       let l = here k h in
       rw (l .size) (sym (getD-drop (lineStart p k) file (lineLen (drop (lineStart p k) file)) 0) ∙ lineLen-end (drop (lineStart p k) file) (l .ended))
-
--- every set of a file stands in it
-pub record Somewhere (file : List ℕ) (p : Part) (ps : List Part) : Type 0 where
-  pub before : ℕ
-  pub from : ℕ
-  pub stands : Standing file before from p ps
 
 pub somewhere : (file : List ℕ) (i n at : ℕ) (ls : List Part) (p : Part) (ps : List Part) → at ≤ length file → remaining file n at ≡ ls → drop i ls ≡ p ∷ ps → Somewhere file p ps
 somewhere file zero n at ls p ps a r e = record { before = n; from = at; stands = standing file n at p ps a (r ∙ e) }

@@ -4,9 +4,8 @@ use mathlib.Core.List.{List}
 use Prim.Native.Nat.{ℕ, _≤_, _<_}
 use lib.ListN.{length}
 use Rattle.parts.specs.declared.Extent.{Extent}
-use Rattle.parts.specs.Scan.{firstOf}
-use Rattle.parts.specs.ScanLaws.{First}
-use Rattle.parts.specs.SetLaws.{remaining, Standing}
+use Rattle.parts.specs.Scan.{firstOf, First}
+use Rattle.parts.specs.Set.{remaining, Standing}
 
 -- outside sets at the byte at, which n lines come before; e says where the next set stands, or that none is left
 pub record Between (file : List ℕ) (n at : ℕ) (e : Extent) : Type 0 where

@@ -6,9 +6,10 @@ use Prim.Native.Nat.{ℕ, _≤_}
 use native.Mathlib.Omega.{arith}
 use Rattle.parts.specs.declared.Extent.{Extent}
 use Rattle.parts.specs.Parts.{Part, closingStart}
-use Rattle.parts.specs.Scan.{firstOf}
-use Rattle.parts.specs.ScanLaws.{First, found-first, found-none}
-use Rattle.parts.specs.SetLaws.{remaining, Standing, standing}
+use Rattle.parts.specs.Scan.{firstOf, First}
+use Rattle.parts.specs.ScanLaws.{found-first, found-none}
+use Rattle.parts.specs.Set.{remaining, Standing}
+use Rattle.parts.specs.SetLaws.{standing}
 use Rattle.parts.specs.Turn.{Between, Turn}
 
 -- a set begins before its closing delimiter

@@ -9,8 +9,10 @@ use borrow.Author.Tests.{ltb-false}
 use lib.Dec.{ltb, eqb}
 use lib.ListN.{length, getD, take, drop, replicate, length-append, length-drop, length-replicate, getD-replicate}
 use lib.Seq.{take-suc, take-at, take-all, drop-drop, getD-take, getD-drop, getD-append-add, length-take-le}
-use Rattle.laws.specs.Choice.{pick, below-or-not}
-use Rattle.laws.specs.Run.{run, run-append}
+use Rattle.laws.specs.Choice.{pick}
+use Rattle.laws.specs.ChoiceLaws.{below-or-not}
+use Rattle.laws.specs.Run.{run}
+use Rattle.laws.specs.RunLaws.{run-append}
 use Rattle.text.specs.Parts.{isDigit}
 use Rattle.line.specs.Line.{columns, filled}
 use Rattle.line.specs.LineLaws.{columns-take, columns-within, filled-length}

@@ -10,7 +10,8 @@ use borrow.Author.Tests.{eqb-true, leb-true}
 use lib.Dec.{eqb, leb}
 use lib.IntN.{ℤ, pos, negsuc}
 use lib.ListN.{length, getD}
-use Rattle.laws.specs.Choice.{pick, and-left, and-right, false-not-true}
+use Rattle.laws.specs.Choice.{pick}
+use Rattle.laws.specs.ChoiceLaws.{and-left, and-right, false-not-true}
 use Rattle.text.specs.Parts.{signed}
 use Rattle.codes.specs.Rule.{Rule, keeps, oneOf, codes, span}
 use Rattle.codes.specs.Form.{Form, Optional, skip, text, identification, real, integer, never, within, ordinateType, count, spacing}

@@ -1,30 +1,22 @@
 -- Every byte of a data line that is no blank lies in the columns of a stored number.
-use mathlib.Core.Path.{_≡_, refl, sym, ap, subst, _∙_}
+use mathlib.Core.Path.{_≡_, refl, sym, ap, _∙_}
 use mathlib.Core.Logic.{⊎-elim}
-use mathlib.Core.Bool.{true, false}
 use mathlib.Core.List.{List, [], _∷_, _++_, map}
-use Prim.Native.Nat.{ℕ, zero, suc, _+_, _-_, _*_, _<_, _≤_}
+use Prim.Native.Nat.{ℕ, zero, suc, _+_, _-_, _<_, _≤_}
 use native.Mathlib.Omega.{arith}
-use lib.ListN.{length, getD, take, drop, length-take, List·getD-append}
+use lib.ListN.{length, getD, take, length-take}
 use lib.Seq.{getD-take, getD-append-add}
-use Rattle.laws.specs.Choice.{false-not-true, below-or-not}
+use Rattle.laws.specs.ChoiceLaws.{below-or-not}
 use Rattle.text.specs.Blank.{Blanks, none, one}
-use Rattle.line.specs.Line.{filled}
-use Rattle.layout.specs.Columns.{fieldStart, fieldPast, lineOf, fieldOf}
-use Rattle.layout.specs.Layout.{layoutOf, fieldsOf, numbersOf}
+use Rattle.layout.specs.Columns.{fieldStart, fieldPast}
+use Rattle.layout.specs.Layout.{layoutOf}
 use Rattle.field.specs.Item.{Item}
-use Rattle.rows.specs.Row.{Field, Row, cut}
+use Rattle.rows.specs.Row.{Field, cut}
 use Rattle.rows.specs.Records.{E, dataRow}
 use Rattle.record.specs.Written.{FieldsIn, rest, skipped, stands, Written}
 use Rattle.places.specs.FieldLaws.{not-real}
 use Rattle.places.specs.StoredLaws.{map-take, fieldStart-take}
-
--- field k of these widths has column a
-pub record Covers (ws : List ℕ) (a : ℕ) : Type 0 where
-  pub field : ℕ
-  pub some : field < length ws
-  pub from : fieldStart ws field ≤ a
-  pub past : a < fieldPast ws field
+use Rattle.places.specs.Cover.{Covers}
 
 blanks-at : {l : List ℕ} (a : ℕ) → Blanks l → getD l a 32 ≡ 32
 blanks-at a none = refl

@@ -1,13 +1,14 @@
 -- The dataset number, the declared count and the case of a set in a text are the list's.
 use mathlib.Core.Path.{_≡_, refl, sym, ap, subst, _∙_}
 use mathlib.Core.Bool.{Bool, true, false}
-use mathlib.Core.List.{List, [], _∷_, _++_, map}
+use mathlib.Core.List.{List, [], _∷_, map}
 use Prim.Native.Nat.{ℕ, zero, suc, _<_}
 use native.Mathlib.Omega.{arith}
 use borrow.Author.Tests.{eqb-true}
 use lib.Dec.{eqb}
 use lib.ListN.{length, getD, drop, List·getD-map}
-use Rattle.laws.specs.Choice.{pick, false-not-true}
+use Rattle.laws.specs.Choice.{pick}
+use Rattle.laws.specs.ChoiceLaws.{false-not-true}
 use Rattle.line.specs.Line.{columns, withoutReturn, filled}
 use Rattle.line.specs.LineLaws.{filled-length}
 use Rattle.kind.specs.KindLaws.{datasetNumber-complete}
@@ -17,7 +18,7 @@ use Rattle.rows.specs.TypedSets.{kindOf, isTyped, sequence, typedSets, lineSeve
 use Rattle.rows.specs.Records.{plain, records, recordOf, dataForm}
 use Rattle.record.specs.Check.{itemsOf}
 use Rattle.record.specs.Written.{Written}
-use Rattle.reading.specs.LineReading.{written-complete}
+use Rattle.reading.specs.LineReadingLaws.{written-complete}
 use Rattle.theory.specs.Sets.{Set, set}
 use Rattle.theory.specs.Due.{rowsOf}
 use Rattle.theory.specs.Proper.{TypedLines, SetLines}
@@ -26,7 +27,7 @@ use Rattle.parts.specs.Function as Function
 use Rattle.record.specs.Declared.{countBy, countIn}
 use Rattle.record.specs.DeclaredLaws.{Declares, declares-items}
 use Rattle.places.specs.Holds.{columnsOf, Holds, Stand}
-use Rattle.places.specs.Declared.{seventhOf, declared, caseOf}
+use Rattle.places.specs.Declared.{seventhOf, declared, caseOf, Found}
 
 -- line k of a typed set is written by its row
 pub typed-line : {rs : List Row} {iss : List (List Item)} {css : List (List ℕ)} (k : ℕ) → TypedLines rs iss css → k < length rs
@@ -97,13 +98,6 @@ module _ {A : Type 0} (f : Set → A) (g : Part → A) (same : (s : Set) (p : Pa
 pub as-many : {n at : ℕ} {ss : List Set} {ps : List Part} {ls : List (List ℕ)} → Stand n at ss ps ls → length ps ≡ length ss
 as-many (Stand.end b) = refl
 as-many (Stand.more before after b l c h r) = ap suc (as-many r)
-
--- of one set, by its place
-pub record Found (ps : List Part) (k : ℕ) (s : Set) : Type 0 where
-  pub part : Part
-  pub others : List Part
-  pub sets : drop k ps ≡ part ∷ others
-  pub holds : Holds s part
 
 pub stand-at : {n at : ℕ} {ss : List Set} {ps : List Part} {ls : List (List ℕ)} (k : ℕ) (s : Set) (rest : List Set) → Stand n at ss ps ls → drop k ss ≡ s ∷ rest → Found ps k s
 stand-at zero s rest (Stand.end b) e = let z : 0 ≡ suc (length rest) = ap length e in absurd (omega arith)

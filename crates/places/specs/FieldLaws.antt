@@ -1,27 +1,17 @@
 -- One field of a line of reals: the item in its columns, and its spelling there.
-use mathlib.Core.Path.{_≡_, refl, sym, ap, subst, _∙_}
-use mathlib.Core.Bool.{Bool}
+use mathlib.Core.Path.{_≡_, refl, ap, _∙_}
 use mathlib.Core.List.{List, [], _∷_, _++_, map}
-use Prim.Native.Nat.{ℕ, zero, suc, _+_, _<_}
+use Prim.Native.Nat.{ℕ, zero, suc, _<_}
 use native.Mathlib.Omega.{arith}
-use lib.IntN.{ℤ}
 use lib.ListN.{length, getD, take, drop}
 use lib.Seq.{take-at, drop-at, drop-drop}
-use Rattle.real.specs.Spelling.{RealSpelling}
 use Rattle.codes.specs.Form.{Form, skip, text, identification, real, integer}
 use Rattle.layout.specs.Columns.{fieldStart}
 use Rattle.field.specs.Item.{Item}
 use Rattle.rows.specs.Row.{Field}
 use Rattle.rows.specs.Records.{E}
 use Rattle.record.specs.Written.{Stands, a-text, a-identification, an-integer, a-blank, a-real, FieldsIn, rest, skipped, stands}
-
--- an item that is a real, spelled in these columns
-pub record Spelled (i : Item) (cols : List ℕ) : Type 0 where
-  pub minus : Bool
-  pub coefficient : ℕ
-  pub scale : ℤ
-  pub item : i ≡ Item.real minus coefficient scale
-  pub spelling : RealSpelling minus coefficient scale cols
+use Rattle.places.specs.Field.{Spelled}
 
 -- 0 for a real, 1 for any other form
 abbrev other : Form → ℕ

@@ -1,6 +1,6 @@
 -- The sets of a list as they stand in a text, each with its own lines.
 use mathlib.Core.Path.{_≡_}
-use mathlib.Core.Bool.{true}
+use mathlib.Core.Bool.{true, false}
 use mathlib.Core.List.{List, [], _∷_, _++_, map}
 use Prim.Native.Nat.{ℕ, _+_}
 use lib.ListN.{length}
@@ -9,7 +9,7 @@ use Rattle.kind.specs.Kind.{Delimiter, NumberLine}
 use Rattle.theory.specs.Sets.{Set}
 use Rattle.theory.specs.Proper.{SetLines, BlankLines}
 use Rattle.ends.specs.Short.{Short}
-use Rattle.parts.specs.Parts.{columnsIn, bytesIn, Part, pastOf, throughOf}
+use Rattle.parts.specs.Parts.{columnsIn, bytesIn, Part, pastOf, throughOf, closes}
 
 -- the columns of lines, their ends left out
 abbrev pub columnsOf : List (List ℕ) → List (List ℕ)
@@ -30,3 +30,8 @@ pub data Stand : ℕ → ℕ → List Set → List Part → List (List ℕ) → 
   more : {n at : ℕ} {s : Set} {ss : List Set} {p : Part} {ps : List Part} (before after : List (List ℕ)) → BlankLines (columnsOf before)
       → p .lines ≡ n + length before → p .bytes ≡ at + bytesIn before → Holds s p → Stand (throughOf p) (pastOf p) ss ps after
       → Stand n at (s ∷ ss) (p ∷ ps) (before ++ (p .opening ∷ p .number ∷ (p .body ++ (p .closing ∷ after))))
+
+-- no line is a delimiter
+pub data Open : List (List ℕ) → Type 0 where
+  none : Open []
+  more : {l : List ℕ} {ls : List (List ℕ)} → closes l ≡ false → Open ls → Open (l ∷ ls)

@@ -1,29 +1,24 @@
 -- The parts of a proper writing are its sets.
 use mathlib.Core.Path.{_≡_, refl, sym, ap, subst, _∙_}
-use mathlib.Core.Bool.{Bool, true, false}
-use mathlib.Core.List.{List, [], _∷_, _++_, map, append-assoc, append-nil}
+use mathlib.Core.Bool.{true, false}
+use mathlib.Core.List.{List, [], _∷_, _++_, append-assoc, append-nil}
 use Prim.Native.Nat.{ℕ, suc, _+_}
 use native.Mathlib.Nat.{add-zero}
 use native.Mathlib.Omega.{arith}
 use lib.ListN.{length, length-append}
-use Rattle.laws.specs.Choice.{pick}
 use Rattle.line.specs.Line.{columns, filled}
 use Rattle.kind.specs.Kind.{Delimiter, NumberLine}
 use Rattle.kind.specs.KindLaws.{isDelimiter-complete}
 use Rattle.theory.specs.Sets.{Set}
 use Rattle.theory.specs.Proper.{Inside, SetLines, BlankLines, Lines}
-use Rattle.ends.specs.LineTests.{inside-complete, blank-inside}
-use Rattle.ends.specs.NoDelimiter.{NoDelimiter, set-none}
+use Rattle.ends.specs.LineTestsLaws.{inside-complete, blank-inside}
+use Rattle.ends.specs.NoDelimiter.{NoDelimiter}
+use Rattle.ends.specs.NoDelimiterLaws.{set-none}
 use Rattle.ends.specs.Short.{Short}
 use Rattle.ends.specs.ShortLaws.{short-left, short-right}
-use Rattle.parts.specs.Parts.{closes, bytesIn, Part, part, outside, opened, inside, partsFrom, pastOf, throughOf}
+use Rattle.parts.specs.Parts.{closes, bytesIn, Part, part, outside, inside, partsFrom, pastOf, throughOf}
 use Rattle.parts.specs.PartsLaws.{bytesIn-append}
-use Rattle.places.specs.Holds.{columnsOf, Holds, Stand}
-
--- no line is a delimiter
-pub data Open : List (List ℕ) → Type 0 where
-  none : Open []
-  more : {l : List ℕ} {ls : List (List ℕ)} → closes l ≡ false → Open ls → Open (l ∷ ls)
+use Rattle.places.specs.Holds.{columnsOf, Stand, Open, none, more}
 
 line-open : (l : List ℕ) → Inside (columns true l) → closes l ≡ false
 unfolding closes

@@ -24,9 +24,9 @@ use Rattle.parts.specs.Function as Function
 use Rattle.places.specs.Holds.{columnsOf, Holds}
 use Rattle.places.specs.Declared.{caseOf}
 use Rattle.places.specs.DeclaredLaws.{case-held}
-use Rattle.places.specs.Stored.{storedCount, storedItem}
-use Rattle.places.specs.StoredLaws.{ownColumns, stored-spelled, stored-case, set-data, line-enough}
-use Rattle.places.specs.FieldLaws.{Spelled}
+use Rattle.places.specs.Stored.{storedCount, storedItem, ownColumns}
+use Rattle.places.specs.StoredLaws.{stored-spelled, stored-case, set-data, line-enough}
+use Rattle.places.specs.Field.{Spelled}
 use Rattle.places.specs.BytesLaws.{reaches, value-some}
 
 -- bytes of the first lines

@@ -17,13 +17,14 @@ use Rattle.rows.specs.TypedSets.{headerLines}
 use Rattle.theory.specs.Sets.{Set}
 use Rattle.parts.specs.Parts as Parts
 use Rattle.parts.specs.Function as Function
-use Rattle.parts.specs.SetLaws.{Standing, Somewhere, line-bytes}
+use Rattle.parts.specs.Set.{Standing, Somewhere}
+use Rattle.parts.specs.SetLaws.{line-bytes}
 use Rattle.places.specs.Holds.{Holds}
 use Rattle.places.specs.Declared.{declared, caseOf}
 use Rattle.places.specs.DeclaredLaws.{declared-held, case-held}
-use Rattle.places.specs.Stored.{storedCount, storedItem}
-use Rattle.places.specs.StoredLaws.{ownColumns, stored-spelled}
-use Rattle.places.specs.FieldLaws.{Spelled}
+use Rattle.places.specs.Stored.{storedCount, storedItem, ownColumns}
+use Rattle.places.specs.StoredLaws.{stored-spelled}
+use Rattle.places.specs.Field.{Spelled}
 use Rattle.places.specs.BytesLaws.{field-bytes}
 
 -- as many numbers are stored as the list has

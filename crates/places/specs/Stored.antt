@@ -1,14 +1,21 @@
 -- The stored numbers of a 58 of a list (01, "Records": "With n fields in a full line and k numbers in a value, stored number j has as its
 -- own columns those of field j mod n on data line j / n (whole part), all from 0"); eleven lines come before the data lines.
-use mathlib.Core.List.{[]}
-use Prim.Native.Nat.{ℕ, _+_, _*_}
-use lib.ListN.{getD}
-use Rattle.layout.specs.Columns.{lineOf, fieldOf}
-use Rattle.layout.specs.Layout.{fieldsOf, numbersOf}
+use mathlib.Core.List.{[], List}
+use mathlib.Core.Path.{_≡_}
+use Prim.Native.Nat.{ℕ, _+_, _*_, _-_, _<_}
+use lib.ListN.{getD, length, take, drop}
+use Rattle.line.specs.Line.{filled}
+use Rattle.layout.specs.Columns.{lineOf, fieldOf, fieldStart}
+use Rattle.layout.specs.Layout.{fieldsOf, numbersOf, layoutOf}
 use Rattle.field.specs.Item.{Item, blank}
+use Rattle.rows.specs.Row.{cut}
+use Rattle.rows.specs.Records.{dataRow}
 use Rattle.rows.specs.TypedSets.{headerLines}
+use Rattle.record.specs.Written.{Written}
 use Rattle.theory.specs.Sets.{Set}
+use Rattle.theory.specs.Due.{linesFor}
 use Rattle.places.specs.Declared.{declared, caseOf}
+use Rattle.parts.specs.Parts as Parts
 
 -- how many there are
 unfoldable pub storedCount : Set → ℕ
@@ -17,3 +24,15 @@ storedCount s = declared s * numbersOf (caseOf s)
 -- number j
 unfoldable pub storedItem : Set → ℕ → Item
 storedItem s j = getD (getD (s .lines) (headerLines + lineOf (fieldsOf (caseOf s)) j) []) (fieldOf (fieldsOf (caseOf s)) j) blank
+
+-- the own columns of a stored number in a text, by its case
+unfoldable pub ownColumns : ℕ → Parts.Part → ℕ → List ℕ
+ownColumns c p j =
+    take (getD (layoutOf c .widths) (fieldOf (fieldsOf c) j) 0)
+    (drop (fieldStart (layoutOf c .widths) (fieldOf (fieldsOf c) j)) (Parts.lineOf p (headerLines + lineOf (fieldsOf c) j)))
+
+-- the same of a set of a list
+pub record DataLines (s : Set) (css : List (List ℕ)) : Type 0 where
+  pub written : (k : ℕ) → k < linesFor (fieldsOf (caseOf s)) (storedCount s)
+      → Written (cut (storedCount s - k * fieldsOf (caseOf s)) (dataRow (caseOf s))) (getD (s .lines) (headerLines + k) []) (filled (getD css (headerLines + k) []))
+  pub count : length css ≡ headerLines + linesFor (fieldsOf (caseOf s)) (storedCount s)

@@ -1,15 +1,14 @@
 -- The stored numbers of a 58 of a list are spelled in their own columns of its lines.
 use mathlib.Core.Path.{_≡_, refl, sym, ap, subst, _∙_}
 use mathlib.Core.Logic.{⊎-elim}
-use mathlib.Core.Bool.{true, false}
-use mathlib.Core.List.{List, [], _∷_, _++_, map}
-use Prim.Native.Nat.{ℕ, zero, suc, _+_, _-_, _*_, _/_, _<_, _≤_}
+use mathlib.Core.List.{List, [], _∷_, map}
+use Prim.Native.Nat.{ℕ, zero, suc, _+_, _-_, _*_, _<_, _≤_}
 use native.Mathlib.Nat.{le-div-iff-mul-le, suc-mul, zero-mul, mul-zero}
 use native.Mathlib.Omega.{arith}
 use borrow.Author.Tests.{le-ltb}
 use lib.ListN.{length, getD, take, drop, length-append, length-take}
-use lib.Seq.{getD-take, getD-append-add, length-take-le}
-use Rattle.laws.specs.Choice.{pick, false-not-true, below-or-not}
+use lib.Seq.{getD-take, getD-append-add}
+use Rattle.laws.specs.ChoiceLaws.{false-not-true, below-or-not}
 use Rattle.line.specs.Line.{filled}
 use Rattle.layout.specs.Columns.{fieldStart, lineOf, fieldOf}
 use Rattle.layout.specs.ColumnsLaws.{fieldOf-inside, stored-at}
@@ -29,8 +28,9 @@ use Rattle.parts.specs.Parts as Parts
 use Rattle.places.specs.Holds.{columnsOf, Holds}
 use Rattle.places.specs.Declared.{declared, caseOf}
 use Rattle.places.specs.DeclaredLaws.{typed-line, typed-length, typed-58, lineOf-columns}
-use Rattle.places.specs.Stored.{storedCount, storedItem}
-use Rattle.places.specs.FieldLaws.{Spelled, field-at}
+use Rattle.places.specs.Stored.{storedCount, storedItem, ownColumns, DataLines}
+use Rattle.places.specs.Field.{Spelled}
+use Rattle.places.specs.FieldLaws.{field-at}
 
 -- row k of the lines that hold what is left
 numberRows-at : (r : Row) (m left k : ℕ) → k < m → getD (numberRows r m left) k (plain []) ≡ cut (left - k * length (r .fields)) r
@@ -98,12 +98,6 @@ lists-58 : (s : Set) → s .number ≡ 58 → listsOf kind58 (s .lines) ≡ list
 unfolding listsOf following typedSets storedCount declared caseOf storedBy
 lists-58 s e = rw e refl
 
--- the own columns of a stored number in a text, by its case
-unfoldable pub ownColumns : ℕ → Parts.Part → ℕ → List ℕ
-ownColumns c p j =
-    take (getD (layoutOf c .widths) (fieldOf (fieldsOf c) j) 0)
-    (drop (fieldStart (layoutOf c .widths) (fieldOf (fieldsOf c) j)) (Parts.lineOf p (headerLines + lineOf (fieldsOf c) j)))
-
 pub stored-case : (s : Set) (j : ℕ) → j < storedCount s → caseOf s < 8
 unfolding storedCount
 stored-case s j h = case-below (caseOf s) (declared s) j h
@@ -120,12 +114,6 @@ module _ (iss : List (List Item)) (css : List (List ℕ)) (c total : ℕ) (e : l
   typed-count =
       typed-length l ∙ length-append (map recordOf (1 ∷ 1 ∷ 1 ∷ 1 ∷ 1 ∷ 2 ∷ 3 ∷ 4 ∷ 4 ∷ 4 ∷ 4 ∷ [])) (listsOf kind58 iss)
       ∙ rw (e, numberRows-length (dataRow c) (linesFor (length (dataRow c .fields)) total) total, dataRow-length c) refl
-
--- the same of a set of a list
-pub record DataLines (s : Set) (css : List (List ℕ)) : Type 0 where
-  pub written : (k : ℕ) → k < linesFor (fieldsOf (caseOf s)) (storedCount s)
-      → Written (cut (storedCount s - k * fieldsOf (caseOf s)) (dataRow (caseOf s))) (getD (s .lines) (headerLines + k) []) (filled (getD css (headerLines + k) []))
-  pub count : length css ≡ headerLines + linesFor (fieldsOf (caseOf s)) (storedCount s)
 
 pub set-data : {s : Set} {css : List (List ℕ)} → SetLines s css → s .number ≡ 58 → DataLines s css
 set-data {s} (SetLines.typed {n} {iss} {css} t l) e =

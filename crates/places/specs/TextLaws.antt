@@ -12,10 +12,7 @@ use Rattle.ends.specs.EndsLaws.{cut-joined}
 use Rattle.parts.specs.Parts.{Part, bytesIn, pastOf, throughOf}
 use Rattle.parts.specs.PartsLaws.{bytesIn-append}
 use Rattle.places.specs.Holds.{Stand}
-
--- a set's lines, its delimiters and its number line among them
-abbrev pub linesOf : Part → List (List ℕ)
-linesOf p = p .opening ∷ p .number ∷ (p .body ++ (p .closing ∷ []))
+use Rattle.places.specs.Text.{linesOf}
 
 joined-append : (a b : List (List ℕ)) (r : List ℕ) → joined (a ++ b) r ≡ joined a [] ++ joined b r
 unfolding joined

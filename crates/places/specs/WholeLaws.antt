@@ -1,36 +1,37 @@
 -- Every byte of a 58's data lines that is no blank, the lines' ends aside, lies in the own columns of a stored number.
-use mathlib.Core.Path.{_≡_, refl, sym, ap, subst, _∙_}
+use mathlib.Core.Path.{_≡_, refl, sym, ap, _∙_}
 use mathlib.Core.Logic.{⊎-elim}
 use mathlib.Core.Bool.{Bool, true, false}
-use mathlib.Core.List.{List, [], _∷_, _++_}
-use Prim.Native.Nat.{ℕ, zero, suc, _+_, _-_, _*_, _<_, _≤_}
+use mathlib.Core.List.{List, [], _∷_}
+use Prim.Native.Nat.{ℕ, suc, _+_, _-_, _*_, _<_, _≤_}
 use native.Mathlib.Nat.{add-mul-div-right, add-mul-mod-self-right, div-eq-of-lt, mod-eq-of-lt, zero-add}
 use native.Mathlib.Omega.{arith}
 use borrow.Author.Tests.{eqb-true, eqb-false}
 use lib.Dec.{eqb}
 use lib.ListN.{length, getD, take, drop, replicate, List·getD-append, List·getD-map}
 use lib.Seq.{getD-take, getD-drop}
-use Rattle.laws.specs.Choice.{below-or-not}
+use Rattle.laws.specs.ChoiceLaws.{below-or-not}
 use Rattle.line.specs.Line.{columns, withoutReturn, filled}
 use Rattle.line.specs.LineLaws.{columns-take, columns-lf, columns-return, filled-short}
-use Rattle.layout.specs.Columns.{fieldStart, fieldPast, lineOf, fieldOf}
+use Rattle.layout.specs.Columns.{lineOf, fieldOf}
 use Rattle.layout.specs.Layout.{layoutOf, fieldsOf}
 use Rattle.field.specs.Item.{Item}
 use Rattle.rows.specs.TypedSets.{headerLines}
 use Rattle.theory.specs.Sets.{Set}
-use Rattle.theory.specs.Due.{linesFor}
 use Rattle.ends.specs.ShortLaws.{short-at}
 use Rattle.walk.specs.DueLaws.{getD-inside}
 use Rattle.parts.specs.Parts as Parts
 use Rattle.parts.specs.Function as Function
-use Rattle.parts.specs.SetLaws.{Somewhere, line-bytes, line-end}
+use Rattle.parts.specs.Set.{Somewhere}
+use Rattle.parts.specs.SetLaws.{line-bytes, line-end}
 use Rattle.places.specs.Holds.{columnsOf, Holds}
 use Rattle.places.specs.Declared.{caseOf}
 use Rattle.places.specs.DeclaredLaws.{case-held}
 use Rattle.places.specs.Stored.{storedCount}
 use Rattle.places.specs.StoredLaws.{set-data}
-use Rattle.places.specs.CoverLaws.{Covers, data-covered}
+use Rattle.places.specs.CoverLaws.{data-covered}
 use Rattle.places.specs.OrderLaws.{lines-apart, body-length}
+use Rattle.places.specs.Whole.{Owned}
 
 -- the line of a byte
 record In (bs : List (List ℕ)) (at x : ℕ) : Type 0 where
@@ -78,13 +79,6 @@ stored-place : (n k f : ℕ) → f < n → (lineOf n (f + k * n) ≡ k) × (fiel
 unfolding lineOf fieldOf
 stored-place n k f h =
     (add-mul-div-right f k (omega arith) ∙ rw (div-eq-of-lt h, zero-add) refl, add-mul-mod-self-right f k n ∙ mod-eq-of-lt h)
-
--- a stored number whose own columns have byte x
-pub record Owned (p : Parts.Part) (count x : ℕ) : Type 0 where
-  pub index : ℕ
-  pub some : index < count
-  pub from : Function.firstByte p index ≤ x
-  pub past : x < Function.pastByte p index
 
 -- a byte of line 11 + k of a 58, at column a of it
 module _ {s : Set} {p : Parts.Part} (file : List ℕ) (ps : List Parts.Part) (w : Somewhere file p ps) (h : Holds s p) (e : s .number ≡ 58) where

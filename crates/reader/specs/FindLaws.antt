@@ -11,9 +11,10 @@ use Rattle.rows.specs.TypedSets.{lineSeven}
 use Rattle.record.specs.Declared.{caseIn, countIn}
 use Rattle.parts.specs.declared.Extent.{Extent}
 use Rattle.parts.specs.Parts.{Part, partsOf, numberOf, isFunction, lineOf, closingStart}
-use Rattle.parts.specs.Scan.{lineFrom, firstOf}
-use Rattle.parts.specs.ScanLaws.{First, found-first, found-none}
-use Rattle.parts.specs.SetLaws.{remaining, Somewhere, somewhere}
+use Rattle.parts.specs.Scan.{lineFrom, firstOf, First}
+use Rattle.parts.specs.ScanLaws.{found-first, found-none}
+use Rattle.parts.specs.Set.{remaining, Somewhere}
+use Rattle.parts.specs.SetLaws.{somewhere}
 use Rattle.parts.specs.Turn.{Between}
 use Rattle.parts.specs.TurnLaws.{turn, between-none}
 use Rattle.parts.specs.Function.{caseOf, countOf}

@@ -8,9 +8,10 @@ use native.Mathlib.Omega.{arith}
 use borrow.Author.Tests.{eq-eqb, ne-eqb, lt-ltb, le-ltb, ltb-true, leb-true}
 use lib.Dec.{leb, ltb, eqb}
 use lib.ListN.{length}
-use Rattle.laws.specs.Choice.{pick, pick-same, and-left, and-right, false-not-true}
-use Rattle.laws.specs.Ranges.{in-range}
-use Rattle.laws.specs.Table.{agree-below}
+use Rattle.laws.specs.Choice.{pick}
+use Rattle.laws.specs.ChoiceLaws.{pick-same, and-left, and-right, false-not-true}
+use Rattle.laws.specs.RangesLaws.{in-range}
+use Rattle.laws.specs.TableLaws.{agree-below}
 use Rattle.layout.specs.Layout.{layouts, layoutOf, numbersOf}
 use Rattle.real.specs.declared.Real.{Real}
 use Rattle.parts.specs.Parts.{Part, isFunction, lineStart, closingStart}
@@ -21,7 +22,7 @@ use Rattle.reader.specs.declared.Span.{Span}
 use Rattle.reader.specs.Reader.{refused, setsFrom, readIn, realIn, shownOf, numberFrom, reads, whole, isUneven, isComplex, kindOf, valueWith, valuesIn, valueFrom}
 use Rattle.reader.specs.Find.{data58, nothing, dataOf, spanOf, realAt, readAt, valueAt, numberBy, valueBy}
 use Rattle.reader.specs.FindLaws.{stands}
-use Rattle.parts.specs.SetLaws.{Somewhere}
+use Rattle.parts.specs.Set.{Somewhere}
 use Rattle.reader.specs.SpanLaws.{first-own, past-own}
 
 -- a value has one number, two or three

@@ -10,7 +10,8 @@ use Rattle.layout.specs.Layout.{layoutOf, fieldsOf}
 use Rattle.rows.specs.TypedSets.{headerLines}
 use Rattle.parts.specs.Parts.{Part, lineStart, closingStart}
 use Rattle.parts.specs.Scan.{skipTo}
-use Rattle.parts.specs.SetLaws.{Standing, line-at}
+use Rattle.parts.specs.Set.{Standing}
+use Rattle.parts.specs.SetLaws.{line-at}
 use Rattle.parts.specs.Function.{caseOf, dataLine, firstByte, pastByte}
 use Rattle.reader.specs.declared.Data.{Data}
 use Rattle.reader.specs.declared.Span.{Span}

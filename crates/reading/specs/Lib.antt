@@ -1,3 +1,3 @@
-pub mod FieldReading
-pub mod KeptReading
-pub mod LineReading
+pub mod FieldReadingLaws
+pub mod KeptReadingLaws
+pub mod LineReadingLaws

@@ -4,7 +4,7 @@ use mathlib.Core.Bool.{Bool, true, false, _||_}
 use Prim.Native.Nat.{ℕ}
 use borrow.Author.Tests.{eqb-true}
 use lib.Dec.{eqb}
-use Rattle.laws.specs.Choice.{false-not-true}
+use Rattle.laws.specs.ChoiceLaws.{false-not-true}
 use Rattle.real.specs.Spelling.{Letter}
 use Rattle.real.specs.Real.{isLetter}
 

@@ -9,7 +9,7 @@ use borrow.Author.Tests.{eqb-true}
 use lib.Dec.{eqb}
 use lib.ListN.{length, getD, take, drop, take-append-drop, length-drop}
 use lib.Seq.{take-suc, take-all, drop-cons, drop-drop, length-take-le}
-use Rattle.laws.specs.Choice.{and-left, and-right}
+use Rattle.laws.specs.ChoiceLaws.{and-left, and-right}
 use Rattle.text.specs.Blank.{none, one}
 use Rattle.text.specs.Parts.{Digits, more, Sign, isDigit}
 use Rattle.text.specs.PartsLaws.{isDigit-low, isDigit-high, digits-join}

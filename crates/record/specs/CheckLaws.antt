@@ -10,8 +10,10 @@ use borrow.Author.Tests.{eq-eqb, ne-eqb}
 use lib.Dec.{eqb}
 use lib.ListN.{length, getD, take, drop, drop-of-length-le}
 use lib.Seq.{drop-cons, take-nil}
-use Rattle.laws.specs.Choice.{pick, false-not-true, and-left, and-right}
-use Rattle.laws.specs.Ranges.{allAre, in-range}
+use Rattle.laws.specs.Choice.{pick}
+use Rattle.laws.specs.ChoiceLaws.{false-not-true, and-left, and-right}
+use Rattle.laws.specs.Ranges.{allAre}
+use Rattle.laws.specs.RangesLaws.{in-range}
 use Rattle.line.specs.Line.{refusal, passed}
 use Rattle.line.specs.declared.Refusal.{Refusal}
 use Rattle.codes.specs.Form.{Form, skip, text, identification, real, integer, forms, formOf, lastForm}

@@ -9,32 +9,22 @@ use mathlib.Core.Logic.{⊎-elim}
 use lib.Dec.{leb}
 use lib.ListN.{length, take, replicate, length-map}
 use lib.Seq.{take-all, take-nil}
-use Rattle.laws.specs.Choice.{pick, false-not-true, below-or-not}
-use Rattle.laws.specs.Ranges.{in-range}
-use Rattle.laws.specs.Table.{tabulate, agree-below}
-use Rattle.integer.specs.Integer.{integerOf}
-use Rattle.real.specs.Real.{realOf}
+use Rattle.laws.specs.Choice.{pick}
+use Rattle.laws.specs.ChoiceLaws.{false-not-true, below-or-not}
+use Rattle.laws.specs.RangesLaws.{in-range}
+use Rattle.laws.specs.Table.{tabulate}
+use Rattle.laws.specs.TableLaws.{agree-below}
 use Rattle.line.specs.Line.{refusal, passed}
 use Rattle.layout.specs.Columns.{fieldStart, total}
 use Rattle.layout.specs.LayoutLaws.{layoutOf-past, cells-past, widths-six}
 use Rattle.layout.specs.Layout.{layouts, layoutOf, fieldsOf, valuesOf, cellOf}
 use Rattle.codes.specs.Form.{forms, formOf}
-use Rattle.field.specs.Item.{Item, isZeroInteger, isZeroReal, isAboveZero}
-use Rattle.field.specs.Field.{columnsOf, integerItem, realItem}
+use Rattle.field.specs.Item.{Item}
 use Rattle.rows.specs.Row.{Field, Condition, none, zeroIfUneven, aboveZero, firstNotAbove, breach}
 use Rattle.rows.specs.TabledLaws.{recordOf-past}
 use Rattle.rows.specs.Records.{records, recordOf, dataRow, fieldList, noRecord}
 use Rattle.record.specs.Check.{breachFault, itemsOf, conditionFault}
-
--- what the columns from a to before e hold: the integer 0, a zero, a number above zero
-abbrev pub zeroIntegerIn : ℕ → ℕ → List ℕ → Bool
-zeroIntegerIn a e line = isZeroInteger (integerItem (integerOf (columnsOf a e line)))
-
-abbrev pub zeroRealIn : ℕ → ℕ → List ℕ → Bool
-zeroRealIn a e line = isZeroReal (realItem (realOf (columnsOf a e line)))
-
-abbrev pub aboveIn : ℕ → ℕ → List ℕ → Bool
-aboveIn a e line = isAboveZero (realItem (realOf (columnsOf a e line)))
+use Rattle.record.specs.Condition.{zeroIntegerIn, zeroRealIn, aboveIn}
 
 dataForm-cases : (a b c : Bool) → breachFault (recordOf 3 .fields) (pick a (pick b (pick c 0 5) 4) 0)
     ≡ pick a (pick b (pick c passed (refusal 14 44)) (refusal 14 31)) passed

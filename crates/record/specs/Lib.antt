@@ -1,6 +1,7 @@
 pub mod Check
 pub mod CheckLaws
 pub mod NumberLaws
+pub mod Condition
 pub mod ConditionLaws
 pub mod Declared
 pub mod DeclaredLaws

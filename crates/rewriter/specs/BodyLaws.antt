@@ -18,7 +18,7 @@ use Rattle.line.specs.Line.{columns}
 use Rattle.line.specs.LineLaws.{columns-take, columns-within}
 use Rattle.parts.specs.Parts.{bytesIn, Part, lineStart, closingStart}
 use Rattle.parts.specs.PartsLaws.{lines-at, line-length, lines-end, lines-past}
-use Rattle.parts.specs.SetLaws.{Standing}
+use Rattle.parts.specs.Set.{Standing}
 use Rattle.output.specs.Output.{ended}
 use Rattle.rewriter.specs.Rewriter.{keptOf, linesText}
 use Rattle.rewriter.specs.Body.{linesTo, linesIn, bodyText}

@@ -11,7 +11,8 @@ use lib.Seq.{drop-cons, drop-set-lt, getD-set-same, drop-length}
 use Rattle.parts.specs.Parts.{bytesIn, Part, partsOf, numberOf, lineStart, closingStart, pastOf, throughOf}
 use Rattle.parts.specs.PartsLaws.{bytesIn-append}
 use Rattle.parts.specs.declared.Extent.{Extent}
-use Rattle.parts.specs.SetLaws.{remaining, Standing, standing}
+use Rattle.parts.specs.Set.{remaining, Standing}
+use Rattle.parts.specs.SetLaws.{standing}
 use Rattle.parts.specs.Turn.{Between, Turn}
 use Rattle.parts.specs.TurnLaws.{between-none}
 use Rattle.judge.specs.declared.Reply.{Reply}

@@ -23,9 +23,11 @@ use Rattle.rewriter.specs.PlainLaws.{plainNumber-allowed}
 use Rattle.rewriter.specs.Fair.{Inner, FairSets, laid}
 use Rattle.rewriter.specs.RewriterLaws.{kept-allowed}
 use Rattle.rewriting.specs.Form.{plainDelimiter, Plainly, PlainSets, LfEnded, Own, SameSets}
-use Rattle.ends.specs.NoDelimiter.{NoDelimiter, set-none}
+use Rattle.ends.specs.NoDelimiter.{NoDelimiter}
+use Rattle.ends.specs.NoDelimiterLaws.{set-none}
 use Rattle.rewriting.specs.NumberLaws.{plainNumber-plainly, plainNumber-line, plainNumber-only, delimiter-six, number-six}
 use Rattle.rewriting.specs.KeptLaws.{kept-most, set-kept, body-trimmed, body-same, body-only, lines-same}
+use Rattle.rewriting.specs.Laid.{bodyOf, keptIn, bodiesOf}
 
 -- The text is its lines, each with an LF.
 
@@ -108,13 +110,6 @@ module _ {s : Set} {p : Part} (h : Holds s p) where
 
 -- The sets of a list, as they stand in a text.
 
--- the own lines of a part, and what is kept of them
-abbrev pub bodyOf : Part → List (List ℕ)
-bodyOf p = columnsOf (p .body)
-
-abbrev pub keptIn : Part → List (List ℕ)
-keptIn p = map keptOf (p .body)
-
 own-columns : (before : List (List ℕ)) (o v : List ℕ) (body : List (List ℕ)) (c : List ℕ) (after : List (List ℕ))
     → columnsOf (before ++ (o ∷ v ∷ (body ++ (c ∷ after)))) ≡ columnsOf before ++ (columns true o ∷ columns true v ∷ (columnsOf body ++ (columns true c ∷ columnsOf after)))
 own-columns before o v body c after =
@@ -169,11 +164,6 @@ laid-short (Stand.more {p = p} {ps = ps} before after b i j h w) =
 pub sets-same : (bodies : List (List (List ℕ))) → SameSets bodies bodies
 sets-same [] = SameSets.none
 sets-same (b ∷ bodies) = SameSets.more (lines-same b) (sets-same bodies)
-
--- the own lines of sets in rewritten form
-abbrev pub bodiesOf : {ss : List Set} {css : List (List ℕ)} → PlainSets ss css → List (List (List ℕ))
-bodiesOf PlainSets.none = []
-bodiesOf (PlainSets.more number body after p n d t w) = body ∷ bodiesOf w
 
 pub plain-own : {ss : List Set} {css : List (List ℕ)} (w : PlainSets ss css) → Own (bodiesOf w) css
 plain-own PlainSets.none = Own.end BlankLines.none

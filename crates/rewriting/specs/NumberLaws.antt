@@ -8,7 +8,7 @@ use native.Mathlib.Nat.{pow-succ', add-zero}
 use native.Mathlib.Omega.{arith}
 use lib.ListN.{length, getD, replicate, length-append, getD-replicate, List·getD-append}
 use lib.Seq.{getD-append-add}
-use Rattle.laws.specs.Choice.{below-or-not}
+use Rattle.laws.specs.ChoiceLaws.{below-or-not}
 use Rattle.text.specs.Blank.{Blanks, none, one}
 use Rattle.text.specs.BlankLaws.{blanks-replicate}
 use Rattle.text.specs.Parts.{bare, Digits, Digits.none as no-digit, more}

@@ -7,7 +7,7 @@ use Rattle.line.specs.Line.{filled}
 use Rattle.kind.specs.Kind.{Delimiter}
 use Rattle.theory.specs.Proper.{BlankLines}
 use Rattle.ends.specs.EndsLaws.{ended-complete}
-use Rattle.ends.specs.LineTests.{blank-inside}
+use Rattle.ends.specs.LineTestsLaws.{blank-inside}
 use Rattle.rewriting.specs.Form.{Own, OwnLines}
 use Rattle.ends.specs.NoDelimiter.{NoDelimiter, none, more}
 

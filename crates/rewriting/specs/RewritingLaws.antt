@@ -19,7 +19,8 @@ use Rattle.rewriter.specs.Fair.{FairLines, laid}
 use Rattle.rewriter.specs.RewriterLaws.{fair-passed, file-fair}
 use Rattle.rewriting.specs.Form.{InForm, LfEnded, OwnLines, SameSets, KeepsSpellings}
 use Rattle.rewriting.specs.OwnLaws.{own-only}
-use Rattle.rewriting.specs.LaidLaws.{lf-ended, lf-joined, laid-joined, laid-ended, bodyOf, keptIn, stand-own, laid-lines, laid-plain, laid-own, kept-same, laid-short, sets-same, bodiesOf, plain-own, plain-only}
+use Rattle.rewriting.specs.Laid.{bodyOf, keptIn, bodiesOf}
+use Rattle.rewriting.specs.LaidLaws.{lf-ended, lf-joined, laid-joined, laid-ended, stand-own, laid-lines, laid-plain, laid-own, kept-same, laid-short, sets-same, plain-own, plain-only}
 
 -- lines that pass are fair
 pass-fair : {ls : List (List ℕ)} → AllPass ls → FairLines ls

@@ -1,21 +1,16 @@
 -- The code's rows hold the records.
 use mathlib.Core.Path.{_≡_, refl}
-use mathlib.Core.Bool.{Bool, true, _&&_}
+use mathlib.Core.Bool.{true}
 use mathlib.Core.List.{List, []}
-use Prim.{Unit}
 use Prim.Native.Nat.{ℕ, zero, suc, _≤_}
 use borrow.Author.Tests.{leb-true, eqb-true}
 use lib.Dec.{leb, eqb}
 use lib.ListN.{length, replicate, List·getD-eq-default}
 use native.Mathlib.Omega.{arith}
-use Rattle.laws.specs.Choice.{and-left, and-right}
+use Rattle.laws.specs.ChoiceLaws.{and-left, and-right}
 use Rattle.layout.specs.Columns.{total}
 use Rattle.rows.specs.Records.{plain, records, recordOf, fieldList, noRecord}
-use Rattle.rows.specs.Tabled.{Tabled}
-
--- twelve forms and twelve widths that fit the line
-unfoldable pub isWhole : List ℕ → List ℕ → Bool
-isWhole fs ws = leb (total ws) 80 && (eqb (length fs) 12 && eqb (length ws) 12)
+use Rattle.rows.specs.Tabled.{Tabled, isWhole, Differs}
 
 -- one of the code's rows gives the fields of record k
 pub tabled : (fs ws : List ℕ) (row k : ℕ) → row ≡ k → fieldList fs ws ≡ recordOf k .fields → isWhole fs ws ≡ true → Tabled row fs ws
@@ -40,11 +35,6 @@ tabled-past k h = record {
   forms-all = refl;
   widths-all = refl;
 }
-
--- a number that is none of the first n is past them
-unfoldable pub Differs : ℕ → ℕ → Type 0
-Differs zero k = Unit
-Differs (suc n) k = Differs n k × (k ≡ n → ⊥)
 
 pub past : (n k : ℕ) → Differs n k → n ≤ k
 unfolding Differs

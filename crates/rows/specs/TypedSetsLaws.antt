@@ -7,8 +7,9 @@ use native.Mathlib.Omega.{arith}
 use borrow.Author.Tests.{ltb-true}
 use lib.Dec.{ltb}
 use lib.ListN.{length, getD, List·getD-eq-default}
-use Rattle.laws.specs.Choice.{and-left, and-right, false-not-true}
-use Rattle.laws.specs.Ranges.{allAre, in-range}
+use Rattle.laws.specs.ChoiceLaws.{and-left, and-right, false-not-true}
+use Rattle.laws.specs.Ranges.{allAre}
+use Rattle.laws.specs.RangesLaws.{in-range}
 use Rattle.rows.specs.Row.{Condition, none, zeroIfUneven, aboveZero}
 use Rattle.rows.specs.Records.{noRecord, records, recordOf}
 use Rattle.rows.specs.TypedSets.{Following, nothing, list, lists, dataLines, TypedSet, typedSet, kind58, kind82, kind151, kind164, kind1815, untyped, headerLines, typedSets, kindOf, sequence, following}

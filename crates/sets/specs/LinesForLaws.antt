@@ -7,7 +7,7 @@ use native.Mathlib.Nat.{div-eq-of-lt, div-eq-sub-div}
 use native.Mathlib.Numerals.{add-one}
 use native.Mathlib.Omega.{arith}
 use lib.ListN.{length}
-use Rattle.laws.specs.Choice.{below-or-not}
+use Rattle.laws.specs.ChoiceLaws.{below-or-not}
 use Rattle.rows.specs.Row.{Row, cut}
 use Rattle.theory.specs.Due.{linesFor, numberRows, listRows}
 

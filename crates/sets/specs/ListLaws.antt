@@ -7,7 +7,8 @@ use native.Mathlib.Omega.{arith}
 use borrow.Author.Tests.{eqb-true, eqb-false, ltb-true}
 use lib.Dec.{leb, eqb}
 use lib.ListN.{length}
-use Rattle.laws.specs.Choice.{pick, and-right}
+use Rattle.laws.specs.Choice.{pick}
+use Rattle.laws.specs.ChoiceLaws.{and-right}
 use Rattle.field.specs.Item.{Item}
 use Rattle.rows.specs.Records.{noRecord}
 use Rattle.walk.specs.Due.{due, recordDue, listRow, mayClose, mayContinue, rowDue, settled, afterList, afterItems}

@@ -9,7 +9,8 @@ use borrow.Author.Tests.{lt-ltb, le-ltb, eqb-true, eqb-false}
 use lib.Dec.{eqb}
 use lib.ListN.{length, getD, take, set, length-append, length-set}
 use lib.Seq.{take-suc, take-all, length-take-le, set-at, set-append-left, getD-at}
-use Rattle.laws.specs.Choice.{pick, and-assoc, below-or-not, false-not-true}
+use Rattle.laws.specs.Choice.{pick}
+use Rattle.laws.specs.ChoiceLaws.{and-assoc, below-or-not, false-not-true}
 use Rattle.line.specs.Line.{isAllowed, allAllowed, columns, firstBad, lineFault}
 use Rattle.line.specs.LineLaws.{columns-crlf, columns-lf, firstBad-none}
 use Rattle.line.specs.declared.Refusal.{Refusal}

@@ -3,15 +3,19 @@
 use mathlib.Core.Path.{_≡_}
 use mathlib.Core.Bool.{Bool, true, false, _||_}
 use mathlib.Core.List.{List, [], _∷_, _++_}
-use Prim.Native.Nat.{ℕ, _+_}
+use mathlib.Core.Logic.{_⊎_}
+use Prim.Native.Nat.{ℕ, _+_, _≤_, _<_}
 use lib.Dec.{ltb, eqb}
 use lib.ListN.{length, getD, take, set, replicate}
 use Rattle.laws.specs.Choice.{pick}
 use Rattle.laws.specs.Cut.{cut, lineLen, over}
 use Rattle.line.specs.Line.{isAllowed}
-use Rattle.walk.specs.Step.{start}
+use Rattle.walk.specs.Step.{start, state}
+use Rattle.walk.specs.declared.State.{State}
 use Rattle.judge.specs.declared.Reply.{Reply}
-use Rattle.judge.specs.Judge.{Run, going, refused, reply, runStep, runEnd}
+use Rattle.judge.specs.Judge.{Run, going, refused, reply, runStep, runEnd, lineStep, onOutcome}
+use Rattle.judge.specs.declared.Lines.{Lines}
+use Rattle.judge.specs.Lines.{runOf}
 use Rattle.stream.specs.declared.Stream.{Stream}
 use Rattle.stream.specs.declared.Answer.{Answer}
 use Rattle.stream.specs.declared.Answer.the-variants.{SoFar, Refused}
@@ -112,3 +116,30 @@ closed c = record { state = c .state; lines = c .lines; number = c .number; tota
 -- "A fresh record starts a new file": all its numbers and bytes are 0
 unfoldable pub freshRecord : Stream
 freshRecord = record { state = start; lines = 0; number = 0; total = 0; pending = replicate 82 0; held = 0; ended = false }
+
+-- what is seen after bytes whose lines come after n others
+unfoldable pub judgedOn : State → ℕ → List ℕ → ℕ → Seen
+judgedOn s n l total = kept (over runStep (going s n) (cut l .lines)) (cut l .rest) total
+
+-- the record at another running length
+abbrev pub atTotal : Stream → ℕ → Stream
+atTotal c t = record { state = c .state; lines = c .lines; number = c .number; total = t; pending = c .pending; held = c .held; ended = c .ended }
+
+-- the running length with m bytes more, or a number past the limit
+pub record Running (c : Stream) (m r : ℕ) : Type 0 where
+  pub within : r ≤ 16777216 → (isPast c ≡ false) × (r ≡ c .total + m)
+  pub beyond : 16777216 < r → (isPast c ≡ true) ⊎ (16777216 < c .total + m)
+  pub stops : 16777216 < r → r ≡ 16777217
+
+-- the open line judged when its LF comes, after n others
+pub record OpenJudged (s : State) (n : ℕ) (l : List ℕ) (r : Lines) : Type 0 where
+  pub run : runOf (r .state) (r .lines) (r .number) ≡ onOutcome n (lineStep s l)
+  pub few : r .lines ≤ n + 1
+
+-- bytes with no LF among them
+abbrev pub Open : List ℕ → Type 0
+Open l = (i : ℕ) → getD l i 0 ≡ 10 → ⊥
+
+-- a record made by a burst
+abbrev pub made : State → ℕ → ℕ → ℕ → List ℕ → ℕ → Stream
+made s n k t p h = record { state = s; lines = n; number = k; total = t; pending = p; held = h; ended = false }

@@ -10,30 +10,24 @@ use borrow.Author.Tests.{ltb-false, lt-ltb, le-ltb, eq-eqb, ne-eqb, eqb-false}
 use lib.Dec.{ltb, eqb}
 use lib.ListN.{length, getD, take, drop, set, length-append, length-take, length-set, drop-of-length-le, List·getD-eq-default}
 use lib.Seq.{drop-cons, take-all, take-take, take-append-add, drop-append-add, length-take-le, take-suc, take-suc-set}
-use Rattle.laws.specs.Choice.{pick, below-or-not, false-not-true}
-use Rattle.laws.specs.Cut.{text, onto, cut, lineLen, cut-line, cut-open, over}
+use Rattle.laws.specs.Choice.{pick}
+use Rattle.laws.specs.ChoiceLaws.{below-or-not, false-not-true}
+use Rattle.laws.specs.Cut.{text, onto, cut, lineLen, over}
+use Rattle.laws.specs.CutLaws.{cut-line, cut-open}
 use Rattle.line.specs.Line.{isAllowed}
 use Rattle.line.specs.LineLaws.{lineLen-most}
 use Rattle.walk.specs.declared.State.{State}
 use Rattle.walk.specs.Step.{state, start}
-use Rattle.judge.specs.Judge.{reply, lineStep, Run, going, refused, onOutcome, runStep, runEnd}
+use Rattle.judge.specs.Judge.{reply, lineStep, Run, going, refused, onOutcome, runStep}
 use Rattle.judge.specs.declared.Reply.{Reply}
 use Rattle.judge.specs.declared.Lines.{Lines}
-use Rattle.judge.specs.Lines.{runOf, LinesJudged}
+use Rattle.judge.specs.Lines.{LinesJudged}
 use Rattle.judge.specs.JudgeLaws.{over-refused}
 use Rattle.judge.specs.Refusal.{LineNumber}
 use Rattle.judge.specs.LinesLaws.{one-run, one-more, outcome-number, judged-number}
 use Rattle.stream.specs.declared.Stream.{Stream}
-use Rattle.stream.specs.Stream.{push, pushAll, squeezed, Seen, inLimit, past, kept, stepOf, isStrange, isPast, openLen, openOf, seen, Stepped, closed, freshRecord}
+use Rattle.stream.specs.Stream.{push, pushAll, squeezed, Seen, inLimit, past, kept, stepOf, isStrange, isPast, openLen, openOf, seen, Stepped, closed, freshRecord, judgedOn, atTotal, Running, OpenJudged, Open, made}
 use Rattle.stream.specs.SqueezeLaws.{push-append, squeezed-again, run-squeezed}
-
--- what is seen after bytes whose lines come after n others
-unfoldable pub judgedOn : State → ℕ → List ℕ → ℕ → Seen
-judgedOn s n l total = kept (over runStep (going s n) (cut l .lines)) (cut l .rest) total
-
--- the record at another running length
-abbrev pub atTotal : Stream → ℕ → Stream
-atTotal c t = record { state = c .state; lines = c .lines; number = c .number; total = t; pending = c .pending; held = c .held; ended = c .ended }
 
 or-left : (a b : Bool) → a || b ≡ false → a ≡ false
 or-left true b h = h
@@ -42,21 +36,6 @@ or-left false b h = refl
 or-right : (a b : Bool) → a || b ≡ false → b ≡ false
 or-right true b h = false-not-true (sym h)
 or-right false b h = h
-
--- the running length with m bytes more, or a number past the limit
-pub record Running (c : Stream) (m r : ℕ) : Type 0 where
-  pub within : r ≤ 16777216 → (isPast c ≡ false) × (r ≡ c .total + m)
-  pub beyond : 16777216 < r → (isPast c ≡ true) ⊎ (16777216 < c .total + m)
-  pub stops : 16777216 < r → r ≡ 16777217
-
--- the open line judged when its LF comes, after n others
-pub record OpenJudged (s : State) (n : ℕ) (l : List ℕ) (r : Lines) : Type 0 where
-  pub run : runOf (r .state) (r .lines) (r .number) ≡ onOutcome n (lineStep s l)
-  pub few : r .lines ≤ n + 1
-
--- bytes with no LF among them
-abbrev pub Open : List ℕ → Type 0
-Open l = (i : ℕ) → getD l i 0 ≡ 10 → ⊥
 
 none-open : Open []
 none-open i h = absurd (omega (arith, List·getD-eq-default {A = ℕ} [] 0 {n = i} (omega arith)))
@@ -228,10 +207,6 @@ none-strange = refl
 line-known : (n : ℕ) → LineNumber n → isStrange n ≡ false
 unfolding isStrange
 line-known n h = rw (ne-eqb n 1 (λ e. omega (arith, h .0)), le-ltb 15 n (h .1)) refl
-
--- a record made by a burst
-abbrev pub made : State → ℕ → ℕ → ℕ → List ℕ → ℕ → Stream
-made s n k t p h = record { state = s; lines = n; number = k; total = t; pending = p; held = h; ended = false }
 
 module _ (s : State) (n t : ℕ) (p : List ℕ) (h : ℕ) (limit : t ≤ 16777216) (few : n ≤ t) where
   made-going : (q : List ℕ) → h ≤ 82 → take h p ≡ q → Open q → seen (made s n 0 t p h) ≡ inLimit (going s n) q t

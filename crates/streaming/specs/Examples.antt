@@ -8,7 +8,7 @@ use Prim.Native.String.{String}
 use Prim.Native.Char.{code}
 use native.Mathlib.Omega.{arith}
 use lib.ListN.{replicate}
-use Rattle.laws.specs.Choice.{false-not-true}
+use Rattle.laws.specs.ChoiceLaws.{false-not-true}
 use Rattle.laws.specs.Run.{run}
 use Rattle.laws.specs.Cut.{cut, over}
 use Rattle.text.specs.Blank.{allBlank}

@@ -1,4 +1,5 @@
 pub mod Streaming
+pub mod Open
 pub mod OpenLaws
 pub mod StreamingLaws
 pub mod Calls

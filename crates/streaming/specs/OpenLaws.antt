@@ -4,16 +4,14 @@ use mathlib.Core.List.{List, [], _++_}
 use mathlib.Core.Logic.{⊎-elim}
 use Prim.Native.Nat.{ℕ, _+_}
 use lib.ListN.{length, take, drop}
-use Rattle.laws.specs.Choice.{below-or-not}
-use Rattle.laws.specs.Cut.{Text, cut, lineLen, cut-append, over, over-append}
-use Rattle.judge.specs.Judge.{Run, going, refused, runStep, runEnd}
-use Rattle.stream.specs.Stream.{squeezed, Seen, inLimit, kept}
+use Rattle.laws.specs.ChoiceLaws.{below-or-not}
+use Rattle.laws.specs.Cut.{Text, cut, lineLen, over}
+use Rattle.laws.specs.CutLaws.{cut-append, over-append}
+use Rattle.judge.specs.Judge.{Run, going, refused, runStep}
+use Rattle.stream.specs.Stream.{squeezed, inLimit, kept, Open}
 use Rattle.stream.specs.SqueezeLaws.{squeezed-short, push-append, run-squeezed}
-use Rattle.stream.specs.StreamLaws.{Open, rest-open, pushAll-open, cut-still, cut-first, squeezed-more}
-
--- the run over a text's finished lines, with its rest
-abbrev pub keptText : Run → Text → ℕ → Seen
-keptText r t n = kept (over runStep r (t .lines)) (t .rest) n
+use Rattle.stream.specs.StreamLaws.{rest-open, pushAll-open, cut-still, cut-first, squeezed-more}
+use Rattle.streaming.specs.Open.{keptText}
 
 -- bytes after a squeezed line
 squeezed-append : (q l : List ℕ) → squeezed (squeezed q ++ l) ≡ squeezed (q ++ l)

@@ -13,8 +13,10 @@ use native.Mathlib.Omega.{arith}
 use borrow.Author.Tests.{lt-ltb, le-ltb}
 use lib.Dec.{ltb}
 use lib.ListN.{length, length-append}
-use Rattle.laws.specs.Choice.{pick, below-or-not}
-use Rattle.laws.specs.Cut.{Text, cut, cut-append, over, over-append, judge}
+use Rattle.laws.specs.Choice.{pick}
+use Rattle.laws.specs.ChoiceLaws.{below-or-not}
+use Rattle.laws.specs.Cut.{Text, cut, over, judge}
+use Rattle.laws.specs.CutLaws.{cut-append, over-append}
 use Rattle.walk.specs.declared.Outcome.{Outcome}
 use Rattle.walk.specs.declared.Outcome.the-variants as Outcomes
 use Rattle.walk.specs.Step.{start}
@@ -30,7 +32,8 @@ use Rattle.theory.specs.Sets.{Set}
 use Rattle.theory.specs.Proper.{Proper}
 use Rattle.theorems.specs.Theorems.{accepted-proper, proper-accepted}
 use Rattle.streaming.specs.Streaming.{finished, after, runAnswer, burstAnswer, joined, Bursts, none, more}
-use Rattle.streaming.specs.OpenLaws.{keptText, open-squeezed, kept-append}
+use Rattle.streaming.specs.Open.{keptText}
+use Rattle.streaming.specs.OpenLaws.{open-squeezed, kept-append}
 
 -- a fresh record says what no bytes give
 pub fresh-after : inLimit (going start 0) [] 0 ≡ after []

@@ -10,7 +10,8 @@ use lib.Dec.{eqb}
 use lib.ListN.{length, getD, drop, replicate, drop-of-length-le}
 use lib.Seq.{drop-cons}
 use Rattle.laws.specs.Run.{run}
-use Rattle.laws.specs.Choice.{pick, and-left, and-right, and-assoc}
+use Rattle.laws.specs.Choice.{pick}
+use Rattle.laws.specs.ChoiceLaws.{and-left, and-right, and-assoc}
 use Rattle.text.specs.Blank.{Blanks, none, one, allBlank, blanksBefore}
 
 pub allBlank-complete : {l : List ℕ} → Blanks l → allBlank l ≡ true

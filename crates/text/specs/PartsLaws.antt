@@ -5,7 +5,7 @@ use mathlib.Core.List.{List, _++_}
 use Prim.Native.Nat.{ℕ, _≤_}
 use borrow.Author.Tests.{leb-true, le-leb}
 use lib.Dec.{leb}
-use Rattle.laws.specs.Choice.{and-left, and-right, and-both}
+use Rattle.laws.specs.ChoiceLaws.{and-left, and-right, and-both}
 use Rattle.text.specs.Parts.{Digits, none, more, isDigit}
 
 pub digits-join : {m w v : ℕ} {ds es : List ℕ} → Digits m ds w → Digits w es v → Digits m (ds ++ es) v

@@ -9,7 +9,8 @@ use borrow.Author.Tests.{lt-ltb, le-ltb, le-leb, ne-eqb}
 use lib.Dec.{ltb}
 use lib.Ieee.{Float}
 use lib.ListN.{length, take, drop}
-use Rattle.laws.specs.Choice.{pick, pick-same}
+use Rattle.laws.specs.Choice.{pick}
+use Rattle.laws.specs.ChoiceLaws.{pick-same}
 use Rattle.real.specs.declared.Real.the-variants.{Blank, Malformed, Value}
 use Rattle.real.specs.declared.Real.{Real}
 use Rattle.real.specs.Real as Real
@@ -22,7 +23,7 @@ use Rattle.layout.specs.Layout.{numbersOf}
 use Rattle.judge.specs.Judge.{judged, reply}
 use Rattle.parts.specs.Parts as Parts
 use Rattle.parts.specs.Function as Function
-use Rattle.parts.specs.SetLaws.{Somewhere}
+use Rattle.parts.specs.Set.{Somewhere}
 use Rattle.reader.specs.Reader.{Said, said, refused, readIn, realIn, shownOf, numberFrom, setsFrom, numberOf, readOf, reads, whole, kindOf, valueWith, valuesIn, valueFrom, valueOf}
 use Rattle.reader.specs.ReaderLaws.{reads-same}
 use Rattle.theory.specs.Sets.{Set}
@@ -32,11 +33,12 @@ use Rattle.places.specs.DeclaredLaws.{declared-held, case-held}
 use Rattle.places.specs.Stored.{storedCount, storedItem}
 use Rattle.places.specs.StoredLaws.{stored-case}
 use Rattle.places.specs.CaseLaws.{case-eight, declared-some}
-use Rattle.places.specs.FieldLaws.{Spelled}
+use Rattle.places.specs.Field.{Spelled}
 use Rattle.places.specs.ShownLaws.{stored-held, stored-shown}
 use Rattle.places.specs.OrderLaws.{columns-inside}
 use Rattle.values.specs.Values.{allFrom, allValues}
-use Rattle.values.specs.EachLaws.{Each, all-each, all-refused}
+use Rattle.values.specs.Each.{Each}
+use Rattle.values.specs.EachLaws.{all-each, all-refused}
 use Rattle.theorems.specs.Answers.{realOfItem, valueSaid, allSaid, ownBytes}
 
 -- a 58 of the list as it stands in a text

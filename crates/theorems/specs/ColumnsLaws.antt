@@ -5,7 +5,7 @@ use Prim.Native.Nat.{ℕ, _+_, _*_, _<_, _≤_}
 use native.Mathlib.Nat.{div-lt-iff-lt-mul}
 use native.Mathlib.Omega.{arith}
 use borrow.Author.Tests.{lt-ltb}
-use Rattle.laws.specs.Choice.{below-or-not}
+use Rattle.laws.specs.ChoiceLaws.{below-or-not}
 use Rattle.layout.specs.Columns.{lineOf, fieldOf}
 use Rattle.layout.specs.ColumnsLaws.{fieldOf-inside, stored-at}
 use Rattle.layout.specs.Layout.{numbersOf}
@@ -17,7 +17,7 @@ use Rattle.places.specs.Holds.{Holds}
 use Rattle.places.specs.DeclaredLaws.{number-held}
 use Rattle.places.specs.Declared.{declared, caseOf}
 use Rattle.places.specs.Stored.{storedCount}
-use Rattle.places.specs.WholeLaws.{Owned}
+use Rattle.places.specs.Whole.{Owned}
 use Rattle.theorems.specs.Columns.{Within, OfValue}
 
 -- a byte's number

@@ -12,13 +12,13 @@ use Rattle.parts.specs.Parts.{columnsIn}
 use Rattle.header.specs.declared.Header.{Header}
 use Rattle.header.specs.Header.{headerOf}
 use Rattle.real.specs.Real.{belowZero}
-use Rattle.decimal.specs.DecimalLaws.{SameNumber}
+use Rattle.decimal.specs.Decimal.{SameNumber}
 use Rattle.reader.specs.Reader.{said, shown, numberOf}
 use Rattle.rewriter.specs.Rewriter.{rewrittenFile}
 use Rattle.rewriting.specs.Form.{InForm}
 use Rattle.writer.specs.Writer.{writtenSet}
 use Rattle.writing.specs.DataLines.{lentFile}
-use Rattle.writing.specs.BackLaws.{Back}
+use Rattle.writing.specs.Back.{Back}
 use Rattle.theory.specs.Sets.{Set}
 use Rattle.theory.specs.Proper.{Proper}
 use Rattle.places.specs.Declared.{caseOf}

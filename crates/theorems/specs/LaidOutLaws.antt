@@ -14,7 +14,7 @@ use Rattle.rewriting.specs.Form.{InForm}
 use Rattle.writer.specs.Writer.{writtenSet}
 use Rattle.writing.specs.HeaderRun.{Passed}
 use Rattle.writing.specs.DataLines.{lentFile}
-use Rattle.writing.specs.DataRunLaws.{AllFit}
+use Rattle.writing.specs.DataRun.{AllFit}
 use Rattle.writing.specs.LentLaws.{lentPart, lent-parts, lent-rewritten}
 use Rattle.writing.specs.BackLaws.{set-number, set-header, set-case, set-stored, stored-back}
 use Rattle.theory.specs.Sets.{Set}
@@ -22,7 +22,7 @@ use Rattle.theory.specs.Proper.{Proper}
 use Rattle.places.specs.Holds.{Stand, end, more, Holds}
 use Rattle.field.specs.Item.{Item}
 use Rattle.places.specs.Stored.{storedItem}
-use Rattle.writing.specs.BackLaws.{Back}
+use Rattle.writing.specs.Back.{Back}
 use Rattle.theorems.specs.Answers.{Answered}
 use Rattle.theorems.specs.LaidOut.{LaidOut, ReadAs}
 

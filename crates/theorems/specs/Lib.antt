@@ -1,10 +1,10 @@
 pub mod Reader
 pub mod TypedRun
-pub mod RowFits
-pub mod RowTests
+pub mod RowFitsLaws
+pub mod RowTestsLaws
 pub mod TypedRunLaws
-pub mod ReaderComplete
-pub mod ReaderSound
+pub mod ReaderCompleteLaws
+pub mod ReaderSoundLaws
 pub mod Image
 pub mod ImageLaws
 pub mod Ran

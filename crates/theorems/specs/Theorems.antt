@@ -19,7 +19,8 @@ use Rattle.judge.specs.Judge.{judged, reply}
 use Rattle.parts.specs.Parts as Parts
 use Rattle.parts.specs.Parts.{partsOf}
 use Rattle.parts.specs.Function as Function
-use Rattle.parts.specs.SetLaws.{Somewhere, somewhere}
+use Rattle.parts.specs.Set.{Somewhere}
+use Rattle.parts.specs.SetLaws.{somewhere}
 use Rattle.lister.specs.Lister.{rowsOf, listReply, listRows}
 use Rattle.reader.specs.Reader.{said, refused, setsFrom, shownOf, numberOf, kindOf, valueOf, valueWith}
 use Rattle.reader.specs.ReaderLaws.{start-most}
@@ -33,24 +34,27 @@ use Rattle.writer.specs.Writer.{writtenSet, writeReply, writeOut}
 use Rattle.writing.specs.DataLines.{lentFile}
 use Rattle.writing.specs.HeaderRunLaws.{header-passed}
 use Rattle.writing.specs.LentLaws.{lent-accepted}
-use Rattle.writing.specs.ReplyLaws.{Coefficients, Answered, answered, answered-fit}
+use Rattle.writing.specs.Reply.{Coefficients, Answered}
+use Rattle.writing.specs.ReplyLaws.{answered, answered-fit}
 use Rattle.places.specs.Holds.{Stand}
 use Rattle.places.specs.HoldsLaws.{lines-stand}
-use Rattle.places.specs.TextLaws.{linesOf, part-bytes}
-use Rattle.places.specs.Declared.{declared, caseOf}
-use Rattle.places.specs.DeclaredLaws.{number-held, declared-held, case-held, all-held, as-many, Found, stand-at}
+use Rattle.places.specs.Text.{linesOf}
+use Rattle.places.specs.TextLaws.{part-bytes}
+use Rattle.places.specs.Declared.{declared, caseOf, Found}
+use Rattle.places.specs.DeclaredLaws.{number-held, declared-held, case-held, all-held, as-many, stand-at}
 use Rattle.places.specs.Stored.{storedCount, storedItem}
 use Rattle.places.specs.OrderLaws.{columns-inside, columns-apart, first-column}
 use Rattle.places.specs.CaseLaws.{case-eight, declared-some, declared-most}
-use Rattle.places.specs.WholeLaws.{Owned, byte-owned}
+use Rattle.places.specs.Whole.{Owned}
+use Rattle.places.specs.WholeLaws.{byte-owned}
 use Rattle.theory.specs.Sets.{Set}
 use Rattle.theory.specs.Proper.{Ended, Proper}
 use Rattle.ends.specs.Ends.{CutInto, joined}
 use Rattle.ends.specs.EndsLaws.{ended-complete, ended-sound}
 use Rattle.theorems.specs.Reader.{outside, readLines}
 use Rattle.ends.specs.ShortLaws.{ended-short}
-use Rattle.theorems.specs.ReaderComplete.{reader-complete}
-use Rattle.theorems.specs.ReaderSound.{reader-sound}
+use Rattle.theorems.specs.ReaderCompleteLaws.{reader-complete}
+use Rattle.theorems.specs.ReaderSoundLaws.{reader-sound}
 use Rattle.theorems.specs.Answers as Answers
 use Rattle.theorems.specs.Answers.{realOfItem, valueSaid, allSaid, ownBytes}
 use Rattle.theorems.specs.AnswersLaws.{value-own, valueWith-same, number-answered, number-past, number-other, number-asked, value-answered, value-past, value-other, value-asked, all-by-list, all-asked, all-other, said-each, said-refused, item-own, real-same}

@@ -10,7 +10,7 @@ use borrow.Author.Tests.{lt-ltb, le-ltb}
 use lib.Ieee.{Float}
 use lib.ListN.{length, take, drop}
 use lib.Seq.{take-at, drop-at}
-use Rattle.laws.specs.Choice.{below-or-not}
+use Rattle.laws.specs.ChoiceLaws.{below-or-not}
 use Rattle.real.specs.declared.Real.{Real}
 use Rattle.layout.specs.Layout.{numbersOf}
 use Rattle.reader.specs.declared.Read.{Read}
@@ -18,6 +18,7 @@ use Rattle.reader.specs.declared.Read.the-variants as read
 use Rattle.reader.specs.Reader.{Said, said, refused, readOf, reads, whole, kindOf, valueWith}
 use Rattle.values.specs.Fill.{refusalOf, refusalIn, floatsIn}
 use Rattle.values.specs.FillLaws.{whole-refused, whole-shown, shown-length}
+use Rattle.values.specs.Each.{Each}
 
 -- numbers after numbers
 reads-append : (g : ℕ → Real) (j a b : ℕ) → reads g j (a + b) ≡ reads g j a ++ reads g (j + a) b
@@ -105,12 +106,6 @@ module _ (g : ℕ → Real) (c : ℕ) where
       let e : refusalIn (all (suc n)) ≡ refusalIn (reads g (n * k) k) = ap refusalIn z ∙ refusal-after (all n) (reads g (n * k) k) l in
       (n, (omega arith, rw e (whole-refused g (n * k) k (kindOf c) [] (rw e at h)))))
       (below-or-not 0 (refusalIn (all n)))
-
--- n f64 are shown, so many for each value, and each value shows its own
-pub record Each (g : ℕ → Real) (c count n : ℕ) (xs : List Float) : Type 0 where
-  pub counted : n ≡ count * numbersOf c
-  pub long : length xs ≡ n
-  pub value : (i : ℕ) → i < count → valueWith g c i ≡ said 0 (kindOf c) (take (numbersOf c) (drop (i * numbersOf c) xs))
 
 module _ (g : ℕ → Real) (c count : ℕ) where
   pub all-each : (n : ℕ) (xs : List Float) → whole (count * numbersOf c) [] (all g c count) ≡ said 0 n xs → Each g c count n xs

@@ -4,4 +4,5 @@ pub mod SpotLaws
 pub mod Fill
 pub mod FillLaws
 pub mod ValuesLaws
+pub mod Each
 pub mod EachLaws

@@ -1,8 +1,9 @@
 -- Where the code reads the stored numbers, one after the other.
 use mathlib.Core.List.{List}
-use Prim.Native.Nat.{ℕ, suc, _+_}
+use mathlib.Core.Path.{_≡_}
+use Prim.Native.Nat.{ℕ, suc, _+_, _≤_}
 use lib.Dec.{ltb}
-use lib.ListN.{getD, drop}
+use lib.ListN.{getD, drop, length}
 use Rattle.laws.specs.Choice.{pick}
 use Rattle.laws.specs.Cut.{cut}
 use Rattle.layout.specs.Columns.{fieldOf}
@@ -24,3 +25,8 @@ unfoldable pub nextSpot : List ℕ → ℕ → ℕ → List ℕ → Spot → Spo
 nextSpot file stop n ws s =
     pick (ltb (s .field + 1) n) (spot (s .line) (s .field + 1) (s .first + getD ws (s .field) 0))
     (spot (skipTo 1 stop (s .line) (cut (drop (s .line) file) .lines)) 0 (skipTo 1 stop (s .line) (cut (drop (s .line) file) .lines)))
+
+-- stored number j is there, on a line that begins inside the file
+pub record AtSpot (file : List ℕ) (d : Data) (j : ℕ) (s : Spot) : Type 0 where
+  pub spot-is : s ≡ spotOf file d j
+  pub inside : s .line ≤ length file

@@ -8,9 +8,10 @@ use native.Mathlib.Numerals.{add-one}
 use native.Mathlib.Omega.{arith}
 use borrow.Author.Tests.{lt-ltb, le-ltb}
 use lib.ListN.{length, getD, drop}
-use Rattle.laws.specs.Choice.{below-or-not}
+use Rattle.laws.specs.ChoiceLaws.{below-or-not}
 use Rattle.laws.specs.Cut.{cut, lineLen}
-use Rattle.laws.specs.Table.{tabulate, table-at}
+use Rattle.laws.specs.Table.{tabulate}
+use Rattle.laws.specs.TableLaws.{table-at}
 use Rattle.layout.specs.Columns.{lineOf, fieldOf, fieldStart, fieldPast}
 use Rattle.layout.specs.ColumnsLaws.{fieldStart-next, fieldOf-inside, stored-at}
 use Rattle.layout.specs.Layout.{layoutOf, fieldsOf, cellOf}
@@ -22,9 +23,9 @@ use Rattle.parts.specs.SetLaws.{skip-stops, skip-none, skip-next}
 use Rattle.reader.specs.declared.Data.{Data}
 use Rattle.reader.specs.declared.Read.{Read}
 use Rattle.reader.specs.Reader.{readIn, readOf}
-use Rattle.reader.specs.Find.{lineAt, spanOf, realAt, readAt}
+use Rattle.reader.specs.Find.{lineAt, spanOf, realAt}
 use Rattle.values.specs.declared.Spot.{Spot}
-use Rattle.values.specs.Spot.{spot, spotOf, nextSpot}
+use Rattle.values.specs.Spot.{spot, spotOf, nextSpot, AtSpot}
 
 -- a line further is one line from there
 module _ (f : List ℕ) (stop : ℕ) where
@@ -79,11 +80,6 @@ unfolding spotOf lineAt spanOf lineOf fieldOf fieldStart
 spot-first file d at e =
     let z : skipTo headerLines (d .closing) (d .body) (cut (drop (d .body) file) .lines) + 0 ≡ skipTo headerLines (d .closing) (d .body) (cut (drop (d .body) file) .lines) = omega arith in
     rw (e, zero-div, zero-mod, z) refl
-
--- stored number j is there, on a line that begins inside the file
-pub record AtSpot (file : List ℕ) (d : Data) (j : ℕ) (s : Spot) : Type 0 where
-  pub spot-is : s ≡ spotOf file d j
-  pub inside : s .line ≤ length file
 
 module _ (file : List ℕ) (d : Data) (body : d .body ≤ length file) (eight : d .case < 8) (j : ℕ) (s : Spot) (at : AtSpot file d j s) (ws : List ℕ) (widths : ws ≡ tabulate (cellOf (d .case)) 0 6) where
   abbrev n : ℕ

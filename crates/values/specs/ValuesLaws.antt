@@ -8,10 +8,11 @@ use borrow.Author.Tests.{lt-ltb, le-ltb, ne-eqb}
 use lib.Dec.{ltb}
 use lib.Ieee.{Float}
 use lib.ListN.{length, drop}
-use Rattle.laws.specs.Choice.{pick, and-right}
+use Rattle.laws.specs.Choice.{pick}
+use Rattle.laws.specs.ChoiceLaws.{and-right}
 use Rattle.layout.specs.Layout.{numbersOf}
 use Rattle.parts.specs.Parts.{Part, isFunction}
-use Rattle.parts.specs.SetLaws.{Somewhere}
+use Rattle.parts.specs.Set.{Somewhere}
 use Rattle.parts.specs.Function.{caseOf, countOf, storedOf}
 use Rattle.judge.specs.declared.Reply.{Reply}
 use Rattle.judge.specs.Judge.{judged, reply}

@@ -8,8 +8,9 @@ use native.Mathlib.Omega.{arith}
 use borrow.Author.Tests.{leb-true, lt-ltb, le-ltb, eqb-true, eqb-false, ne-eqb, lt-leb, le-leb}
 use lib.Dec.{leb, eqb, ltb}
 use lib.ListN.{length, getD, take, List·getD-eq-default, length-map}
-use Rattle.laws.specs.Choice.{pick, below-or-not}
-use Rattle.laws.specs.Ranges.{in-range}
+use Rattle.laws.specs.Choice.{pick}
+use Rattle.laws.specs.ChoiceLaws.{below-or-not}
+use Rattle.laws.specs.RangesLaws.{in-range}
 use Rattle.integer.specs.declared.Integer.{Integer}
 use Rattle.integer.specs.declared.Integer.the-variants.{Blank, Malformed, OutOfRange, Value}
 use Rattle.line.specs.Line.{passed}

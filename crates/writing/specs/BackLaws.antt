@@ -1,6 +1,6 @@
 -- The numbers that the writer laid out are the stored numbers of the set, index by index.
 use mathlib.Core.Path.{_≡_, refl, sym, ap, subst, _∙_}
-use mathlib.Core.Bool.{Bool, true}
+use mathlib.Core.Bool.{true}
 use mathlib.Core.List.{List, [], _∷_, _++_, map, append-assoc}
 use Prim.Native.Nat.{ℕ, zero, suc, _+_, _-_, _*_, _^_, _≤_, _<_}
 use native.Mathlib.Nat.{add-zero, zero-add, suc-mul, zero-mul}
@@ -9,12 +9,11 @@ use lib.IntN.{ℤ, pos, natAbs}
 use lib.ListN.{length, getD, take, drop, replicate, length-append, length-drop, List·getD-append, List·getD-map}
 use lib.Seq.{take-at, drop-at, drop-drop, getD-drop, getD-append-add}
 use Rattle.text.specs.Parts.{signed}
-use Rattle.line.specs.Line.{columns, filled}
+use Rattle.line.specs.Line.{filled}
 use Rattle.line.specs.LineLaws.{filled-short, columns-allowed}
 use Rattle.real.specs.declared.Number.{Number}
-use Rattle.real.specs.declared.Real.{Real}
 use Rattle.real.specs.declared.Real.the-variants.{Value}
-use Rattle.real.specs.Real.{belowZero, numberOf}
+use Rattle.real.specs.Real.{numberOf}
 use Rattle.real.specs.RealLaws.{realOf-complete}
 use Rattle.real.specs.EndLaws.{signed-size}
 use Rattle.layout.specs.Columns.{fieldStart, lineOf, fieldOf}
@@ -26,12 +25,11 @@ use Rattle.rows.specs.Row.{Row}
 use Rattle.rows.specs.Records.{plain, records, recordOf, noRecord}
 use Rattle.rows.specs.TypedSets.{kindOf, sequence, typedSets, headerLines, kind58, lineSeven}
 use Rattle.record.specs.Written.{Written}
-use Rattle.decimal.specs.Decimal.{fits, fieldText}
-use Rattle.decimal.specs.DecimalLaws.{fieldText-length, SameNumber, ReadBack, fits-read}
-use Rattle.laws.specs.Choice.{false-not-true}
+use Rattle.decimal.specs.Decimal.{fieldText, SameNumber, ReadBack}
+use Rattle.decimal.specs.DecimalLaws.{fieldText-length, fits-read}
+use Rattle.laws.specs.ChoiceLaws.{false-not-true}
 use Rattle.laws.specs.Cut.{cut}
 use Rattle.record.specs.Declared.{caseIn, countIn, storedIn}
-use Rattle.header.specs.declared.Header.{Header}
 use Rattle.header.specs.Header.{headerOf}
 use Rattle.theory.specs.Sets.{Set}
 use Rattle.theory.specs.Due.{listsOf, rowsOf}
@@ -41,26 +39,20 @@ use Rattle.parts.specs.Function as Function
 use Rattle.places.specs.Holds.{Holds}
 use Rattle.places.specs.Declared.{declared, caseOf}
 use Rattle.places.specs.DeclaredLaws.{typed-line, typed-58, lineOf-columns, number-held, count-held, case-held}
-use Rattle.places.specs.Stored.{storedCount, storedItem}
-use Rattle.places.specs.StoredLaws.{ownColumns, stored-spelled}
-use Rattle.places.specs.FieldLaws.{Spelled}
+use Rattle.places.specs.Stored.{storedCount, storedItem, ownColumns}
+use Rattle.places.specs.StoredLaws.{stored-spelled}
+use Rattle.places.specs.Field.{Spelled}
 use Rattle.writer.specs.Writer.{decimalsOf, widthAt, fitsAt}
 use Rattle.rewriting.specs.NumberLaws.{plainNumber-again}
 use Rattle.writing.specs.DataLines.{fieldsText, dataLines}
-use Rattle.writing.specs.HeaderRun.{Says, Passed}
+use Rattle.writing.specs.HeaderRun.{Passed}
 use Rattle.writing.specs.DataTextLaws.{field-at}
-use Rattle.writing.specs.LineLaws.{Fit, fields-allowed, fields-length}
-use Rattle.writing.specs.DataRunLaws.{AllFit, fit-same, fit-drop, fit-line, Roomy, width-roomy}
+use Rattle.writing.specs.Line.{Fit}
+use Rattle.writing.specs.LineLaws.{fields-allowed, fields-length}
+use Rattle.writing.specs.DataRun.{AllFit, Roomy}
+use Rattle.writing.specs.DataRunLaws.{fit-same, fit-drop, fit-line, width-roomy}
 use Rattle.writing.specs.LentLaws.{lentPart}
-
--- an item that is this number: a real of its sign, and the same number
-pub record Back (x s : ℤ) (i : Item) : Type 0 where
-  pub minus : Bool
-  pub coefficient : ℕ
-  pub scale : ℤ
-  pub item : i ≡ Item.real minus coefficient scale
-  pub sign : minus ≡ belowZero x
-  pub same : SameNumber (natAbs x) s coefficient scale
+use Rattle.writing.specs.Back.{Back}
 
 -- field k of a line
 field-of : (vs : List ℕ) (k : ℕ) (xs ss : List ℤ) (bl : List ℕ) → k < length vs → k < length xs → length xs ≡ length ss

@@ -2,15 +2,16 @@
 use mathlib.Core.Path.{_≡_, refl, sym, ap, subst, _∙_}
 use mathlib.Core.Bool.{Bool, true, false, _&&_}
 use mathlib.Core.List.{List, [], _∷_, map}
-use Prim.Native.Nat.{ℕ, zero, suc, _+_, _-_, _^_, _≤_, _<_}
+use Prim.Native.Nat.{ℕ, zero, suc, _+_, _-_, _≤_, _<_}
 use native.Mathlib.Nat.{add-zero}
 use native.Mathlib.Omega.{arith}
 use borrow.Author.Tests.{ne-eqb, eqb-true, leb-true, lt-ltb}
 use lib.Dec.{leb, eqb}
-use lib.IntN.{ℤ, natAbs}
+use lib.IntN.{ℤ}
 use lib.ListN.{length, getD, take, drop, replicate, length-drop}
-use Rattle.laws.specs.Choice.{pick, and-left, and-right}
-use Rattle.laws.specs.Ranges.{in-range}
+use Rattle.laws.specs.Choice.{pick}
+use Rattle.laws.specs.ChoiceLaws.{and-left, and-right}
+use Rattle.laws.specs.RangesLaws.{in-range}
 use Rattle.laws.specs.Cut.{over}
 use Rattle.line.specs.Line.{Allowed, filled}
 use Rattle.line.specs.LineLaws.{filled-length, filled-short, columns-allowed}
@@ -23,27 +24,21 @@ use Rattle.rows.specs.Row as Row
 use Rattle.rows.specs.Records.{E, dataRow}
 use Rattle.rows.specs.TypedSets.{sequence, typedSets, headerLines, kind58, following}
 use Rattle.record.specs.Written.{FieldsIn, Written, Kept}
-use Rattle.reading.specs.LineReading.{written-complete}
-use Rattle.walk.specs.declared.Due.{Due}
+use Rattle.reading.specs.LineReadingLaws.{written-complete}
 use Rattle.walk.specs.declared.Place.the-variants.{Typed}
 use Rattle.walk.specs.declared.Outcome.the-variants.{Next}
 use Rattle.walk.specs.Due.{due, recordDue, listRow, mayContinue, rowDue, settled, afterList, after, afterItems}
 use Rattle.walk.specs.DueLaws.{dataRow-length}
 use Rattle.walk.specs.Step.{state, stepOf, typedStep}
-use Rattle.judge.specs.Judge.{lineStep, Run, going, runStep, runEnd}
+use Rattle.judge.specs.Judge.{lineStep}
 use Rattle.places.specs.StoredLaws.{map-take}
-use Rattle.rewriter.specs.Rewriter.{keptOf}
-use Rattle.rewriter.specs.Fair.{Fair}
-use Rattle.parts.specs.Parts.{closes}
 use Rattle.writer.specs.Writer.{decimalsOf, widthAt, fitsAt}
 use Rattle.writing.specs.DataLines.{fieldsText, dataLines}
-use Rattle.writing.specs.DataTextLaws.{From, Widths, widths, field-next, line-next, fields}
-use Rattle.writing.specs.FieldTextLaws.{Ends}
-use Rattle.writing.specs.LineLaws.{Fit, itemsBack, fields-in, fields-allowed, fields-length, fields-end, fields-long, line-fair, line-kept, line-inside, line-open, line-passes}
-
--- so many numbers are left of the data of a 58 of this case
-abbrev pub dataDue : ℕ → ℕ → Due
-dataDue c left = due kind58 headerLines c left 0
+use Rattle.writing.specs.DataTextLaws.{From, widths, field-next, line-next, fields}
+use Rattle.writing.specs.FieldText.{Ends}
+use Rattle.writing.specs.Line.{Fit, itemsBack}
+use Rattle.writing.specs.LineLaws.{fields-in, fields-allowed, fields-length, fields-end, fields-long, line-fair, line-kept, line-inside, line-open, line-passes}
+use Rattle.writing.specs.DataRun.{dataDue, AllFit, AllFit.none as none, AllFit.more as more, Roomy, Neat, Ran}
 
 -- what is due in the data
 row-due : (c left : ℕ) → rowDue (dataDue c left) ≡ Row.cut left (dataRow c)
@@ -100,11 +95,6 @@ module _ (c : ℕ) (w : ℕ) (ws : List ℕ) (x s : ℤ) (xs ss : List ℤ) (wid
         written-complete (filled line) (filled-length line) _ _ line-written .0,
       ) refl
 
--- a number of each field fits, from number j on
-pub data AllFit (c : ℕ) : ℕ → List ℤ → List ℤ → Type 0 where
-  none : {j : ℕ} → AllFit c j [] []
-  more : {j : ℕ} {x s : ℤ} {xs ss : List ℤ} → natAbs x < 10 ^ 20 → fitsAt c j x s ≡ true → AllFit c (suc j) xs ss → AllFit c j (x ∷ xs) (s ∷ ss)
-
 pub fit-drop : {c j : ℕ} {xs ss : List ℤ} (k : ℕ) → AllFit c j xs ss → AllFit c (j + k) (drop k xs) (drop k ss)
 fit-drop {j = j} zero f = rw (add-zero j) f
 fit-drop (suc k) none = none
@@ -117,11 +107,6 @@ fit-same (more n f t) = ap suc (fit-same t)
 -- every field has room for its decimals, and at most 20 columns
 abbrev roomy : ℕ → Bool
 roomy w = leb w 20 && (leb (decimalsOf w) 17 && leb (decimalsOf w + 7) w)
-
-pub record Roomy (w : ℕ) : Type 0 where
-  pub most : w ≤ 20
-  pub digits : decimalsOf w ≤ 17
-  pub room : decimalsOf w + 7 ≤ w
 
 roomy-sound : (w : ℕ) → roomy w ≡ true → Roomy w
 roomy-sound w t =
@@ -163,16 +148,6 @@ module _ (c : ℕ) (eight : c < 8) where
       let r : Roomy v = rw (w .own) at (width-roomy j) in
       let g : From c (suc j) (u ∷ vs) = rw (field-next (fieldsOf c) j (omega (arith, w .left))) (w .later) in
       Fit.more (r .digits) (r .room) n (rw (w .own) at f) (fit-line (u ∷ vs) t g)
-
--- lines that stand within the rules, are no delimiters and are kept as they are
-pub data Neat : List (List ℕ) → Type 0 where
-  none : Neat []
-  more : {l : List ℕ} {ls : List (List ℕ)} → Fair l → closes l ≡ false → keptOf l ≡ l → Neat ls → Neat (l ∷ ls)
-
--- so many lines are judged from one state to another
-pub record Ran (c left n : ℕ) (ls : List (List ℕ)) : Type 0 where
-  pub neat : Neat ls
-  pub run : over runStep (going (state (Typed (dataDue c left)) 1) n) ls ≡ going (state (Typed (dataDue c 0)) 1) (n + length ls)
 
 ran-none : (c n : ℕ) → Ran c 0 n []
 unfolding over

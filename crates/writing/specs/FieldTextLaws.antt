@@ -8,17 +8,13 @@ use native.Mathlib.Omega.{arith}
 use borrow.Author.Tests.{le-ltb}
 use lib.IntN.{ℤ, pos, negsuc, natAbs}
 use lib.ListN.{length, replicate}
-use Rattle.text.specs.Text.{Unpadded, last, more}
+use Rattle.text.specs.Text.{last, more}
 use Rattle.line.specs.Line.{Allowed, Allowed.none as no-byte, Allowed.more as byte}
 use Rattle.real.specs.Real.{belowZero}
 use Rattle.decimal.specs.Decimal.{digitsOf, shown, signByte, minusText, coefficientText, exponentText, exponentOf, numberText, fieldText}
 use Rattle.decimal.specs.PutLaws.{exponent-cases}
 use Rattle.rewriter.specs.PlainLaws.{allowed-append}
-
--- a text with a last byte that is no blank
-pub record Ends (l : List ℕ) : Type 0 where
-  pub unpadded : Unpadded l
-  pub some : 0 < length l
+use Rattle.writing.specs.FieldText.{Ends}
 
 -- what comes before it does not matter
 byte-before : (x : ℕ) (b : List ℕ) → Ends b → Ends (x ∷ b)

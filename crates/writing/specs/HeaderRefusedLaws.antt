@@ -8,7 +8,8 @@ use native.Mathlib.Omega.{arith}
 use borrow.Author.Tests.{lt-ltb, le-ltb}
 use lib.Dec.{ltb}
 use lib.ListN.{length, getD}
-use Rattle.laws.specs.Choice.{pick, below-or-not}
+use Rattle.laws.specs.Choice.{pick}
+use Rattle.laws.specs.ChoiceLaws.{below-or-not}
 use Rattle.laws.specs.Cut.{cut, over, judge}
 use Rattle.line.specs.declared.Refusal.{Refusal}
 use Rattle.line.specs.Line.{columns, lineFault}
@@ -23,19 +24,16 @@ use Rattle.walk.specs.Step.{state, start}
 use Rattle.judge.specs.declared.Reply.{Reply}
 use Rattle.judge.specs.Judge.{judged, reply, replyAt, lineStep, Run, going, refused, onOutcome, runStep, runEnd}
 use Rattle.header.specs.declared.Header.{Header}
-use Rattle.header.specs.Header.{answer, opened, pastNumber, headerStep, headerEnd, headerOf}
+use Rattle.header.specs.Header.{answer, opened, headerStep, headerOf}
 use Rattle.judge.specs.JudgeLaws as Judge
 use Rattle.header.specs.HeaderLaws.{over-refused}
 use Rattle.parts.specs.Parts.{columnsIn}
 use Rattle.rewriter.specs.Rewriter.{headText, plainNumber}
 use Rattle.rewriter.specs.Fair.{plainDelimiter}
-use Rattle.writing.specs.HeaderRun.{Passed}
-use Rattle.writing.specs.HeaderRunLaws.{Stood, Taken, Met, Met.taken, Met.stopped, not-closed, after-stood, line-met, ended, opened-stood, header-passed}
+use Rattle.writing.specs.HeaderRun.{Passed, Stood, Taken, Met, Met.taken, Met.stopped, ended}
+use Rattle.writing.specs.HeaderRunLaws.{not-closed, after-stood, line-met, opened-stood, header-passed}
 use Rattle.writing.specs.LentLaws.{cut-after, over-line, cut-head, opens, numbered}
-
--- the number of a twelfth line: its own refusal's, otherwise 8
-abbrev pub twelfthNumber : List ℕ → ℕ
-twelfthNumber l = pastNumber (lineFault true (columns true l) .number)
+use Rattle.writing.specs.HeaderRefused.{twelfthNumber}
 
 -- a file from the same line on: it counts two lines more, the delimiter and the number line
 abbrev filed : Due → ℕ → List (List ℕ) → List ℕ → Reply

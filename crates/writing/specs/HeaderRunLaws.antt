@@ -10,8 +10,9 @@ use borrow.Author.Tests.{leb-true, ltb-true, ltb-false, eqb-true, eqb-false, lt-
 use lib.Dec.{leb, ltb, eqb}
 use lib.IntN.{ℤ, pos, negsuc}
 use lib.ListN.{length, getD, take, drop}
-use Rattle.laws.specs.Choice.{pick, and-left, and-right, false-not-true, below-or-not, pick-passed}
-use Rattle.laws.specs.Ranges.{in-range}
+use Rattle.laws.specs.Choice.{pick}
+use Rattle.laws.specs.ChoiceLaws.{and-left, and-right, false-not-true, below-or-not, pick-passed}
+use Rattle.laws.specs.RangesLaws.{in-range}
 use Rattle.laws.specs.Cut.{cut, over, judge}
 use Rattle.text.specs.Parts.{signed}
 use Rattle.integer.specs.declared.Integer.{Integer}
@@ -44,7 +45,7 @@ use Rattle.parts.specs.Parts.{columnsIn, closes}
 use Rattle.rewriter.specs.Fair.{Fair, Inner, Inner.none as no-line, Inner.more as one-line}
 use Rattle.rewriter.specs.RewriterLaws.{fair-passed}
 use Rattle.judge.specs.RefusalLaws.{no-fault}
-use Rattle.writing.specs.HeaderRun.{Says, Passed}
+use Rattle.writing.specs.HeaderRun.{Says, Passed, Bounds, Stood, Taken, Met, ended, taken, stopped}
 
 -- an integer that passes keeps its rule; here a rule that takes nothing below zero
 kept-value : (r : Rule) → ((v : ℕ) → keeps r (negsuc v) ≡ false) → (z : ℤ) → keeps r z ≡ true → keeps r (pos (natural (Item.integer z))) ≡ true
@@ -96,12 +97,6 @@ numbersOf-some : (c : ℕ) → c < 8 → 0 < numbersOf c
 unfolding numbersOf layoutOf layouts
 numbersOf-some c h = ltb-true 0 _ (in-range stores true 0 8 c refl (omega arith) (omega arith))
 
--- a case, and how many numbers are stored: at most three for each of 65,536 values
-record Bounds (c m : ℕ) : Type 0 where
-  eight : c < 8
-  some : 1 ≤ m
-  most : m ≤ 196608
-
 stored-bounds : (c n : ℕ) → c < 8 → 1 ≤ n → n ≤ 65536 → Bounds c (n * numbersOf c)
 stored-bounds c n e l u =
     record {
@@ -141,13 +136,6 @@ seventh-bounds line h =
     let u : leb 0 (numberIn 20 30 line) && leb (numberIn 20 30 line) 1 ≡ true = first-kept 20 line 10 spacing _ (λ v. refl) c in
     stored-bounds (caseIn line) (numberIn 10 20 line) (case-named _ _ t (leb-true _ 1 (and-right (leb 0 (numberIn 20 30 line)) _ u)))
     (leb-true 1 _ (and-left (leb 1 (numberIn 10 20 line)) _ n)) (leb-true _ 65536 (and-right (leb 1 (numberIn 10 20 line)) _ n))
-
--- what is due after n lines of a 58: line 7 has given its case and how many numbers it stores
-pub record Stood (n : ℕ) (d : Due) : Type 0 where
-  kind : d .kind ≡ kind58
-  at : d .at ≡ n
-  second : d .second ≡ 0
-  bounds : beforeAxes ≤ n → Bounds (d .case) (d .left)
 
 -- before the eleventh line has come a record is due
 abbrev some-record : ℕ → Bool
@@ -200,17 +188,6 @@ open-fault cs = by (ltb 0 (firstBad 1 cs)) (ltb 80 (length cs))
     by false true = omega arith
     by false false = omega arith
 
--- a line where a record is due: it is taken, or refused with a number
-pub record Taken (d : Due) (l : List ℕ) : Type 0 where
-  fair : Fair l
-  inside : closes l ≡ false
-  pub row : rowRefusal (rowDue d) (columnsIn l) .number ≡ 0
-  pub step : lineStep (state (Typed d) 1) l ≡ Next (state (Typed (after d (columnsIn l))) 1)
-
-pub data Met (d : Due) (l : List ℕ) : Type 0 where
-  taken : Taken d l → Met d l
-  stopped : (f : Refusal) → lineStep (state (Typed d) 1) l ≡ Refused f → 0 < f .number → Met d l
-
 module _ (d : Due) (l : List ℕ) (c : mayClose d ≡ false) where
   -- a line that passes by itself is judged by its place
   step-place : lineFault true (columns true l) .number ≡ 0 → lineStep (state (Typed d) 1) l ≡ typedStep d 1 (columnsIn l)
@@ -258,10 +235,6 @@ not-passed n m ls rest p h =
 past-some : (m : ℕ) → 0 < pastNumber m
 past-some zero = omega arith
 past-some (suc m) = omega arith
-
--- the lines of a header that passes, from line n on
-abbrev pub ended : Due → ℕ → List (List ℕ) → List ℕ → Header
-ended d n ls rest = headerEnd (over headerStep (going (state (Typed d) 1) n) ls) rest
 
 record Ran (d : Due) (n : ℕ) (ls : List (List ℕ)) (rest : List ℕ) : Type 0 where
   due : Due

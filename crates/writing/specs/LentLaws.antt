@@ -10,7 +10,8 @@ use lib.IntN.{ℤ}
 use lib.ListN.{length, length-append}
 use Rattle.laws.specs.Choice.{pick}
 use Rattle.laws.specs.Run.{run}
-use Rattle.laws.specs.Cut.{text, cut, cut-append, over, over-append, judge}
+use Rattle.laws.specs.Cut.{text, cut, over, judge}
+use Rattle.laws.specs.CutLaws.{cut-append, over-append}
 use Rattle.line.specs.Line.{columns, withoutReturn, filled, lineFault, firstBad, isAllowed}
 use Rattle.text.specs.Blank.{allBlank}
 use Rattle.text.specs.Parts.{isDigit}
@@ -46,7 +47,8 @@ use Rattle.rewriting.specs.NumberLaws.{plainNumber-again}
 use Rattle.writing.specs.HeaderRun.{Passed}
 use Rattle.writing.specs.DataLines.{dataLines, lentFile}
 use Rattle.writing.specs.DataTextLaws.{field-zero, data-joined}
-use Rattle.writing.specs.DataRunLaws.{dataDue, AllFit, fit-same, Neat, Ran, data-ran, Roomy, width-roomy}
+use Rattle.writing.specs.DataRun.{dataDue, AllFit, Neat, Ran, Roomy}
+use Rattle.writing.specs.DataRunLaws.{fit-same, data-ran, width-roomy}
 
 -- lines that are kept as they are
 neat-inner : {ls : List (List ℕ)} → Neat ls → Inner ls

@@ -2,10 +2,16 @@ pub mod HeaderRun
 pub mod HeaderRunLaws
 pub mod DataLines
 pub mod DataTextLaws
+pub mod FieldText
 pub mod FieldTextLaws
+pub mod Line
 pub mod LineLaws
+pub mod DataRun
 pub mod DataRunLaws
 pub mod LentLaws
+pub mod Back
 pub mod BackLaws
+pub mod Reply
 pub mod ReplyLaws
+pub mod HeaderRefused
 pub mod HeaderRefusedLaws

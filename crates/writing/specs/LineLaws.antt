@@ -2,27 +2,25 @@
 use mathlib.Core.Path.{_≡_, refl, sym, ap, _∙_}
 use mathlib.Core.Bool.{Bool, true, false}
 use mathlib.Core.List.{List, [], _∷_, _++_, map, append-assoc, append-nil}
-use Prim.Native.Nat.{ℕ, zero, suc, _+_, _-_, _^_, _≤_, _<_}
+use Prim.Native.Nat.{ℕ, zero, suc, _-_, _≤_, _<_}
 use native.Mathlib.Omega.{arith}
-use lib.IntN.{ℤ, natAbs}
+use lib.IntN.{ℤ}
 use lib.ListN.{length, take, replicate, length-append}
 use Rattle.text.specs.Blank.{Blanks}
 use Rattle.text.specs.BlankLaws.{blanks-replicate}
-use Rattle.text.specs.Text.{Unpadded, last, Unpadded.more as byte, TextIn, text-in, trimmed}
+use Rattle.text.specs.Text.{last, Unpadded.more as byte, TextIn, text-in, trimmed}
 use Rattle.text.specs.TextLaws.{trimmed-complete}
-use Rattle.line.specs.Line.{Allowed, Allowed.none as no-byte, columns, filled, lineFault, passed}
+use Rattle.line.specs.Line.{Allowed, Allowed.none as no-byte, filled, lineFault, passed}
 use Rattle.line.specs.LineLaws.{filled-short, lineFault-complete, columns-allowed}
 use Rattle.kind.specs.Kind.{Delimiter, delimiter, isDelimiter}
 use Rattle.kind.specs.KindLaws.{isDelimiter-sound}
-use Rattle.real.specs.Real.{realOf}
 use Rattle.layout.specs.Columns.{total}
-use Rattle.field.specs.Item.{Item}
-use Rattle.field.specs.Field.{fieldNumber, realItem}
+use Rattle.field.specs.Field.{fieldNumber}
 use Rattle.rows.specs.Records.{E}
 use Rattle.record.specs.Written.{FieldsIn, rest, stands}
-use Rattle.reading.specs.FieldReading.{real-sound}
-use Rattle.decimal.specs.Decimal.{fits, fieldText}
-use Rattle.decimal.specs.DecimalLaws.{fieldText-length, ReadBack, fits-read}
+use Rattle.reading.specs.FieldReadingLaws.{real-sound}
+use Rattle.decimal.specs.Decimal.{fieldText, ReadBack}
+use Rattle.decimal.specs.DecimalLaws.{fieldText-length, fits-read}
 use Rattle.rewriter.specs.Rewriter.{keptOf}
 use Rattle.rewriter.specs.Fair.{Fair}
 use Rattle.rewriter.specs.PlainLaws.{allowed-append}
@@ -30,21 +28,9 @@ use Rattle.parts.specs.Parts.{closes}
 use Rattle.writer.specs.Writer.{decimalsOf}
 use Rattle.writing.specs.DataLines.{fieldsText}
 use Rattle.writing.specs.DataTextLaws.{fieldsText-none}
-use Rattle.writing.specs.FieldTextLaws.{Ends, ends-before, field-allowed, field-ends}
-
--- numbers that can be written in fields of these widths, one after the other, as far as there are fields
-pub data Fit : List ℕ → List ℤ → List ℤ → Type 0 where
-  full : {xs ss : List ℤ} → Fit [] xs ss
-  done : {ws : List ℕ} → Fit ws [] []
-  more : {w : ℕ} {x s : ℤ} {ws : List ℕ} {xs ss : List ℤ}
-      → decimalsOf w ≤ 17 → decimalsOf w + 7 ≤ w → natAbs x < 10 ^ 20 → fits (decimalsOf w) x s ≡ true → Fit ws xs ss → Fit (w ∷ ws) (x ∷ xs) (s ∷ ss)
-
--- the items that are read in them
-unfoldable pub itemsBack : List ℕ → List ℤ → List ℤ → List Item
-itemsBack [] xs ss = []
-itemsBack (w ∷ ws) [] ss = []
-itemsBack (w ∷ ws) (x ∷ xs) [] = []
-itemsBack (w ∷ ws) (x ∷ xs) (s ∷ ss) = realItem (realOf (fieldText w (decimalsOf w) x s)) ∷ itemsBack ws xs ss
+use Rattle.writing.specs.FieldText.{Ends}
+use Rattle.writing.specs.FieldTextLaws.{ends-before, field-allowed, field-ends}
+use Rattle.writing.specs.Line.{Fit, itemsBack, full, done, more}
 
 -- no number is left, or no field
 items-none : (ws : List ℕ) → itemsBack ws [] [] ≡ []

@@ -6,19 +6,16 @@ use Prim.Native.Nat.{ℕ, suc, _+_, _≤_}
 use native.Mathlib.Omega.{arith}
 use borrow.Author.Tests.{ltb-true, ltb-false, eqb-true}
 use lib.Dec.{ltb, eqb}
-use lib.IntN.{ℤ, natAbs}
+use lib.IntN.{ℤ}
 use lib.ListN.{length}
-use Rattle.laws.specs.Choice.{pick, and-left, and-right}
+use Rattle.laws.specs.Choice.{pick}
+use Rattle.laws.specs.ChoiceLaws.{and-left, and-right}
 use Rattle.judge.specs.declared.Reply.{Reply}
 use Rattle.judge.specs.Judge.{reply}
 use Rattle.header.specs.Header.{headerOf, replyOf}
 use Rattle.writer.specs.Writer.{fitsAt, firstUnfit, writtenSet, laidReply, writeReply}
-use Rattle.writing.specs.DataRunLaws.{AllFit}
-
--- coefficients of a size that an i64 can have
-pub data Coefficients : List ℤ → Type 0 where
-  none : Coefficients []
-  more : {x : ℤ} {xs : List ℤ} → natAbs x ≤ 9223372036854775808 → Coefficients xs → Coefficients (x ∷ xs)
+use Rattle.writing.specs.DataRun.{AllFit}
+use Rattle.writing.specs.Reply.{Coefficients, Answered, more}
 
 -- all numbers fit where no index is found
 pub all-fit : (c j : ℕ) (xs ss : List ℤ) → Coefficients xs → length xs ≡ length ss → j + length xs ≤ firstUnfit c j xs ss → AllFit c j xs ss
@@ -32,15 +29,6 @@ all-fit c j (x ∷ xs) (s ∷ ss) (more n k) e h = by (fitsAt c j x s) refl h (a
         → (suc j + length xs ≤ firstUnfit c (suc j) xs ss → AllFit c (suc j) xs ss) → AllFit c j (x ∷ xs) (s ∷ ss)
     by true q g ih = AllFit.more {x = x} (omega arith) q (ih (omega arith))
     by false q g ih = absurd (omega arith)
-
--- the header passes, and the numbers are as many as it calls for, fit and have room
-pub record Answered (header : List ℕ) (xs ss : List ℤ) (room : ℕ) : Type 0 where
-  pub passes : headerOf header .number ≡ 0
-  pub stored : length xs ≡ headerOf header .stored
-  pub same : length xs ≡ length ss
-  pub fit : length xs ≤ firstUnfit (headerOf header .case) 0 xs ss
-  pub short : length (writtenSet header (headerOf header .case) xs ss) ≤ room
-  pub reply-is : writeReply header xs ss room ≡ reply 0 (length (writtenSet header (headerOf header .case) xs ss))
 
 module _ (header : List ℕ) (xs ss : List ℤ) (room : ℕ) where
   abbrev c : ℕ

@@ -5,7 +5,7 @@ use Prim.Native.Nat.{zero-le}
 use native.Mathlib.Omega.{arith}
 use borrow.Author.Needs.{needs}
 use borrow.Author.Tests.{le-leb}
-use Rattle.laws.specs.Ranges.{in-range}
+use Rattle.laws.specs.RangesLaws.{in-range}
 use Rattle.codes.specs.Rule.{keeps}
 use Rattle.codes.specs.Form.{forms, formOf, allowedOf}
 use Rattle.codes.specs.FormLaws.{formOf-past, rest-past}

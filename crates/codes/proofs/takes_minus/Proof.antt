@@ -3,7 +3,7 @@ use mathlib.Core.Path.{refl, sym}
 use mathlib.Core.Bool.{Bool, true, false}
 use Prim.Native.Nat.{ℕ}
 use native.Mathlib.Omega.{arith}
-use Rattle.laws.specs.Ranges.{in-range}
+use Rattle.laws.specs.RangesLaws.{in-range}
 use Rattle.codes.specs.Rule.{takesMinus}
 use Rattle.codes.specs.Form.{forms, formOf, ruleOf}
 use Rattle.codes.specs.FormLaws.{formOf-past}

@@ -2,7 +2,7 @@
 use mathlib.Core.Path.{sym, ap, _∙_}
 use lib.ListN.{length-take}
 use lib.Seq.{length-take-le}
-use Rattle.laws.specs.Cut.{judge-last, tail-part}
+use Rattle.laws.specs.CutLaws.{judge-last, tail-part}
 use Rattle.judge.specs.Judge.{going}
 use Rattle.header.specs.Header.{headerStep, headerEnd}
 use Rattle.header.specs.HeaderLaws.{refused-most, header-refused, header-going, header-past, at-most, eleven-most, eleven}

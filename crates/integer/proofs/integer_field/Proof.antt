@@ -6,7 +6,8 @@ use native.Mathlib.Omega.{arith}
 use lib.ListN.{length, drop}
 use Rattle.text.specs.Parts.{isDigit}
 use Rattle.text.specs.BlankLaws.{run-past-blanks, blanksBefore-most}
-use Rattle.laws.specs.Run.{run, run-next, run-done}
+use Rattle.laws.specs.Run.{run}
+use Rattle.laws.specs.RunLaws.{run-next, run-done}
 use Rattle.integer.specs.Integer.{start, stepInteger, endInteger, integerOf}
 use Rattle.integer.proofs.integer_field.Statement.{statement}
 use Rattle.integer.proofs.integer_field.Tie as tie

@@ -1,7 +1,7 @@
 -- `judge::judge` meets its contract.
 use mathlib.Core.Path.{ap, _∙_}
 use borrow.Author.Tests.{lt-ltb, le-ltb}
-use Rattle.laws.specs.Cut.{tail-part}
+use Rattle.laws.specs.CutLaws.{tail-part}
 use Rattle.judge.specs.Judge.{judged, runEnd, going}
 use Rattle.judge.specs.LinesLaws.{whole-refused, whole-going}
 use borrow.Author.Needs.{needs}

@@ -1,7 +1,7 @@
 -- `kind::dataset_number` meets its contract.
 use mathlib.Core.Path.{sym, _∙_}
 use borrow.Author.Tests.{not-true, not-false}
-use Rattle.laws.specs.Cut.{tail-part}
+use Rattle.laws.specs.CutLaws.{tail-part}
 use Rattle.kind.specs.Kind.{datasetNumber}
 use borrow.Author.Needs.{needs}
 use Rattle.kind.proofs.dataset_number.Statement.{statement}

@@ -1,7 +1,7 @@
 -- `kind::is_delimiter` meets its contract.
 use mathlib.Core.Path.{sym, _∙_}
 use borrow.Author.Tests.{not-true, not-false, eq-eqb, ne-eqb}
-use Rattle.laws.specs.Cut.{tail-part}
+use Rattle.laws.specs.CutLaws.{tail-part}
 use Rattle.kind.specs.KindLaws.{isDelimiter-columns}
 use borrow.Author.Needs.{needs}
 use Rattle.kind.proofs.is_delimiter.Statement.{statement}

@@ -4,7 +4,8 @@ use Prim.Native.Nat.{_+_, _-_}
 use lib.ListN.{length, drop}
 use borrow.Author.Needs.{needs}
 use native.Mathlib.Omega.{arith}
-use Rattle.laws.specs.Cut.{lineLen, len-next, len-here, len-end}
+use Rattle.laws.specs.Cut.{lineLen}
+use Rattle.laws.specs.CutLaws.{len-next, len-here, len-end}
 use Rattle.line.proofs.find_end.Statement.{statement}
 use Rattle.line.proofs.find_end.Tie as tie
 

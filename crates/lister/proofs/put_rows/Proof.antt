@@ -6,7 +6,7 @@ use lib.ListN.{length, take, drop}
 use borrow.Rule.Slice.PartMut.{same-len-mid}
 use Rattle.parts.specs.declared.Extent.{Extent}
 use Rattle.parts.specs.Parts.{partsOf}
-use Rattle.parts.specs.SetLaws.{remaining}
+use Rattle.parts.specs.Set.{remaining}
 use Rattle.parts.specs.Turn.{Between}
 use Rattle.parts.specs.TurnLaws.{turn, between-start, between-next}
 use Rattle.lister.specs.Lister.{rowsOf}

@@ -6,7 +6,7 @@ use Prim.Native.Nat.{ℕ, _*_, _≤_}
 use native.Mathlib.Omega.{arith}
 use lib.ListN.{length}
 use borrow.Author.Tests.{lt-ltb, le-ltb}
-use Rattle.laws.specs.Choice.{below-or-not}
+use Rattle.laws.specs.ChoiceLaws.{below-or-not}
 use Rattle.judge.specs.declared.Reply.{Reply}
 use Rattle.judge.specs.Judge.{judged}
 use Rattle.parts.specs.Parts.{partsOf}

@@ -7,7 +7,7 @@ use borrow.Author.Tests.{not-true, not-false}
 use Rattle.parts.specs.declared.Extent.{Extent}
 use Rattle.parts.specs.Parts.{partsOf}
 use Rattle.parts.specs.Scan.{firstOf}
-use Rattle.parts.specs.SetLaws.{remaining}
+use Rattle.parts.specs.Set.{remaining}
 use Rattle.parts.specs.Turn.{Between}
 use Rattle.parts.specs.TurnLaws.{between-start, between-next}
 use Rattle.reader.specs.FindLaws.{sets-remain, sets-left, no-set, set-found}

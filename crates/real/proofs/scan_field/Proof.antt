@@ -3,7 +3,8 @@ use mathlib.Core.Path.{_≡_, sym, ap, _∙_}
 use Prim.Native.Nat.{_≤_, _-_}
 use lib.ListN.{length, drop}
 use Rattle.text.specs.BlankLaws.{run-past-blanks, blanksBefore-most}
-use Rattle.laws.specs.Run.{run, run-next, run-done}
+use Rattle.laws.specs.Run.{run}
+use Rattle.laws.specs.RunLaws.{run-next, run-done}
 use Rattle.real.specs.Real.{start, scanStep, realEnd, realOf}
 use Rattle.real.specs.StepLaws.{blank-passed}
 use native.Mathlib.Omega.{arith}

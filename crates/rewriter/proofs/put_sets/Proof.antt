@@ -5,7 +5,7 @@ use lib.ListN.{length}
 use Rattle.output.specs.Output.{Put}
 use Rattle.output.specs.OutputLaws.{put-start, put-done}
 use Rattle.parts.specs.declared.Extent.{Extent}
-use Rattle.parts.specs.SetLaws.{remaining}
+use Rattle.parts.specs.Set.{remaining}
 use Rattle.parts.specs.Turn.{Between}
 use Rattle.parts.specs.TurnLaws.{turn, between-start, between-next}
 use Rattle.rewriter.specs.Rewriter.{rewritten, rewrittenFile}

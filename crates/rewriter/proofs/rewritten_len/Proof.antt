@@ -4,7 +4,7 @@ use mathlib.Core.List.{List}
 use Prim.Native.Nat.{ℕ, _+_, _-_}
 use lib.ListN.{length}
 use Rattle.parts.specs.declared.Extent.{Extent}
-use Rattle.parts.specs.SetLaws.{remaining}
+use Rattle.parts.specs.Set.{remaining}
 use Rattle.parts.specs.Turn.{Between}
 use Rattle.parts.specs.TurnLaws.{turn, between-start, between-next}
 use Rattle.rewriter.specs.Rewriter.{rewritten, rewrittenFile}

@@ -3,7 +3,8 @@ use mathlib.Core.Path.{refl}
 use Rattle.layout.specs.Columns.{total}
 use Rattle.codes.specs.Form.{forms, formOf}
 use Rattle.rows.specs.Records.{noRecord, records, recordOf, fieldList}
-use Rattle.rows.specs.TabledLaws.{isWhole, tabled, tabled-past, Differs, past}
+use Rattle.rows.specs.Tabled.{isWhole, Differs}
+use Rattle.rows.specs.TabledLaws.{tabled, tabled-past, past}
 use Rattle.rows.proofs.row_numbers.Statement.{statement}
 use Rattle.rows.proofs.row_numbers.Tie as tie
 

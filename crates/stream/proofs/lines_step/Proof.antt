@@ -1,6 +1,6 @@
 -- `stream::lines_step` meets its contract.
 use mathlib.Core.Path.{refl, ap, _∙_}
-use Rattle.laws.specs.Cut.{tail-part}
+use Rattle.laws.specs.CutLaws.{tail-part}
 use Rattle.stream.specs.Stream.{squeezed}
 use Rattle.stream.specs.StreamLaws.{lines-refused, lines-going}
 use native.Mathlib.Omega.{arith}

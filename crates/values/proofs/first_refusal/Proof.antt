@@ -7,7 +7,8 @@ use Rattle.reader.specs.Reader.{reads}
 use Rattle.reader.specs.Find.{realAt}
 use Rattle.values.specs.Fill.{refusalIn}
 use Rattle.values.specs.FillLaws.{refusal-here, refusal-next, refusal-none}
-use Rattle.values.specs.SpotLaws.{AtSpot, here, read-own, spot-next}
+use Rattle.values.specs.Spot.{AtSpot}
+use Rattle.values.specs.SpotLaws.{here, read-own, spot-next}
 use borrow.Author.Needs.{needs}
 use native.Mathlib.Omega.{arith}
 use Rattle.values.proofs.first_refusal.Statement.{statement}

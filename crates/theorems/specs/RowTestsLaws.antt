@@ -9,10 +9,10 @@ use Rattle.line.specs.declared.Refusal.{Refusal}
 use Rattle.rows.specs.Row.{Field, Row, breach}
 use Rattle.record.specs.Check.{orElse, breachFault, conditionFault, itemsOf, fieldsRefusal, rowRefusal}
 use Rattle.record.specs.Written.{Written}
-use Rattle.reading.specs.LineReading.{written-sound}
+use Rattle.reading.specs.LineReadingLaws.{written-sound}
 use Rattle.walk.specs.Due.{rowDue}
 use Rattle.walk.specs.declared.Due.{Due}
-use Rattle.theorems.specs.RowFits.{rowDue-fits}
+use Rattle.theorems.specs.RowFitsLaws.{rowDue-fits}
 
 -- a refusal whose number is 0 is none
 rowRefusal-passed : (r : Row) (line : List ℕ) → rowRefusal r line .number ≡ 0 → rowRefusal r line ≡ passed

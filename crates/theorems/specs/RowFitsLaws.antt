@@ -9,8 +9,9 @@ use native.Mathlib.Omega.{arith}
 use borrow.Author.Tests.{leb-true}
 use lib.Dec.{leb, ltb}
 use lib.ListN.{take}
-use Rattle.laws.specs.Choice.{pick, below-or-not}
-use Rattle.laws.specs.Ranges.{in-range}
+use Rattle.laws.specs.Choice.{pick}
+use Rattle.laws.specs.ChoiceLaws.{below-or-not}
+use Rattle.laws.specs.RangesLaws.{in-range}
 use Rattle.layout.specs.Columns.{total}
 use Rattle.layout.specs.Layout.{layoutOf}
 use Rattle.layout.specs.LayoutLaws.{total-inside}

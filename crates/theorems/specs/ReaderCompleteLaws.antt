@@ -13,14 +13,14 @@ use Rattle.line.specs.LineLaws.{filled-length}
 use Rattle.kind.specs.Kind.{Delimiter, NumberLine, number-line}
 use Rattle.kind.specs.KindLaws.{isDelimiter-complete, datasetNumber-complete, delimiter-not-blank}
 use Rattle.field.specs.Item.{Item, text}
-use Rattle.reading.specs.LineReading.{written-complete}
+use Rattle.reading.specs.LineReadingLaws.{written-complete}
 use Rattle.record.specs.Written.{Written}
 use Rattle.walk.specs.Due.{mayClose, mayContinue, rowDue, afterItems}
 use Rattle.walk.specs.declared.Due.{Due}
 use Rattle.theory.specs.Sets.{Set}
 use Rattle.theory.specs.Proper.{Inside, BlankLines, PlainLines, SetLines, Lines}
 use Rattle.theorems.specs.Reader.{Reading, outside, number, plain, typed, closed, opened, readLine, readLines}
-use Rattle.ends.specs.LineTests.{blankLine-complete, inside-complete}
+use Rattle.ends.specs.LineTestsLaws.{blankLine-complete, inside-complete}
 use Rattle.theorems.specs.TypedRun.{TypedRun}
 use Rattle.theorems.specs.TypedRunLaws.{typedLines-run}
 

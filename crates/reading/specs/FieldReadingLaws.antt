@@ -6,7 +6,8 @@ use Prim.Native.Nat.{ℕ, _+_, _≤_, _<_}
 use native.Mathlib.Omega.{arith}
 use borrow.Author.Tests.{eqb-true, le-leb}
 use lib.Dec.{eqb}
-use Rattle.laws.specs.Choice.{pick, pick-passed}
+use Rattle.laws.specs.Choice.{pick}
+use Rattle.laws.specs.ChoiceLaws.{pick-passed}
 use Rattle.text.specs.Blank.{Blanks, none, one, allBlank}
 use Rattle.text.specs.BlankLaws.{allBlank-complete, allBlank-sound}
 use Rattle.text.specs.Text.{TextIn, text-in, empty, trimmed}

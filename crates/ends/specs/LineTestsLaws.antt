@@ -4,7 +4,7 @@ use mathlib.Core.Bool.{Bool, true, false, _&&_}
 use mathlib.Core.List.{List}
 use Prim.Native.Nat.{ℕ, zero, suc, _-_, _≤_}
 use lib.ListN.{length, take, replicate}
-use Rattle.laws.specs.Choice.{and-left, false-not-true}
+use Rattle.laws.specs.ChoiceLaws.{and-left, false-not-true}
 use Rattle.text.specs.Blank.{Blanks, none, one, allBlank}
 use Rattle.text.specs.BlankLaws.{allBlank-complete, allBlank-sound, allBlank-append, blanks-append, blanks-replicate}
 use Rattle.line.specs.Line.{filled}

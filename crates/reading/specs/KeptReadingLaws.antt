@@ -8,7 +8,8 @@ use borrow.Author.Tests.{eqb-true, eqb-false, ne-eqb}
 use lib.Dec.{eqb}
 use lib.IntN.{ℤ, pos, negsuc}
 use lib.ListN.{getD}
-use Rattle.laws.specs.Choice.{pick, false-not-true}
+use Rattle.laws.specs.Choice.{pick}
+use Rattle.laws.specs.ChoiceLaws.{false-not-true}
 use Rattle.field.specs.Item.{Item, isZeroInteger, isZeroReal, isAboveZero}
 use Rattle.rows.specs.Row.{Condition, none, zeroIfUneven, aboveZero, firstNotAbove, breach}
 use Rattle.record.specs.Written.{AllAbove, nil, cons, Zero, zero, Kept, nothing, spaced, factors}

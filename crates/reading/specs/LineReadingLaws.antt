@@ -5,7 +5,7 @@ use Prim.Native.Nat.{ℕ, zero, suc, _+_, _≤_}
 use native.Mathlib.Omega.{arith}
 use lib.ListN.{length, take, drop, length-drop, take-append-drop}
 use lib.Seq.{length-take-le, drop-drop, take-at, drop-at}
-use Rattle.laws.specs.Cut.{tail-part}
+use Rattle.laws.specs.CutLaws.{tail-part}
 use Rattle.text.specs.TextLaws.{trimmed-sound}
 use Rattle.line.specs.Line.{passed}
 use Rattle.line.specs.declared.Refusal.{Refusal}
@@ -14,10 +14,10 @@ use Rattle.layout.specs.Columns.{total}
 use Rattle.field.specs.Item.{Item}
 use Rattle.field.specs.Field.{columnsOf, mayBlank, fieldNumber, withItem}
 use Rattle.rows.specs.Row.{Field, Row}
-use Rattle.reading.specs.KeptReading.{kept-complete, kept-sound}
+use Rattle.reading.specs.KeptReadingLaws.{kept-complete, kept-sound}
 use Rattle.record.specs.Check.{orElse, fieldsFault, orColumn, strayIn, stray, itemsOf, breachFault, conditionFault, strayFault, fieldsRefusal, rowRefusal}
 use Rattle.record.specs.Written.{a-text, FieldsIn, rest, skipped, stands, Written}
-use Rattle.reading.specs.FieldReading.{firstByte-complete, firstByte-sound, Reads, skip-complete, stands-complete, identification-sound, integer-sound, real-sound}
+use Rattle.reading.specs.FieldReadingLaws.{firstByte-complete, firstByte-sound, Reads, skip-complete, stands-complete, identification-sound, integer-sound, real-sound}
 
 -- Where a refusal's number is 0, each of its parts passes.
 

@@ -24,8 +24,8 @@ use Rattle.theory.specs.Sets.{Set, set}
 use Rattle.theory.specs.Proper.{BlankLines, PlainLines, SetLines, Lines}
 use Rattle.theorems.specs.Reader.{Reading, outside, number, plain, typed, bad, closed, opened, typedOn, readLine, readLines}
 use Rattle.ends.specs.Short.{Short}
-use Rattle.ends.specs.LineTests.{blankLine-sound, inside-sound}
-use Rattle.theorems.specs.RowTests.{rowDue-sound}
+use Rattle.ends.specs.LineTestsLaws.{blankLine-sound, inside-sound}
+use Rattle.theorems.specs.RowTestsLaws.{rowDue-sound}
 use Rattle.theorems.specs.TypedRun.{TypedRun}
 use Rattle.theorems.specs.TypedRunLaws.{run-typedLines}
 
