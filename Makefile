@@ -28,13 +28,15 @@ COMMAND = $(wildcard cmd/*.c)
 target/uff: $(COMMAND) cmd/command.h include/uff.h $(ARCHIVE)
 	$(CC) $(WARN) $(CFLAGS) $(CPPFLAGS) -Iinclude -o $@ $(COMMAND) $(ARCHIVE) $(LDFLAGS)
 
-target/canaries: tests/host/canaries.c include/uff.h $(ARCHIVE)
-	$(CC) $(WARN) $(CFLAGS) $(CPPFLAGS) -g -Iinclude -o $@ tests/host/canaries.c $(ARCHIVE) $(LDFLAGS)
+CANARIES = $(wildcard tests/host/canaries/*.c)
+
+target/canaries: $(CANARIES) tests/host/canaries/canaries.h include/uff.h $(ARCHIVE)
+	$(CC) $(WARN) $(CFLAGS) $(CPPFLAGS) -g -Iinclude -o $@ $(CANARIES) $(ARCHIVE) $(LDFLAGS)
 
 check: target/uff target/canaries
 	$(if $(FOUND_CXX),$(CXX) -std=c++11 -Wall -Wextra -Werror -fsyntax-only -x c++ include/uff.h -x none,@echo 'no C++ compiler: the header was not tried with one')
-	target/canaries
-	$(if $(VALGRIND),$(VALGRIND) -q --error-exitcode=1 --leak-check=full target/canaries,@echo 'no valgrind: canaries were run without it')
+	target/canaries samples/bearing.uff
+	$(if $(VALGRIND),$(VALGRIND) -q --error-exitcode=1 --leak-check=full target/canaries samples/bearing.uff,@echo 'no valgrind: canaries were run without it')
 	bash tests/host/command target/uff
 	bash tests/host/watch target/uff
 	bash tests/host/faults target/uff
@@ -53,7 +55,7 @@ install: target/uff
 # The speeds of the calls beside plain Rust, C's strtod and, where there is gfortran, its formatted READ; with BEFORE=ARCHIVE also beside
 # the calls of that archive, in each round.
 GFORTRAN = $(shell command -v gfortran)
-BENCH = $(wildcard bench/*) tests/judge/files.rs tests/judge/judge.rs tests/reader/reader.rs
+BENCH = $(wildcard bench/* tests/common/*.rs) tests/judge/judge.rs tests/reader/reader.rs include/uff.h samples/bearing.uff
 TIMED = target/bench$(if $(BEFORE),-before)
 
 # The other archive's calls, by names that begin with before_.

@@ -9,8 +9,8 @@
 //! of all sides are held against each other, f64 by their bits.
 
 mod calls;
-#[path = "../tests/judge/files.rs"]
-mod files;
+#[path = "../tests/common/mod.rs"]
+mod common;
 #[path = "../tests/judge/judge.rs"]
 mod judge;
 #[allow(dead_code)]
@@ -19,7 +19,8 @@ mod reader;
 mod sets;
 
 use calls::ARCHIVES;
-use sets::LONGEST;
+use common::files;
+use common::uff::{self, Word, LONGEST, SETS};
 use std::hint::black_box;
 use std::time::Instant;
 
@@ -83,7 +84,7 @@ fn row(name: &str, bytes: usize, speeds: &[f64]) {
 // Judging --------------------------------------------------------------------------------------
 
 fn judge_row(name: &str, file: &[u8]) {
-    let mut words = [0; ARCHIVES.len()];
+    let mut words = [Word::accepted(0); ARCHIVES.len()];
     let mut plain = judge::judge(b"");
     let mut sides: Vec<Side> = Vec::new();
     for (archive, word) in ARCHIVES.iter().zip(&mut words) {
@@ -91,7 +92,7 @@ fn judge_row(name: &str, file: &[u8]) {
     }
     sides.push(Box::new(|| plain = black_box(judge::judge(black_box(file)))));
     let mut speeds = best(file, sides);
-    let good = u64::from(plain.place);
+    let good = Word::accepted(plain.place);
     check(name, plain.number == 0 && words[0] == good);
     for (speed, word) in speeds.iter_mut().zip(words) {
         // An earlier archive may not take the file yet.
@@ -108,7 +109,7 @@ fn judge_table() {
     judge_row("case 5, 16 MB", &sets::many(5, LONGEST));
     judge_row("case 1, one set of 65,536 values", &sets::set(1, 65_536));
     judge_row("the same, signs and exponents vary", &sets::signed(1, 65_536));
-    judge_row("4,096 plain sets without lines", &files::empty_sets(4_096));
+    judge_row("4,096 plain sets without lines", &files::empty_sets(SETS));
     judge_row("4,096 sets 82 of one entry", &sets::traces());
     judge_row("case 1, CR LF, 80 columns, 16 MB", &sets::filled());
     judge_row("case 1, no letters, 16 MB", &sets::without_letters(sets::many(1, LONGEST)));
@@ -126,14 +127,15 @@ fn same_bits(a: &[f64], b: &[f64]) -> bool {
 
 /// The file judged and all values of one of its sets read: what each side answered.
 struct Read {
-    words: [u64; ARCHIVES.len()],
+    words: [Word; ARCHIVES.len()],
     proved: [Vec<f64>; ARCHIVES.len()],
     plain: Vec<f64>,
 }
 
 impl Read {
     fn new(count: usize) -> Read {
-        Read { words: [0; ARCHIVES.len()], proved: [(); ARCHIVES.len()].map(|()| vec![1.0; count]), plain: Vec::new() }
+        let proved = [(); ARCHIVES.len()].map(|()| vec![1.0; count]);
+        Read { words: [Word::accepted(0); ARCHIVES.len()], proved, plain: Vec::new() }
     }
 
     /// The archives and the plain Rust.
@@ -148,7 +150,7 @@ impl Read {
     }
 
     fn is(&self, due: &[f64]) -> bool {
-        self.words == [due.len() as u64; ARCHIVES.len()]
+        self.words == [Word::accepted(due.len() as u32); ARCHIVES.len()]
             && self.proved.iter().all(|proved| same_bits(proved, due))
             && same_bits(&self.plain, due)
     }
@@ -156,7 +158,7 @@ impl Read {
 
 /// All values of a file's last set: proved and plain Rust.
 fn values_row(name: &str, file: &[u8]) {
-    let set = calls::now::list(file).len() as u32;
+    let set = calls::list(file).len() as u32;
     let due = reader::values(file, set).unwrap_or_default();
     let name = &format!("{name}, set {set}, {} values", due.len());
     let mut read = Read::new(due.len());
@@ -167,7 +169,7 @@ fn values_row(name: &str, file: &[u8]) {
 
 /// The same for a file of one set, and its values read without a judge by strtod and gfortran's READ.
 fn columns_row(name: &str, case: usize, file: &[u8]) {
-    let data = calls::Data::new(file, calls::now::list(file)[0], case);
+    let data = calls::Data::new(file, calls::list(file)[0], case);
     let due = reader::values(file, 1).unwrap_or_default();
     let mut read = Read::new(due.len());
     let [mut strtod, mut fortran] = [(); 2].map(|()| vec![1.0; due.len()]);
@@ -203,7 +205,7 @@ fn values_tables() {
 // Rewriting ------------------------------------------------------------------------------------
 
 fn rewrite_row(name: &str, file: &[u8]) {
-    let mut words = [0; ARCHIVES.len()];
+    let mut words = [Word::accepted(0); ARCHIVES.len()];
     let mut proved = [(); ARCHIVES.len()].map(|()| vec![b'x'; file.len()]);
     let mut plain = Vec::new();
     let mut sides: Vec<Side> = Vec::new();
@@ -212,7 +214,7 @@ fn rewrite_row(name: &str, file: &[u8]) {
     }
     sides.push(Box::new(|| plain = black_box(reader::rewrite(black_box(file)).unwrap_or_default())));
     let speeds = best(file, sides);
-    check(name, !plain.is_empty() && words == [plain.len() as u64; ARCHIVES.len()]);
+    check(name, !plain.is_empty() && words == [Word::accepted(plain.len() as u32); ARCHIVES.len()]);
     check(name, proved.iter().all(|out| out[..plain.len()] == plain));
     row(name, file.len(), &speeds);
 }
@@ -222,7 +224,7 @@ fn rewrite_table() {
     rewrite_row("case 1, 16 MB", &sets::many(1, LONGEST));
     rewrite_row("case 5, 16 MB", &sets::many(5, LONGEST));
     rewrite_row("case 1, one set of 65,536 values", &sets::set(1, 65_536));
-    rewrite_row("4,096 plain sets without lines", &files::empty_sets(4_096));
+    rewrite_row("4,096 plain sets without lines", &files::empty_sets(SETS));
     rewrite_row("4,096 sets 82 of one entry", &sets::traces());
     rewrite_row("case 1, CR LF, 80 columns, 16 MB", &sets::filled());
 }
@@ -231,17 +233,17 @@ fn rewrite_table() {
 
 fn bursts_row(name: &str, file: &[u8], length: usize) {
     let name = format!("{length}, {name}");
-    let mut ended = [0; ARCHIVES.len()];
-    let mut whole = 0;
+    let mut ended = [Word::accepted(0); ARCHIVES.len()];
+    let mut whole = Word::accepted(0);
     let mut plain = judge::judge(b"");
     let mut sides: Vec<Side> = Vec::new();
     for (archive, word) in ARCHIVES.iter().zip(&mut ended) {
         sides.push(Box::new(move || *word = black_box((archive.in_bursts)(black_box(file), length))));
     }
-    sides.push(Box::new(|| whole = black_box(calls::now::judge(black_box(file)))));
+    sides.push(Box::new(|| whole = black_box(uff::judge(black_box(file)))));
     sides.push(Box::new(|| plain = black_box(judge::judge(black_box(file)))));
     let speeds = best(file, sides);
-    check(&name, plain.number == 0 && whole == u64::from(plain.place) && ended == [whole; ARCHIVES.len()]);
+    check(&name, plain.number == 0 && whole == Word::accepted(plain.place) && ended == [whole; ARCHIVES.len()]);
     row(&name, file.len(), &speeds);
 }
 

@@ -1,8 +1,7 @@
 //! The files that are measured, each built once.
 
-use crate::files;
-
-pub const LONGEST: usize = 16_777_216;
+use crate::common::files;
+use crate::common::uff::{LONGEST, SETS};
 
 /// Digits and choices from one seed.
 struct Digits(u32);
@@ -91,5 +90,5 @@ pub fn filled() -> Vec<u8> {
 
 /// 4,096 sets 82 of one entry.
 pub fn traces() -> Vec<u8> {
-    b"    -1\n    82\n         1         1         0\nNONE\n         7\n    -1\n".repeat(4_096)
+    b"    -1\n    82\n         1         1         0\nNONE\n         7\n    -1\n".repeat(SETS)
 }

@@ -88,7 +88,7 @@ static int run_judge(int count, char **words)
 }
 
 /* Room for what the lister gives of any file. */
-static uint32_t rows[UFF_SETS * UFF_ROW];
+static uint32_t rows[UFF_SETS * UFF_ROW_NUMBERS];
 
 static int run_list(int count, char **words)
 {
@@ -98,11 +98,11 @@ static int run_list(int count, char **words)
     (void)count;
     if (!read_file(words[0], &t))
         return TROUBLE;
-    reply = uff_list(t.bytes, t.count, rows, UFF_SETS * UFF_ROW);
+    reply = uff_list(t.bytes, t.count, rows, UFF_SETS * UFF_ROW_NUMBERS);
     if (UFF_NUMBER(reply) == UFF_ACCEPTED) {
         printf("set line dataset values\n");
         for (uint32_t i = 0; i < UFF_PLACE(reply); i++) {
-            const uint32_t *row = rows + i * UFF_ROW;
+            const uint32_t *row = rows + i * UFF_ROW_NUMBERS;
             printf("%u %u %u %u\n", i + 1, row[0], row[1], row[2]);
         }
     }
@@ -175,8 +175,8 @@ static int run_number(int count, char **words)
 /* The count of values that a set of an accepted file declares, as the lister gives it. */
 static uint32_t declared_count(const struct text *t, uint32_t set)
 {
-    uff_list(t->bytes, t->count, rows, UFF_SETS * UFF_ROW);
-    return rows[(set - 1) * UFF_ROW + 2];
+    uff_list(t->bytes, t->count, rows, UFF_SETS * UFF_ROW_NUMBERS);
+    return rows[(set - 1) * UFF_ROW_NUMBERS + 2];
 }
 
 /*

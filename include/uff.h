@@ -19,17 +19,21 @@
 #include <stddef.h>
 #include <stdint.h>
 
-#define UFF_VERSION "1.0"
+#define UFF_VERSION "2.0"
 
 /* The most bytes that a file has, the most sets, and the numbers that the lister gives for a set. */
 #define UFF_LONGEST 16777216
 #define UFF_SETS 4096
-#define UFF_ROW 6
+#define UFF_ROW_NUMBERS 6
 
 /* The bytes of an answer of uff_number, the most that uff_value gives, and the most doubles that uff_values gives. */
 #define UFF_NUMBER_BYTES 20
 #define UFF_VALUE_BYTES 24
 #define UFF_DOUBLES 196608
+
+/* The record of the streaming calls: its numbers, and the bytes of its line. Some are not used yet; they are 0 and stay 0. */
+#define UFF_STREAM_NUMBERS 16
+#define UFF_STREAM_LINE 96
 
 /*
  * Every call replies with one word: number * 2^57 + column * 2^32 + place. The number is one of the
@@ -91,7 +95,7 @@ uint64_t uff_judge(const uint8_t *file, size_t file_len);
  * The lister: six numbers for each set, one set after the other: its opening line, dataset number,
  * declared count of values, first byte, byte past its closing line, first byte of its data lines. The
  * third and sixth are 0 unless it is a 58. The answer is the number of sets. Refused as by the judge,
- * then with 17; UFF_SETS * UFF_ROW places are enough for every file.
+ * then with 17; UFF_SETS * UFF_ROW_NUMBERS places are enough for every file.
  */
 uint64_t uff_list(const uint8_t *file, size_t file_len, uint32_t *rows, size_t rows_len);
 
@@ -139,8 +143,9 @@ uint64_t uff_write(const uint8_t *header, size_t header_len, const int64_t *coef
                    const int16_t *scales, size_t scales_len, uint8_t *out, size_t out_len);
 
 /*
- * A file judged while it arrives, in bursts of any size, with a record of 12 numbers and 82 bytes that
- * the caller keeps. Any contents of the record are safe; one that uff_start laid out starts a new file.
+ * A file judged while it arrives, in bursts of any size, with a record of UFF_STREAM_NUMBERS numbers and
+ * UFF_STREAM_LINE bytes that the caller keeps. Any contents of the record are safe; one that uff_start
+ * laid out starts a new file.
  *
  * uff_start lays out such a record. The answer is 0. Refused with 20 where a buffer is shorter.
  */
@@ -167,23 +172,23 @@ uint64_t uff_end(uint64_t *numbers, size_t numbers_len, const uint8_t *line, siz
 
 /* The record as one piece, and the three calls on it. */
 struct uff_stream {
-    uint64_t numbers[12];
-    uint8_t line[82];
+    uint64_t numbers[UFF_STREAM_NUMBERS];
+    uint8_t line[UFF_STREAM_LINE];
 };
 
 static inline uint64_t uff_stream_start(struct uff_stream *record)
 {
-    return uff_start(record->numbers, 12, record->line, 82);
+    return uff_start(record->numbers, UFF_STREAM_NUMBERS, record->line, UFF_STREAM_LINE);
 }
 
 static inline uint64_t uff_stream_burst(struct uff_stream *record, const uint8_t *bytes, size_t bytes_len)
 {
-    return uff_burst(record->numbers, 12, record->line, 82, bytes, bytes_len);
+    return uff_burst(record->numbers, UFF_STREAM_NUMBERS, record->line, UFF_STREAM_LINE, bytes, bytes_len);
 }
 
 static inline uint64_t uff_stream_end(struct uff_stream *record)
 {
-    return uff_end(record->numbers, 12, record->line, 82);
+    return uff_end(record->numbers, UFF_STREAM_NUMBERS, record->line, UFF_STREAM_LINE);
 }
 
 #endif

@@ -2,18 +2,16 @@
 //!
 //! `compare` takes every edge file, a few hundred thousand generated files and arbitrary strings of
 //! bytes, asks both judges and stops at the first disagreement (exit 1). `compare --self` asks the
-//! plain judge alone and checks it against the replies typed by hand; built with `--cfg alone` it needs
-//! no library.
+//! plain judge alone and checks it against the replies typed by hand.
 
-#[path = "edges.rs"]
+#[path = "../common/mod.rs"]
+mod common;
 mod edges;
-#[path = "files.rs"]
-mod files;
-#[path = "generate.rs"]
 mod generate;
-#[path = "judge.rs"]
 mod judge;
 
+use common::files::print_lines;
+use common::uff::{self, Word, SETS};
 use generate::Random;
 use judge::Reply;
 
@@ -49,27 +47,12 @@ const LEAST: [(usize, u32); 15] = [
 /// So many reals of the proper files must have an exponent without a letter.
 const LEAST_WITHOUT_LETTER: u32 = 400_000;
 
-#[cfg(not(alone))]
-extern "C" {
-    fn uff_judge(file: *const u8, len: usize) -> u64;
-}
-
-/// The proved judge's whole reply: number * 2^57 + column * 2^32 + place.
-#[cfg(not(alone))]
-fn proved(file: &[u8]) -> Option<u64> {
-    // An empty slice may also be lent as a null pointer; do both in turn.
+/// The proved judge's whole reply. An empty file is lent as null and otherwise, in turn.
+fn proved(file: &[u8]) -> Word {
     if file.is_empty() {
-        let null = unsafe { uff_judge(std::ptr::null(), 0) };
-        let other = unsafe { uff_judge(file.as_ptr(), 0) };
-        assert_eq!(null, other, "an empty file lent as null and otherwise");
+        assert_eq!(uff::judge(file), uff::judge(file), "an empty file lent as null and otherwise");
     }
-    Some(unsafe { uff_judge(file.as_ptr(), file.len()) })
-}
-
-/// Built alone there is no proved judge.
-#[cfg(alone)]
-fn proved(_file: &[u8]) -> Option<u64> {
-    None
+    uff::judge(file)
 }
 
 struct Run {
@@ -92,34 +75,25 @@ impl Run {
         self.came[plain.number as usize] += 1;
         if let Some(expected) = expected {
             if plain != expected {
-                fail(name, file, &[("papers", expected), ("plain", plain)]);
+                fail(name, file, &[("papers", expected.into()), ("plain", plain.into())]);
             }
         }
         if self.alone {
             return;
         }
-        let Some(word) = proved(file) else {
-            eprintln!("built alone: only `compare --self` can run");
-            std::process::exit(2);
-        };
-        let column = (word >> 32) & ((1 << 25) - 1);
-        let proved = Reply { number: (word >> 57) as u32, place: word as u32 };
-        if proved != plain || column != 0 {
-            println!("the proved judge's word is {word:#018x} (column {column})");
-            fail(name, file, &[("proved", proved), ("plain", plain)]);
+        let word = proved(file);
+        if word != Word::from(plain) {
+            fail(name, file, &[("proved", word), ("plain", plain.into())]);
         }
     }
 }
 
 /// Prints the file and the replies and ends the program.
-fn fail(name: &str, file: &[u8], replies: &[(&str, Reply)]) -> ! {
+fn fail(name: &str, file: &[u8], replies: &[(&str, Word)]) -> ! {
     println!("DISAGREEMENT on: {name} ({} bytes)", file.len());
-    for (n, line) in file.split_inclusive(|&b| b == b'\n').take(400).enumerate() {
-        let shown = &line[..line.len().min(200)];
-        println!("{:5} |{}|", n + 1, shown.escape_ascii());
-    }
+    print_lines(file, 400);
     for (who, reply) in replies {
-        println!("{who:>8}: refusal {} at {}", reply.number, reply.place);
+        println!("{who:>8}: {reply:?}");
     }
     std::process::exit(1);
 }
@@ -164,9 +138,9 @@ fn take_generated(run: &mut Run) {
 
 fn take_many_sets(run: &mut Run, random: &mut Random) {
     for n in 0..FILES_OF_MANY_SETS {
-        let sets = 4_095 + n % 4;
+        let sets = SETS - 1 + n % 4;
         let mut made = generate::many_sets(random, sets);
-        let expected = (sets <= 4_096).then_some(Reply { number: 0, place: made.lines });
+        let expected = (sets <= SETS).then_some(Reply { number: 0, place: made.lines });
         run.take("many sets", &made.file, expected);
         if n % 8 >= 4 {
             generate::damage(random, &mut made.file);

@@ -1,6 +1,6 @@
 //! Files at the edges of the rules, each with the reply that the papers give it, typed by hand.
 
-use crate::files::{empty_sets, filled, function, joined, lines};
+use crate::common::files::{empty_sets, filled, function, joined, lines, EXAMPLE};
 
 /// A file and the reply it must get.
 pub struct Edge {
@@ -9,31 +9,6 @@ pub struct Edge {
     pub number: u32,
     pub place: u32,
 }
-
-/// Document 01's example: 22 lines.
-const EXAMPLE: &str = "    -1
-   164
-         1SI: Meter (newton)           2
-  1.00000000000000000D+00  1.00000000000000000D+00  1.00000000000000000D+00
-  2.73150000000000000D+02
-    -1
-    -1
-    58
-Drive end bearing
-NONE
-NONE
-NONE
-NONE
-    1         1    0         0 NONE               7   3 NONE               0   0
-         2         7         1  0.00000E+00  1.00000E-03  0.00000E+00
-        17    0    0    0 Time                 s
-        12    0    0    0 Acceleration         m/s2
-         0    0    0    0 NONE                 NONE
-         0    0    0    0 NONE                 NONE
-  1.00000E-01 -2.00000E-01  3.00000E-01 -4.00000E-01  5.00000E-01 -6.00000E-01
-  7.00000E-01
-    -1
-";
 
 /// A set 82 of ten entries: 7 lines.
 const TRACE: &str = "    -1

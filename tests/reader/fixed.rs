@@ -1,6 +1,8 @@
 //! Fixed files with the answers that the papers give them, typed by hand. Byte places are typed too,
 //! or counted here from the literal text by line and column, never through the reader.
 
+use crate::common::files::EXAMPLE;
+use crate::common::uff::Row;
 use crate::reader::Number;
 
 /// What a question about a value is answered: kind and f64, or the refusal's number.
@@ -12,7 +14,7 @@ type AllValues = Result<Vec<f64>, u32>;
 pub struct Fixed {
     pub name: &'static str,
     pub file: String,
-    pub rows: Vec<[u32; 6]>,
+    pub rows: Vec<Row>,
     /// Set, index and the stored number there, or the refusal's number.
     pub numbers: Vec<(u32, u32, Result<Number, u32>)>,
     pub values: Vec<(u32, u32, Value)>,
@@ -106,30 +108,6 @@ fn point(x: f64, y: f64) -> Value {
 fn point_pair(x: f64, y: f64, z: f64) -> Value {
     Ok((4, vec![x, y, z]))
 }
-
-const EXAMPLE: &str = "    -1
-   164
-         1SI: Meter (newton)           2
-  1.00000000000000000D+00  1.00000000000000000D+00  1.00000000000000000D+00
-  2.73150000000000000D+02
-    -1
-    -1
-    58
-Drive end bearing
-NONE
-NONE
-NONE
-NONE
-    1         1    0         0 NONE               7   3 NONE               0   0
-         2         7         1  0.00000E+00  1.00000E-03  0.00000E+00
-        17    0    0    0 Time                 s
-        12    0    0    0 Acceleration         m/s2
-         0    0    0    0 NONE                 NONE
-         0    0    0    0 NONE                 NONE
-  1.00000E-01 -2.00000E-01  3.00000E-01 -4.00000E-01  5.00000E-01 -6.00000E-01
-  7.00000E-01
-    -1
-";
 
 /// Document 01's example, its byte places typed.
 fn example() -> Fixed {

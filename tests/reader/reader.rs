@@ -7,6 +7,7 @@
 //! Refusals 17 and 20 are about lent places, so they are the caller's. Safe Rust, standard library
 //! only.
 
+use crate::common::uff::{Row, NUMBER_BYTES};
 use crate::judge::{judge, Reply};
 
 /// No such set, number or value, or not a 58.
@@ -22,7 +23,7 @@ const HEADER_LINES: usize = 11;
 
 /// Document 01's lister: opening line, dataset number, declared count, first byte, byte past the
 /// closing line, first byte of the data lines of each set.
-pub fn list(file: &[u8]) -> Result<Vec<[u32; 6]>, Reply> {
+pub fn list(file: &[u8]) -> Result<Vec<Row>, Reply> {
     Ok(accept(file)?.list())
 }
 
@@ -56,6 +57,20 @@ pub struct Number {
     pub negative: bool,
     pub coefficient: u64,
     pub scale: i16,
+}
+
+impl Number {
+    /// Its bytes for C, each part with its lowest byte first: first, past, coefficient, scale, sign, zero.
+    pub fn bytes(&self) -> Vec<u8> {
+        let mut bytes = Vec::with_capacity(NUMBER_BYTES);
+        bytes.extend(self.first.to_le_bytes());
+        bytes.extend(self.past.to_le_bytes());
+        bytes.extend(self.coefficient.to_le_bytes());
+        bytes.extend(self.scale.to_le_bytes());
+        bytes.push(u8::from(self.negative));
+        bytes.push(0);
+        bytes
+    }
 }
 
 /// An accepted file, cut into its sets.
@@ -122,7 +137,7 @@ pub fn accept(file: &[u8]) -> Result<Accepted<'_>, Reply> {
 }
 
 impl Accepted<'_> {
-    pub fn list(&self) -> Vec<[u32; 6]> {
+    pub fn list(&self) -> Vec<Row> {
         let row = |set: &Dataset| {
             let (count, data) = match &set.form {
                 Some(form) => (form.count, set.lines[HEADER_LINES].first as u32),

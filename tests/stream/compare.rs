@@ -5,17 +5,20 @@
 //! come, at the end what it says of the whole file, and again when asked again; a burst after that is
 //! 23. The program stops at the first difference (exit 1).
 
+#[path = "../common/mod.rs"]
+mod common;
 #[allow(dead_code)]
 #[path = "../judge/edges.rs"]
 mod edges;
-#[path = "../judge/files.rs"]
-mod files;
 #[allow(dead_code)]
 #[path = "../judge/generate.rs"]
 mod generate;
 #[path = "../judge/judge.rs"]
 mod judge;
 
+use common::files::{ends, print_lines};
+use common::lent::Lent;
+use common::uff::{self, Word, LONGEST, SO_FAR, STREAM_LINE, STREAM_NUMBERS};
 use generate::Random;
 use judge::Reply;
 
@@ -28,82 +31,73 @@ const ARBITRARY: usize = 6_000;
 /// Cuts of each file.
 const CUTS: usize = 4;
 
-/// The most bytes that a file has.
-const LIMIT: usize = 16_777_216;
+/// Each end must come at least so often, so that the files are known to be of use.
+const LEAST: [(usize, u32); 12] = [
+    (0, 20_000),
+    (1, 4),
+    (2, 100),
+    (3, 100),
+    (4, 100),
+    (5, 100),
+    (6, 100),
+    (7, 100),
+    (8, 100),
+    (12, 100),
+    (13, 100),
+    (16, 4),
+];
 
-/// "So far" as a number, which is no refusal's.
-const SO_FAR: u32 = 127;
+/// The most columns of a line.
+const COLUMNS: usize = 80;
 
-const NUMBERS: usize = 12;
-const LINE: usize = 82;
+/// Which of a record's numbers says that the end was asked.
+const MARK: usize = 11;
 
-/// What the lent record has around it, which no call may touch.
-const MARGIN: usize = 3;
+/// A burst after the end was asked.
+const LATE: Reply = Reply { number: 23, place: 0 };
 
-extern "C" {
-    fn uff_start(numbers: *mut u64, numbers_len: usize, line: *mut u8, line_len: usize) -> u64;
-    fn uff_burst(
-        numbers: *mut u64,
-        numbers_len: usize,
-        line: *mut u8,
-        line_len: usize,
-        bytes: *const u8,
-        bytes_len: usize,
-    ) -> u64;
-    fn uff_end(numbers: *mut u64, numbers_len: usize, line: *mut u8, line_len: usize) -> u64;
-}
-
-/// A record lent to the proved calls, with a margin around both parts.
+/// A record lent to the proved calls.
 #[derive(Clone, PartialEq)]
 struct Record {
-    numbers: [u64; NUMBERS + 2 * MARGIN],
-    line: [u8; LINE + 2 * MARGIN],
+    numbers: Lent<u64>,
+    line: Lent<u8>,
 }
 
 impl Record {
     fn new() -> Record {
-        let mut record = Record { numbers: [0xA5A5_5A5A; NUMBERS + 2 * MARGIN], line: [0xA5; LINE + 2 * MARGIN] };
-        let (numbers, line) = record.lend();
-        let word = unsafe { uff_start(numbers, NUMBERS, line, LINE) };
-        assert_eq!(word, 0, "a fresh record");
+        let mut record = Record { numbers: Lent::new(STREAM_NUMBERS), line: Lent::new(STREAM_LINE) };
+        let word = uff::start(record.numbers.places(), record.line.places());
+        assert_eq!(word, Word::accepted(0), "a fresh record");
         record
     }
 
-    fn lend(&mut self) -> (*mut u64, *mut u8) {
-        (self.numbers[MARGIN..].as_mut_ptr(), self.line[MARGIN..].as_mut_ptr())
+    fn burst(&mut self, bytes: &[u8]) -> Word {
+        without_column(uff::burst(self.numbers.places(), self.line.places(), bytes))
     }
 
-    fn burst(&mut self, bytes: &[u8]) -> Reply {
-        let (numbers, line) = self.lend();
-        let pointer = if bytes.is_empty() { std::ptr::null() } else { bytes.as_ptr() };
-        reply(unsafe { uff_burst(numbers, NUMBERS, line, LINE, pointer, bytes.len()) })
+    fn end(&mut self) -> Word {
+        without_column(uff::end(self.numbers.places(), self.line.places()))
     }
 
-    fn end(&mut self) -> Reply {
-        let (numbers, line) = self.lend();
-        reply(unsafe { uff_end(numbers, NUMBERS, line, LINE) })
-    }
-
-    fn margins(&self) -> bool {
-        let (numbers, line) = (&self.numbers, &self.line);
-        numbers[..MARGIN].iter().chain(&numbers[MARGIN + NUMBERS..]).all(|&n| n == 0xA5A5_5A5A)
-            && line[..MARGIN].iter().chain(&line[MARGIN + LINE..]).all(|&b| b == 0xA5)
+    fn margins_stand(&self) -> bool {
+        self.numbers.margins_stand() && self.line.margins_stand()
     }
 }
 
-fn reply(word: u64) -> Reply {
-    assert_eq!((word >> 32) & ((1 << 25) - 1), 0, "the column");
-    Reply { number: (word >> 57) as u32, place: word as u32 }
+/// The same reply, whose column is 0.
+fn without_column(word: Word) -> Word {
+    assert_eq!(word.column(), 0, "the column");
+    word
 }
 
 /// The answer after these bytes: 1 past the limit; the refusal of the earliest bad line whose LF has
 /// come, which is the refusal of those lines alone at one of them; otherwise how many they are.
 fn so_far(bytes: &[u8]) -> Reply {
-    if bytes.len() > LIMIT {
+    if bytes.len() > LONGEST {
         return Reply { number: 1, place: 0 };
     }
     let past = bytes.iter().rposition(|&b| b == b'\n').map_or(0, |at| at + 1);
-    let lines = bytes[..past].iter().filter(|&&b| b == b'\n').count() as u32;
+    let lines = ends(&bytes[..past]) as u32;
     let found = judge::judge(&bytes[..past]);
     if found.number != 0 && found.place >= 1 && found.place <= lines {
         return found;
@@ -154,16 +148,16 @@ impl Run {
         }
         let whole = judge::judge(file);
         self.ends[whole.number as usize] += 1;
+        let mut marked = record.clone();
+        marked.numbers.places()[MARK] = 1;
         for ask in ["end", "end asked again"] {
             let answer = record.end();
             self.hold(name, file, at, ask, answer, whole);
+            self.hold_record(name, file, at, ask, &record, &marked);
         }
-        let before = record.clone();
         let answer = record.burst(&file[..file.len().min(9)]);
-        self.hold(name, file, at, "burst after the end", answer, Reply { number: 23, place: 0 });
-        if record != before || !record.margins() {
-            self.fail(name, file, at, "23, or a margin: the record was touched");
-        }
+        self.hold(name, file, at, "burst after the end", answer, LATE);
+        self.hold_record(name, file, at, "burst after the end", &record, &marked);
         let answer = record.end();
         self.hold(name, file, at, "end after 23", answer, whole);
     }
@@ -183,7 +177,7 @@ impl Run {
 
     /// Lines about as long as a record keeps, with one byte that is not allowed in each column in turn, cut at each byte.
     fn take_long_lines(&mut self) {
-        for length in 79..=88 {
+        for length in COLUMNS - 1..=COLUMNS + 8 {
             for column in 0..length {
                 for (bad, end) in [(b'\t', "\n"), (b'\r', "\r\n"), (0x80, "")] {
                     let mut file = vec![b'x'; length];
@@ -197,21 +191,23 @@ impl Run {
         }
     }
 
-    fn hold(&self, name: &str, file: &[u8], at: usize, call: &str, proved: Reply, plain: Reply) {
-        if proved != plain {
-            let what = format!(
-                "{call}: proved {} at {}, plain {} at {}",
-                proved.number, proved.place, plain.number, plain.place
-            );
+    fn hold(&self, name: &str, file: &[u8], at: usize, call: &str, proved: Word, plain: Reply) {
+        if proved != Word::from(plain) {
+            let what = format!("{call}\nplain:  {:?}\nproved: {proved:?}", Word::from(plain));
             self.fail(name, file, at, &what);
+        }
+    }
+
+    /// The record is as it must be, and its margins are as they were.
+    fn hold_record(&self, name: &str, file: &[u8], at: usize, call: &str, record: &Record, due: &Record) {
+        if record != due || !record.margins_stand() {
+            self.fail(name, file, at, &format!("{call}: the record, or a margin, was touched"));
         }
     }
 
     fn fail(&self, name: &str, file: &[u8], at: usize, what: &str) -> ! {
         println!("DIFFERENCE on: {name} ({} bytes), after {at} bytes in bursts", file.len());
-        for (n, line) in file.split_inclusive(|&b| b == b'\n').take(200).enumerate() {
-            println!("{:5} |{}|", n + 1, line[..line.len().min(200)].escape_ascii());
-        }
+        print_lines(file, 200);
         println!("{what}");
         std::process::exit(1);
     }
@@ -221,49 +217,83 @@ impl Run {
 fn made_up(random: &mut Random, count: usize) {
     for _ in 0..count {
         let mut record = Record::new();
-        for number in &mut record.numbers[MARGIN..MARGIN + NUMBERS] {
+        for number in record.numbers.places() {
             *number = match random.below(4) {
                 0 => random.next(),
                 1 => random.below(200) as u64,
                 2 => u64::MAX - random.below(3) as u64,
-                _ => 16_777_214 + random.below(6) as u64,
+                _ => (LONGEST - 2 + random.below(6)) as u64,
             };
         }
         let mark = if random.one_in(8) { 1 + random.below(3) as u64 } else { 0 };
-        record.numbers[MARGIN + NUMBERS - 1] = mark;
-        for byte in &mut record.line[MARGIN..MARGIN + LINE] {
+        record.numbers.places()[MARK] = mark;
+        for byte in record.line.places() {
             *byte = random.next() as u8;
         }
         for _ in 0..random.below(5) {
             let bytes: Vec<u8> = (0..random.below(300)).map(|_| if random.one_in(9) { 10 } else { random.next() as u8 }).collect();
             let before = record.clone();
             let answer = record.burst(&bytes);
-            let late = answer == Reply { number: 23, place: 0 } && record == before;
+            let late = answer == LATE.into() && record == before;
             assert_eq!(late, mark > 0, "a made-up record: 23 is for the end asked before, and touches nothing");
         }
         record.end();
-        assert!(record.margins(), "a made-up record: a margin was touched");
+        assert!(record.margins_stand(), "a made-up record: a margin was touched");
     }
 }
 
 /// A buffer too short is 20, and nothing is touched.
 fn too_short() {
-    for (numbers_len, line_len) in [(0, LINE), (NUMBERS - 1, LINE), (NUMBERS, 0), (NUMBERS, LINE - 1)] {
+    const SHORT: Reply = Reply { number: 20, place: 0 };
+    let rooms = [
+        (0, STREAM_LINE),
+        (STREAM_NUMBERS - 1, STREAM_LINE),
+        (STREAM_NUMBERS, 0),
+        (STREAM_NUMBERS, STREAM_LINE - 1),
+    ];
+    for (numbers_len, line_len) in rooms {
         let mut record = Record::new();
         let before = record.clone();
-        let (numbers, line) = record.lend();
-        let words = unsafe {
-            [
-                uff_start(numbers, numbers_len, line, line_len),
-                uff_burst(numbers, numbers_len, line, line_len, b"x\n".as_ptr(), 2),
-                uff_end(numbers, numbers_len, line, line_len),
-            ]
-        };
-        for word in words {
-            let answer = reply(word);
-            assert_eq!((answer.number, answer.place), (20, 0));
-        }
+        let numbers = &mut record.numbers.places()[..numbers_len];
+        let line = &mut record.line.places()[..line_len];
+        let words = [uff::start(numbers, line), uff::burst(numbers, line, b"x\n"), uff::end(numbers, line)];
+        assert_eq!(words, [SHORT.into(); 3]);
         assert!(record == before, "a refused call touched the record");
+    }
+}
+
+/// Generated files, half of them proper and half of them faulty or damaged, and arbitrary bytes.
+fn take_generated(run: &mut Run, random: &mut Random) {
+    for n in 0..FILES + ARBITRARY {
+        let (name, file) = match n {
+            FILES.. => ("arbitrary bytes", generate::arbitrary(random)),
+            _ => ("generated file", generated(random, n % 4)),
+        };
+        for _ in 0..CUTS {
+            run.take(name, &file);
+        }
+    }
+}
+
+/// A file that is faulty (1), damaged (3) or proper.
+fn generated(random: &mut Random, way: usize) -> Vec<u8> {
+    if way == 1 {
+        return generate::faulty(random, 8);
+    }
+    let mut file = generate::proper(random).file;
+    if way == 3 {
+        generate::damage(random, &mut file);
+    }
+    file
+}
+
+/// Prints how often each end came and ends the program if one came too seldom.
+fn check_outcomes(run: &Run) {
+    for (number, came) in run.ends.iter().enumerate() {
+        println!("{number:7} {came:8}");
+    }
+    for (number, least) in LEAST {
+        assert!(run.ends[number] >= least, "{number} came only {} times", run.ends[number]);
     }
 }
 
@@ -275,33 +305,10 @@ fn main() {
         }
     }
     let mut random = Random::new(0x5EED_0F58_0C11_0151);
-    for n in 0..FILES {
-        let mut file = match n % 4 {
-            0 | 2 => generate::proper(&mut random).file,
-            1 => generate::faulty(&mut random, 8),
-            _ => generate::proper(&mut random).file,
-        };
-        if n % 4 == 3 {
-            generate::damage(&mut random, &mut file);
-        }
-        for _ in 0..CUTS {
-            run.take("generated file", &file);
-        }
-    }
-    for _ in 0..ARBITRARY {
-        let bytes = generate::arbitrary(&mut random);
-        for _ in 0..CUTS {
-            run.take("arbitrary bytes", &bytes);
-        }
-    }
+    take_generated(&mut run, &mut random);
     run.take_long_lines();
     too_short();
     made_up(&mut random, 20_000);
-    for (number, came) in run.ends.iter().enumerate() {
-        println!("{number:7} {came:8}");
-    }
-    for (number, least) in [(0, 20_000), (1, 4), (2, 100), (3, 100), (4, 100), (5, 100), (6, 100), (7, 100), (8, 100), (12, 100), (13, 100), (16, 4)] {
-        assert!(run.ends[number] >= least, "{number} came only {} times", run.ends[number]);
-    }
+    check_outcomes(&run);
     println!("compared {} cuts, {} bursts", run.cuts, run.bursts);
 }

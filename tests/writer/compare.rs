@@ -5,8 +5,10 @@
 //! Every set that is written is judged, read back and rewritten by both sides. `compare --self` asks the plain
 //! side alone: against what was typed by hand, and against what must hold of each set it writes.
 //! `compare --fortran DIR` takes the files that a Fortran program wrote, `compare --fortran-read PROGRAM` lets a
-//! Fortran program read what the writer lays out. The proved calls are asked when built with `--cfg write`.
+//! Fortran program read what the writer lays out.
 
+#[path = "../common/mod.rs"]
+mod common;
 mod fixed;
 mod fortran;
 #[allow(dead_code)]
@@ -20,6 +22,9 @@ mod judge;
 mod reader;
 mod writer;
 
+use common::files::{ends, print_lines};
+use common::lent::{self, Due};
+use common::uff::{self, Word, LONGEST, NUMBER_BYTES};
 use generate::Random;
 use inputs::Numbers;
 use judge::Reply;
@@ -31,9 +36,6 @@ const HEADERS: usize = 24_000;
 
 /// Headers and numbers that are nobody's.
 const ARBITRARY: usize = 12_000;
-
-/// Bytes before and after the lent ones, which no call may touch.
-const MARGIN: usize = 24;
 
 /// Sets of more numbers are asked for a few of them only.
 const MANY: usize = 1_000;
@@ -63,109 +65,6 @@ const LEAST_OF_A_CASE: u32 = 500;
 /// So many numbers must be written with an exponent without a letter.
 const LEAST_WITHOUT_LETTER: usize = 100_000;
 
-/// The proved side. Not built in, it answers none.
-mod proved {
-    #[cfg(write)]
-    extern "C" {
-        fn uff_write(
-            header: *const u8,
-            header_len: usize,
-            coefficients: *const i64,
-            coefficient_count: usize,
-            scales: *const i16,
-            scale_count: usize,
-            out: *mut u8,
-            out_len: usize,
-        ) -> u64;
-        fn uff_judge(file: *const u8, file_len: usize) -> u64;
-        fn uff_number(
-            file: *const u8,
-            file_len: usize,
-            set: u32,
-            index: u32,
-            out: *mut u8,
-            out_len: usize,
-        ) -> u64;
-        fn uff_rewrite(file: *const u8, file_len: usize, out: *mut u8, out_len: usize) -> u64;
-    }
-
-    pub const BUILT_IN: bool = cfg!(write);
-
-    /// A slice lent to C. An empty one goes as a null pointer every second time.
-    #[cfg(write)]
-    mod lend {
-        use std::sync::atomic::{AtomicBool, Ordering};
-
-        static NULL: AtomicBool = AtomicBool::new(true);
-
-        fn null(length: usize) -> bool {
-            length == 0 && NULL.fetch_xor(true, Ordering::Relaxed)
-        }
-
-        pub fn items<T>(slice: &[T]) -> *const T {
-            if null(slice.len()) { std::ptr::null() } else { slice.as_ptr() }
-        }
-
-        pub fn room(slice: &mut [u8]) -> *mut u8 {
-            if null(slice.len()) { std::ptr::null_mut() } else { slice.as_mut_ptr() }
-        }
-    }
-
-    #[cfg(write)]
-    pub fn write(header: &[u8], numbers: &super::Numbers, out: &mut [u8]) -> Option<u64> {
-        let (coefficients, scales) = (&numbers.coefficients, &numbers.scales);
-        let length = out.len();
-        Some(unsafe {
-            uff_write(
-                lend::items(header),
-                header.len(),
-                lend::items(coefficients),
-                coefficients.len(),
-                lend::items(scales),
-                scales.len(),
-                lend::room(out),
-                length,
-            )
-        })
-    }
-
-    #[cfg(write)]
-    pub fn judge(file: &[u8]) -> Option<u64> {
-        Some(unsafe { uff_judge(lend::items(file), file.len()) })
-    }
-
-    #[cfg(write)]
-    pub fn number(file: &[u8], index: u32, out: &mut [u8]) -> Option<u64> {
-        let length = out.len();
-        Some(unsafe {
-            uff_number(lend::items(file), file.len(), 1, index, lend::room(out), length)
-        })
-    }
-
-    #[cfg(write)]
-    pub fn rewrite(file: &[u8], out: &mut [u8]) -> Option<u64> {
-        let length = out.len();
-        Some(unsafe { uff_rewrite(lend::items(file), file.len(), lend::room(out), length) })
-    }
-
-    #[cfg(not(write))]
-    pub fn write(_: &[u8], _: &super::Numbers, _: &mut [u8]) -> Option<u64> {
-        None
-    }
-    #[cfg(not(write))]
-    pub fn judge(_: &[u8]) -> Option<u64> {
-        None
-    }
-    #[cfg(not(write))]
-    pub fn number(_: &[u8], _: u32, _: &mut [u8]) -> Option<u64> {
-        None
-    }
-    #[cfg(not(write))]
-    pub fn rewrite(_: &[u8], _: &mut [u8]) -> Option<u64> {
-        None
-    }
-}
-
 /// The header and the numbers at hand.
 struct Subject<'a> {
     name: &'a str,
@@ -177,9 +76,7 @@ impl Subject<'_> {
     /// Prints what went wrong, the call and what was lent, and ends the program.
     fn fail(&self, call: &str, what: &str) -> ! {
         println!("DIFFERENCE on: {} (header of {} bytes)", self.name, self.header.len());
-        for (n, line) in self.header.split_inclusive(|&b| b == b'\n').take(20).enumerate() {
-            println!("{:5} |{}|", n + 1, line[..line.len().min(200)].escape_ascii());
-        }
+        print_lines(self.header, 20);
         let Numbers { coefficients, scales } = self.numbers;
         println!("{} coefficients, {} scales:", coefficients.len(), scales.len());
         for (j, (coefficient, scale)) in coefficients.iter().zip(scales).take(200).enumerate() {
@@ -196,50 +93,27 @@ impl Subject<'_> {
         writer::write(self.header, coefficients, scales, room)
     }
 
-    /// Lends patterned bytes to a proved call and holds its reply and all bytes against what is
-    /// due: an answer and the bytes it puts, or a refusal.
-    fn hold(
-        &self,
-        name: &str,
-        room: usize,
-        due: Result<(u32, &[u8]), Reply>,
-        call: impl FnOnce(&mut [u8]) -> Option<u64>,
-    ) {
-        let mut expected: Vec<u8> = (0..room + 2 * MARGIN).map(|n| (n * 167 + 90) as u8).collect();
-        let mut out = expected.clone();
-        let Some(word) = call(&mut out[MARGIN..MARGIN + room]) else {
-            return;
-        };
-        let name = format!("{name}, {room} bytes lent");
-        let expected_word = match due {
-            Ok((answer, put)) => {
-                expected[MARGIN..MARGIN + put.len()].copy_from_slice(put);
-                u64::from(answer)
-            }
-            Err(reply) => (u64::from(reply.number) << 57) + u64::from(reply.place),
-        };
-        if word != expected_word {
-            self.fail(&name, &format!("plain:  {}\nproved: {}", shown(expected_word), shown(word)));
-        }
-        if let Some(at) = (0..out.len()).find(|&n| out[n] != expected[n]) {
-            let past = (at + 60).min(out.len());
-            let what = format!(
-                "both reply {}; from byte {} of the lent ones (from 0) they hold\n\
-                 plain:  {}\nproved: {}",
-                shown(word),
-                at as i64 - MARGIN as i64,
-                expected[at..past].escape_ascii(),
-                out[at..past].escape_ascii(),
-            );
-            self.fail(&name, &what);
+    /// Lends so many bytes to a proved call and holds its reply and all bytes against what is due.
+    fn hold(&self, name: &str, room: usize, due: Due<u8>, call: impl FnOnce(&mut [u8]) -> Word) {
+        if let Err(what) = lent::hold(room, &due, call) {
+            self.fail(&format!("{name}, {room} bytes lent"), &what);
         }
     }
-}
 
-/// A reply word in its parts.
-fn shown(word: u64) -> String {
-    let column = (word >> 32) & ((1 << 25) - 1);
-    format!("number {}, column {column}, place {}", word >> 57, word as u32)
+    /// The proved judge and rewriter on an accepted file, and what the rewriter must give.
+    fn ask_accepted(&self, file: &[u8], rewritten: Vec<u8>) {
+        self.hold("uff_judge", 0, Ok((ends(file) as u32, Vec::new())), |_| uff::judge(file));
+        let length = rewritten.len();
+        self.hold("uff_rewrite", length, Ok((length as u32, rewritten)), |out| uff::rewrite(file, out));
+    }
+
+    /// The proved reader on a stored number of a file's first set.
+    fn ask_number(&self, file: &[u8], accepted: &Accepted, index: u32) {
+        if let Ok(number) = accepted.number(1, index) {
+            let due = Ok((NUMBER_BYTES as u32, number.bytes()));
+            self.hold(&format!("uff_number, index {index}"), NUMBER_BYTES, due, |out| uff::number(file, 1, index, out));
+        }
+    }
 }
 
 struct Run {
@@ -268,13 +142,9 @@ impl Run {
         if self.alone {
             return;
         }
-        let due = match &due {
-            Ok(set) => Ok((set.len() as u32, set.as_slice())),
-            Err(reply) => Err(*reply),
-        };
-        subject.hold("uff_write", room, due, |out| {
-            proved::write(subject.header, subject.numbers, out)
-        });
+        let due = due.map(|set| (set.len() as u32, set));
+        let Numbers { coefficients, scales } = subject.numbers;
+        subject.hold("uff_write", room, due, |out| uff::write(subject.header, coefficients, scales, out));
     }
 
     /// Takes one header with its numbers, in exact, larger and too little room.
@@ -312,32 +182,13 @@ impl Run {
 
     /// The proved judge, reader and rewriter on a set that was written.
     fn ask_written(&mut self, subject: &Subject, set: &[u8], accepted: &Accepted) {
-        let lines = set.iter().filter(|&&b| b == b'\n').count() as u32;
-        subject.hold("uff_judge", 0, Ok((lines, &[])), |_| proved::judge(set));
-        let length = set.len() as u32;
-        subject.hold("uff_rewrite", set.len(), Ok((length, set)), |out| proved::rewrite(set, out));
+        subject.ask_accepted(set, set.to_vec());
         let stored = subject.numbers.scales.len();
         let some = [0, stored - 1, self.random.below(stored), self.random.below(stored)];
-        for index in some.map(|index| index as u32) {
-            if let Ok(number) = accepted.number(1, index) {
-                let call = format!("uff_number, index {index}");
-                let put = number_bytes(&number);
-                subject.hold(&call, 20, Ok((20, &put)), |out| proved::number(set, index, out));
-            }
+        for index in some {
+            subject.ask_number(set, accepted, index as u32);
         }
     }
-}
-
-/// The twenty bytes of a stored number.
-fn number_bytes(number: &Number) -> Vec<u8> {
-    let mut bytes = Vec::with_capacity(20);
-    bytes.extend(number.first.to_le_bytes());
-    bytes.extend(number.past.to_le_bytes());
-    bytes.extend(number.coefficient.to_le_bytes());
-    bytes.extend(number.scale.to_le_bytes());
-    bytes.push(u8::from(number.negative));
-    bytes.push(0);
-    bytes
 }
 
 // What must hold of the plain writer's replies -------------------------------------------------
@@ -345,9 +196,8 @@ fn number_bytes(number: &Number) -> Vec<u8> {
 /// A written set is accepted, is the only set, is rewritten as itself, has the header's lines and
 /// reads as the numbers lent, each in the writer's form.
 fn sound<'a>(subject: &Subject, set: &'a [u8]) -> Accepted<'a> {
-    let lines = set.iter().filter(|&&b| b == b'\n').count() as u32;
     let reply = judge::judge(set);
-    if reply != (Reply { number: 0, place: lines }) {
+    if reply != (Reply { number: 0, place: ends(set) as u32 }) {
         subject.fail("plain judge", &format!("{reply:?} for\n{}", String::from_utf8_lossy(set)));
     }
     let Ok(accepted) = reader::accept(set) else {
@@ -583,7 +433,7 @@ fn take_zeros(run: &mut Run) {
 
 /// Headers longer than a file may be: 1 is not given.
 fn take_long_headers(run: &mut Run) {
-    const LONG: usize = 16_777_300;
+    const LONG: usize = LONGEST + 84;
     let numbers = Numbers { coefficients: vec![1], scales: vec![0] };
     let good = fixed::header_of_one(5);
     let text = vec![b'x'; LONG];
@@ -643,10 +493,6 @@ fn main() {
     if let Some(program) = path_after(&arguments, "--fortran-read") {
         fortran::check_read(program, alone);
         return;
-    }
-    if !alone && !proved::BUILT_IN {
-        eprintln!("built without --cfg write: only --self, --fortran and --fortran-read can run");
-        std::process::exit(2);
     }
     println!("{} answers as the papers say", check_fixed());
     let mut run = Run::new(alone);

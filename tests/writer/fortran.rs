@@ -2,7 +2,7 @@
 
 use crate::generate::Random;
 use crate::reader::{self, Accepted, Number};
-use crate::{case_of, equal, fixed, inputs, number_bytes, proved, writer, Numbers, Run, Subject};
+use crate::{case_of, equal, fixed, inputs, writer, Numbers, Run, Subject};
 use std::io::Write;
 use std::path::Path;
 use std::process::{Command, Stdio};
@@ -83,14 +83,9 @@ fn take_set(run: &mut Run, (name, case): (&str, usize), file: &[u8], numbers: &N
         subject.fail("plain writer", &format!("{name}: other bytes, or another case"));
     }
     if !run.alone {
-        ask_proved(&subject, file, &accepted);
+        subject.ask_accepted(file, accepted.rewrite());
         for index in 0..coefficients.len() as u32 {
-            if let Ok(number) = accepted.number(1, index) {
-                let put = number_bytes(&number);
-                subject.hold("uff_number", 20, Ok((20, &put)), |out| {
-                    proved::number(file, index, out)
-                });
-            }
+            subject.ask_number(file, &accepted, index);
         }
     }
 }
@@ -102,22 +97,13 @@ fn accept<'a>(subject: &Subject, file: &'a [u8]) -> Accepted<'a> {
     }
 }
 
-/// The proved judge and rewriter on an accepted file.
-fn ask_proved(subject: &Subject, file: &[u8], accepted: &Accepted) {
-    let lines = file.iter().filter(|&&b| b == b'\n').count() as u32;
-    subject.hold("uff_judge", 0, Ok((lines, &[])), |_| proved::judge(file));
-    let put = accepted.rewrite();
-    let due = Ok((put.len() as u32, &*put));
-    subject.hold("uff_rewrite", put.len(), due, |out| proved::rewrite(file, out));
-}
-
 /// A 164 and the eight cases in one file, each with exponents without a letter.
 fn take_exponents(run: &mut Run, name: &str, file: &[u8], (typed, units): (&str, &str)) {
     let numbers = typed_numbers(typed, units);
     let subject = Subject { name, header: &[], numbers: &numbers };
     let accepted = accept(&subject, file);
     if !run.alone {
-        ask_proved(&subject, file, &accepted);
+        subject.ask_accepted(file, accepted.rewrite());
     }
     let rows = accepted.list();
     if rows.iter().map(|row| row[1]).ne([164, 58, 58, 58, 58, 58, 58, 58, 58]) {
@@ -125,7 +111,7 @@ fn take_exponents(run: &mut Run, name: &str, file: &[u8], (typed, units): (&str,
     }
     check_units(&subject, file);
     for (case, row) in (1..).zip(&rows[1..]) {
-        let [_, _, _, first, past, data] = row.map(|place| place as usize);
+        let [_, _, _, first, past, data, ..] = row.map(|place| place as usize);
         let numbers = typed_numbers(typed, &case.to_string());
         let letters = file[data..past].iter().filter(|b| b.is_ascii_alphabetic()).count();
         if letters >= numbers.scales.len() {

@@ -15,12 +15,21 @@ use Rattle.walk.specs.declared.Place.the-variants.{Outside, Number, Plain, Type
 use Rattle.walk.specs.declared.State.{State}
 use Rattle.walk.specs.Due.{opening}
 use Rattle.walk.specs.Step.{state}
-use Rattle.judge.specs.Judge.{lineStep, Run, going, refused, onOutcome, reply}
+use Rattle.judge.specs.declared.Reply.{Reply}
+use Rattle.judge.specs.Judge.{lineStep, Run, going, refused, onOutcome, reply, replyAt}
 use Rattle.header.specs.declared.Header.{Header}
 
--- number and place, and where the number is 0 the case of the 58 and how many numbers it stores
+-- a reply, and where its number is 0 the case of the 58 and how many numbers it stores
+abbrev pub answerWith : Reply → ℕ → ℕ → Header
+answerWith r c s = record { number = r .number; place = r .place; column = r .column; case = c; stored = s }
+
+-- a number and a place, no column
 abbrev pub answer : ℕ → ℕ → ℕ → ℕ → Header
-answer n p c s = record { number = n; place = p; case = c; stored = s }
+answer n p c s = answerWith (reply n p) c s
+
+-- the reply of an answer
+abbrev pub replyOf : Header → Reply
+replyOf h = replyAt (h .number) (h .place) (h .column)
 
 -- a 58 opens, before its line 1
 abbrev pub opened : State
@@ -47,7 +56,7 @@ leaves (Typed d) = answer 0 0 (d .case) (d .left)
 abbrev pub headerEnd : Run → List ℕ → Header
 headerEnd (going s n) [] = pick (ltb n 11) (answer 7 (n + 1) 0 0) (leaves (s .place))
 headerEnd (going s n) (b ∷ bs) = answer (lineFault false (b ∷ bs) .number) (n + 1) 0 0
-headerEnd (refused r) rest = answer (r .number) (r .place) 0 0
+headerEnd (refused r) rest = answerWith r 0 0
 
 unfoldable pub headerOf : List ℕ → Header
 headerOf bytes = Cut.judge headerStep headerEnd (going opened 0) bytes

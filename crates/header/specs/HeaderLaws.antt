@@ -26,7 +26,7 @@ use Rattle.judge.specs.declared.Lines.{Lines}
 use Rattle.judge.specs.Judge.{lineStep, Run, going, refused, onOutcome, reply, runStep}
 use Rattle.judge.specs.JudgeLaws as Judge
 use Rattle.judge.specs.Lines.{runOf, LinesJudged}
-use Rattle.header.specs.Header.{answer, opened, pastNumber, headerStep, leaves, headerEnd, headerOf, FirstEleven}
+use Rattle.header.specs.Header.{answer, answerWith, opened, pastNumber, headerStep, leaves, headerEnd, headerOf, FirstEleven}
 
 -- a line past the eleventh
 module _ (l : List ℕ) (n : ℕ) (e : n ≡ length (columns true l)) (f : Refusal) (q : f ≡ lineFault true (take n l)) where
@@ -63,7 +63,7 @@ unfolding over
 over-refused r [] = refl
 over-refused r (l ∷ ls) = over-refused r ls
 
-judge-refused : (r : Reply) (bytes : List ℕ) → judge headerStep headerEnd (refused r) bytes ≡ answer (r .number) (r .place) 0 0
+judge-refused : (r : Reply) (bytes : List ℕ) → judge headerStep headerEnd (refused r) bytes ≡ answerWith r 0 0
 unfolding judge
 judge-refused r bytes = ap (λ (x : Run). headerEnd x (cut bytes .rest)) (over-refused r (cut bytes .lines))
 

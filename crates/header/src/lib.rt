@@ -9,10 +9,11 @@ use walk::Due;
 use walk::Place;
 use walk::State;
 
-// Document 01's number and place; where the number is 0, the case of the 58 from 0, and how many numbers it stores.
+// Document 01's number and place; where the number is 0, the case of the 58 from 0, and how many numbers it stores. The column is 0.
 pub struct Header {
     pub number: u8,
     pub place: usize,
+    pub column: usize,
     pub case: usize,
     pub stored: usize,
 }
@@ -24,6 +25,7 @@ fn refuse(number: u8, place: usize) -> Header
     Header {
         number,
         place,
+        column: 0,
         case: 0,
         stored: 0,
     }
@@ -61,6 +63,7 @@ fn finish(s: State, lines: usize, rest: &[u8]) -> Header
         Place::Typed(d) => Header {
             number: 0,
             place: 0,
+            column: 0,
             case: d.case,
             stored: d.left,
         },

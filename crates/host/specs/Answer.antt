@@ -9,8 +9,9 @@ use lib.ListN.{length, take, drop}
 use Rattle.laws.specs.Choice.{pick}
 use Rattle.exact.specs.Bits.{bitsOf}
 use Rattle.output.specs.Output.{bytesOf}
-use Rattle.reader.specs.Reader.{Said, said, Shown, scaleOf}
-use Rattle.host.specs.Packed.{packed}
+use Rattle.judge.specs.declared.Reply.{Reply}
+use Rattle.reader.specs.Reader.{Said, said, refusedBy, Shown, scaleOf}
+use Rattle.host.specs.Packed.{word, packed}
 
 -- an i16 as its 16 bits, two's complement: what it is modulo 2^16
 unfoldable pub twosComplement : ℤ → ℕ
@@ -30,19 +31,19 @@ valueBytes [] = []
 valueBytes (x ∷ xs) = bytesOf 8 (bitsOf x) ++ valueBytes xs
 
 -- an answer shown as bytes. For a stored number the place is 20, for a value its kind. A refusal shows nothing
-unfoldable pub numberShown : ℕ → ℕ → List Shown → Said ℕ
-numberShown n p [] = said n p []
-numberShown n p (s ∷ ss) = said n 20 (numberBytes s)
+unfoldable pub numberShown : Reply → List Shown → Said ℕ
+numberShown r [] = refusedBy r
+numberShown r (s ∷ ss) = said (r .number) 20 (numberBytes s)
 
 abbrev pub numberAnswer : Said Shown → Said ℕ
-numberAnswer s = numberShown (s .number) (s .place) (s .shown)
+numberAnswer s = numberShown (s .reply) (s .shown)
 
 abbrev pub valueAnswer : Said Float → Said ℕ
-valueAnswer s = said (s .number) (s .place) (valueBytes (s .shown))
+valueAnswer s = record { reply = s .reply; shown = valueBytes (s .shown) }
 
 -- the reply, given how many bytes are lent: 20 "output too short" where they are fewer than the answer's, else what the answer says
 unfoldable pub replyFor : Said ℕ → ℕ → ℕ
-replyFor s lent = pick (ltb lent (length (s .shown))) (packed 20 0) (packed (s .number) (s .place))
+replyFor s lent = pick (ltb lent (length (s .shown))) (packed 20 0) (word (s .reply))
 
 -- the lent bytes afterwards. "A refusal leaves every lent buffer untouched; a buffer longer than the answer keeps the rest"
 unfoldable pub bytesAfter : Said ℕ → List ℕ → List ℕ

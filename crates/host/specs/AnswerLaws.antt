@@ -13,7 +13,7 @@ use Rattle.exact.specs.Bits.{bitsOf}
 use Rattle.output.specs.Output.{placed, bytesOf}
 use Rattle.output.specs.OutputLaws.{placed-then, placed-first}
 use Rattle.reader.specs.Reader.{shown, Said}
-use Rattle.host.specs.Packed.{packed}
+use Rattle.host.specs.Packed.{word, packed}
 use Rattle.host.specs.Answer.{twosComplement, numberBytes, valueBytes, replyFor, bytesAfter}
 
 -- one number's bytes after those of others
@@ -82,7 +82,7 @@ module _ (s : Said ℕ) (out : List ℕ) (r : ℕ) where
   unfolding replyFor bytesAfter
   answered-short h e = (e ∙ rw (lt-ltb _ _ h) refl, rw (lt-ltb _ _ h) refl)
 
-  pub answered : (after : List ℕ) → length (s .shown) ≤ length out → r ≡ packed (s .number) (s .place)
+  pub answered : (after : List ℕ) → length (s .shown) ≤ length out → r ≡ word (s .reply)
       → after ≡ s .shown ++ drop (length (s .shown)) out → Answered after
   unfolding replyFor bytesAfter
   answered after h e q = (e ∙ rw (le-ltb _ _ h) refl, q ∙ rw (le-ltb _ _ h) refl)

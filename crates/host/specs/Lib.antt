@@ -1,3 +1,4 @@
 pub mod Packed
+pub mod PackedLaws
 pub mod Answer
 pub mod AnswerLaws

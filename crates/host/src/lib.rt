@@ -3,7 +3,7 @@ ghost use mathlib.Core.Path.{_≡_};
 ghost use mathlib.Core.List.{[], _∷_, _++_};
 ghost use Prim.Native.Nat.{_≤_};
 ghost use lib.ListN.{length, drop};
-ghost use Rattle.host.specs.Packed.{packed, word};
+ghost use Rattle.host.specs.Packed.{columnBits, word, packed};
 ghost use Rattle.host.specs.Answer.{twosComplement, numberBytes, numberAnswer, valueAnswer, replyFor, bytesAfter};
 ghost use Rattle.laws.specs.Choice.{pick};
 ghost use Rattle.text.specs.Parts.{signed};
@@ -15,18 +15,41 @@ ghost use Rattle.values.specs.Values.{allReply, allPlaces};
 ghost use Rattle.writer.specs.Writer.{writeReply, writeOut};
 ghost use Rattle.reader.specs.Reader.{said, shown, paper, paperNumber, numberOf, valueOf};
 use exact::bits;
+use judge::Reply;
 use laws::wide;
 use output::put_bytes;
 use reader::NumberAnswer;
 use reader::Stored;
 use reader::ValueAnswer;
 
-// A number and a place as one word.
-fn pack(number: u8, place: usize) -> u64
+// A column as the word has it.
+fn column_bits(column: usize) -> u64
+    ensures { λ r. ⌜ r ≡ columnBits column ⌝ }
+{
+    if 33554431 < column {
+        return 33554431;
+    }
+    column as u64
+}
+
+// A reply as one word.
+fn pack(r: Reply) -> u64
+    ensures { λ w. ⌜ w ≡ word r ⌝ }
+{
+    let column = column_bits(r.column) * 4294967296;
+    let place = (r.place % 4294967296) as u64;
+    wide(r.number % 128) * 144115188075855872 + (column + place)
+}
+
+// A number and a place as one word, no column.
+fn bare(number: u8, place: usize) -> u64
     ensures { λ r. ⌜ r ≡ packed number place ⌝ }
 {
-    let low = (place % 4294967296) as u64;
-    wide(number % 128) * 144115188075855872 + low
+    pack(Reply {
+        number,
+        place,
+        column: 0,
+    })
 }
 
 // Document 01's judge: the number and the place; for an accepted file 0 and the number of its lines.
@@ -35,7 +58,7 @@ pub extern "C" fn uff_judge(file: &[u8]) -> u64
     ensures { λ r. ⌜ r ≡ word (judged (now (file .entry))) ⌝ }
 {
     let found = judge::judge(file);
-    pack(found.number, found.place)
+    pack(found)
 }
 
 // Document 01's lister: six numbers a set into the rows lent; the number of sets.
@@ -44,7 +67,7 @@ pub extern "C" fn uff_list(file: &[u8], rows: &mut [u32]) -> u64
     ensures { λ r. ⌜ (r ≡ word (listReply (now (file .entry)) (length (now (rows .entry))))) × (now (rows .exit) ≡ listRows (now (file .entry)) (now (rows .entry))) ⌝ }
 {
     let found = lister::list(file, rows);
-    pack(found.number, found.place)
+    pack(found)
 }
 
 // A scale, by whether it is below zero and its size, as the 16 bits of an i16.
@@ -87,12 +110,12 @@ fn answer_number(out: &mut [u8], a: NumberAnswer) -> u64
     match a {
         NumberAnswer::Number(s) => {
             if out.len() < 20 {
-                return pack(20, 0);
+                return bare(20, 0);
             }
             put_number(out, s);
-            pack(0, 20)
+            bare(0, 20)
         }
-        NumberAnswer::Refused(r) => pack(r.number, r.place),
+        NumberAnswer::Refused(r) => pack(r),
     }
 }
 
@@ -109,10 +132,10 @@ fn answer_one(out: &mut [u8], x: f64) -> u64
     ensures { λ r. ⌜ (r ≡ replyFor (valueAnswer (said 0 1 (x ∷ []))) (length (now (out .entry)))) × (now (out .exit) ≡ bytesAfter (valueAnswer (said 0 1 (x ∷ []))) (now (out .entry))) ⌝ }
 {
     if out.len() < 8 {
-        return pack(20, 0);
+        return bare(20, 0);
     }
     put_bytes(out, 0, 8, bits(x));
-    pack(0, 1)
+    bare(0, 1)
 }
 
 // Answers with two f64, a value of this kind.
@@ -120,11 +143,11 @@ fn answer_two(out: &mut [u8], kind: usize, x: f64, y: f64) -> u64
     ensures { λ r. ⌜ (r ≡ replyFor (valueAnswer (said 0 kind (x ∷ y ∷ []))) (length (now (out .entry)))) × (now (out .exit) ≡ bytesAfter (valueAnswer (said 0 kind (x ∷ y ∷ []))) (now (out .entry))) ⌝ }
 {
     if out.len() < 16 {
-        return pack(20, 0);
+        return bare(20, 0);
     }
     put_bytes(out, 0, 8, bits(x));
     put_bytes(out, 8, 16, bits(y));
-    pack(0, kind)
+    bare(0, kind)
 }
 
 // Answers with three f64.
@@ -132,12 +155,12 @@ fn answer_three(out: &mut [u8], x: f64, y: f64, z: f64) -> u64
     ensures { λ r. ⌜ (r ≡ replyFor (valueAnswer (said 0 4 (x ∷ y ∷ z ∷ []))) (length (now (out .entry)))) × (now (out .exit) ≡ bytesAfter (valueAnswer (said 0 4 (x ∷ y ∷ z ∷ []))) (now (out .entry))) ⌝ }
 {
     if out.len() < 24 {
-        return pack(20, 0);
+        return bare(20, 0);
     }
     put_bytes(out, 0, 8, bits(x));
     put_bytes(out, 8, 16, bits(y));
     put_bytes(out, 16, 24, bits(z));
-    pack(0, 4)
+    bare(0, 4)
 }
 
 // Answers with a value, or with its refusal.
@@ -149,7 +172,7 @@ fn answer_value(out: &mut [u8], a: ValueAnswer) -> u64
         ValueAnswer::Complex(x, y) => answer_two(out, 2, x, y),
         ValueAnswer::RealAt(x, y) => answer_two(out, 3, x, y),
         ValueAnswer::ComplexAt(x, y, z) => answer_three(out, x, y, z),
-        ValueAnswer::Refused(r) => pack(r.number, r.place),
+        ValueAnswer::Refused(r) => pack(r),
     }
 }
 
@@ -168,7 +191,7 @@ pub extern "C" fn uff_values(file: &[u8], set: u32, out: &mut [u64]) -> u64
     ensures { λ r. ⌜ (r ≡ word (allReply (now (file .entry)) set (length (now (out .entry))))) × (now (out .exit) ≡ allPlaces (now (file .entry)) set (now (out .entry))) ⌝ }
 {
     let found = values::values(file, set, out);
-    pack(found.number, found.place)
+    pack(found)
 }
 
 // Document 01's rewriter: the file in rewritten form into the bytes lent; its length.
@@ -177,7 +200,7 @@ pub extern "C" fn uff_rewrite(file: &[u8], out: &mut [u8]) -> u64
     ensures { λ r. ⌜ (r ≡ word (rewriteReply (now (file .entry)) (length (now (out .entry))))) × (now (out .exit) ≡ rewriteOut (now (file .entry)) (now (out .entry))) ⌝ }
 {
     let found = rewriter::rewrite(file, out);
-    pack(found.number, found.place)
+    pack(found)
 }
 
 // Document 01's writer: one 58, from its eleven header lines and its numbers, into the bytes lent; its length.
@@ -191,7 +214,7 @@ pub extern "C" fn uff_write(
     ensures { λ r. ⌜ (r ≡ word (writeReply (now (header .entry)) (now (coefficients .entry)) (now (scales .entry)) (length (now (out .entry))))) × (now (out .exit) ≡ writeOut (now (header .entry)) (now (coefficients .entry)) (now (scales .entry)) (now (out .entry))) ⌝ }
 {
     let found = writer::write(header, coefficients, scales, out);
-    pack(found.number, found.place)
+    pack(found)
 }
 
 // A file judged while it arrives: lays out a record that starts a new file.
@@ -200,7 +223,7 @@ pub extern "C" fn uff_start(numbers: &mut [u64], line: &mut [u8]) -> u64
     ensures { λ r. ⌜ (r ≡ word (startReply (now (numbers .entry)) (now (line .entry)))) × (now (numbers .exit) ≡ startNumbers (now (numbers .entry)) (now (line .entry))) × (now (line .exit) ≡ startLine (now (numbers .entry)) (now (line .entry))) ⌝ }
 {
     let found = lent::start(numbers, line);
-    pack(found.number, found.place)
+    pack(found)
 }
 
 // Brings the record up to date by a burst; its refusal so far, or 127 and the number of finished lines.
@@ -209,7 +232,7 @@ pub extern "C" fn uff_burst(numbers: &mut [u64], line: &mut [u8], bytes: &[u8]) 
     ensures { λ r. ⌜ Burst word (now (numbers .entry)) (now (line .entry)) (now (bytes .entry)) (now (numbers .exit)) (now (line .exit)) r ⌝ }
 {
     let found = lent::burst(numbers, line, bytes);
-    pack(found.number, found.place)
+    pack(found)
 }
 
 // The end of the record's file: the judge's reply for the whole of it.
@@ -218,5 +241,5 @@ pub extern "C" fn uff_end(numbers: &mut [u64], line: &[u8]) -> u64
     ensures { λ r. ⌜ (r ≡ word (endOf (now (numbers .entry)) (now (line .entry)))) × (now (numbers .exit) ≡ endNumbers (now (numbers .entry)) (now (line .entry))) ⌝ }
 {
     let found = lent::end(numbers, line);
-    pack(found.number, found.place)
+    pack(found)
 }

@@ -17,8 +17,13 @@ use Rattle.walk.specs.declared.Outcome.the-variants.{Next, Refused}
 use Rattle.walk.specs.Step.{start, stepOf}
 use Rattle.judge.specs.declared.Reply.{Reply}
 
+-- a number, a place and a column
+abbrev pub replyAt : ℕ → ℕ → ℕ → Reply
+replyAt n p c = record { number = n; place = p; column = c }
+
+-- a number and a place, no column
 abbrev pub reply : ℕ → ℕ → Reply
-reply n p = record { number = n; place = p }
+reply n p = replyAt n p 0
 
 -- a line's own refusal first, then that of its place
 abbrev pub lineOutcome : State → Refusal → List ℕ → Outcome

@@ -2,6 +2,7 @@
 use mathlib.Core.Path.{_≡_, refl, sym, ap, _∙_}
 use mathlib.Core.Bool.{Bool, true, false}
 use mathlib.Core.List.{List, [], _∷_, _++_}
+use Prim.{Unit, tt}
 use Prim.Native.Nat.{ℕ, _+_, _-_, _≤_, _<_}
 use native.Mathlib.Nat.{not-suc-le-zero, le-of-suc-le-suc}
 use native.Mathlib.Omega.{arith}
@@ -16,11 +17,13 @@ use Rattle.line.specs.declared.Refusal.{Refusal}
 use Rattle.walk.specs.declared.State.{State}
 use Rattle.walk.specs.declared.Outcome.{Outcome}
 use Rattle.walk.specs.declared.Outcome.the-variants.{Next, Refused}
+use Rattle.judge.specs.declared.Reply.{Reply}
 use Rattle.judge.specs.declared.Lines.{Lines}
 use Rattle.judge.specs.Judge.{reply, lineStep, Run, going, refused, onOutcome, runStep, runEnd}
 use Rattle.judge.specs.Lines.{runOf, LinesJudged}
 use Rattle.judge.specs.JudgeLaws.{over-refused}
-use Rattle.judge.specs.RefusalLaws.{refusal-sure}
+use Rattle.judge.specs.Refusal.{LineNumber}
+use Rattle.judge.specs.RefusalLaws.{refusal-sure, line-number}
 
 -- a loop over the finished lines of bytes: the line from one place to an LF, and the end
 module _ (b : List ℕ) (from e : ℕ) (a : from ≤ length b) (q : e ≡ from + lineLen (drop from b)) where
@@ -115,3 +118,32 @@ module _ (s : State) (n : ℕ) (l : List ℕ) (q : length l ≤ lineLen l) (r : 
       go true (Refused f) e = omega (arith, ap linesOf e)
       go false (Next t) e = omega (arith, ap linesOf e)
       go false (Refused f) e = omega (arith, ap linesOf e)
+
+-- a run that is refused has a line's number
+abbrev Numbered : Run → Type 0
+Numbered (going s n) = Unit {0}
+Numbered (refused r) = LineNumber (r .number)
+
+outcome-numbered : (s : State) (n : ℕ) (l : List ℕ) → Numbered (onOutcome n (lineStep s l))
+outcome-numbered s n l = by (lineStep s l) refl
+  where
+    by : (o : Outcome) → lineStep s l ≡ o → Numbered (onOutcome n o)
+    by (Next t) e = tt
+    by (Refused f) e = line-number s l f e
+
+step-numbered : (r : Run) (l : List ℕ) → Numbered r → Numbered (runStep r l)
+step-numbered (going s n) l h = outcome-numbered s n l
+step-numbered (refused r) l h = h
+
+run-numbered : (ls : List (List ℕ)) (r : Run) → Numbered r → Numbered (over runStep r ls)
+unfolding over
+run-numbered [] r h = h
+run-numbered (l ∷ ls) r h = run-numbered ls (runStep r l) (step-numbered r l h)
+
+pub outcome-number : (s : State) (n : ℕ) (l : List ℕ) (r : Reply) → refused r ≡ onOutcome n (lineStep s l) → LineNumber (r .number)
+outcome-number s n l r h = rw (← h) at (outcome-numbered s n l)
+
+pub judged-number : (s : State) (n : ℕ) (b : List ℕ) (at : ℕ) (r : Lines) → LinesJudged s n b at r → 0 < r .number → LineNumber (r .number)
+judged-number s n b at r j z =
+    let e : refused (reply (r .number) (r .lines + 1)) ≡ over runStep (going s n) (cut (drop at b) .lines) = rw (ne-eqb (r .number) 0 (λ y. omega arith)) at (j .run) in
+    rw (← e) at (run-numbered (cut (drop at b) .lines) (going s n) tt)

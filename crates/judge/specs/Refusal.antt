@@ -1,5 +1,6 @@
--- A property of the refusal that a line gets, where it gets one.
+-- The refusal that a line gets, where it gets one: a property of it, and the numbers that it can have.
 use Prim.{Unit}
+use Prim.Native.Nat.{ℕ, _≤_}
 use Rattle.line.specs.declared.Refusal.{Refusal}
 use Rattle.walk.specs.declared.Outcome.{Outcome}
 use Rattle.walk.specs.declared.Outcome.the-variants.{Next, Refused}
@@ -7,3 +8,7 @@ use Rattle.walk.specs.declared.Outcome.the-variants.{Next, Refused}
 abbrev pub Refusing : (Refusal → Type 0) → Outcome → Type 0
 Refusing P (Next s) = Unit {0}
 Refusing P (Refused f) = P f
+
+-- a number of document 01's table whose place is a line: 2 to 15
+abbrev pub LineNumber : ℕ → Type 0
+LineNumber n = (2 ≤ n) × (n ≤ 15)

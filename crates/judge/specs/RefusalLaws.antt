@@ -1,5 +1,5 @@
 -- What holds of every refusal that a line gets; that it has a number, so that what is not refused goes on.
-use mathlib.Core.Path.{_≡_, refl, sym, subst}
+use mathlib.Core.Path.{_≡_, refl}
 use mathlib.Core.Bool.{Bool, true, false}
 use mathlib.Core.List.{List}
 use Prim.{tt}
@@ -14,6 +14,7 @@ use Rattle.text.specs.Blank.{allBlank}
 use Rattle.kind.specs.Kind.{isDelimiter, datasetNumber}
 use Rattle.rows.specs.Row.{Row}
 use Rattle.record.specs.Check.{rowRefusal}
+use Rattle.record.specs.NumberLaws.{row-number}
 use Rattle.walk.specs.declared.Place.{Place}
 use Rattle.walk.specs.declared.Place.the-variants.{Outside, Number, Plain, Typed}
 use Rattle.walk.specs.declared.State.{State}
@@ -22,7 +23,7 @@ use Rattle.walk.specs.declared.Outcome.the-variants.{Next, Refused}
 use Rattle.walk.specs.Due.{rowDue, isClosed, after}
 use Rattle.walk.specs.Step.{state, unless, outsideStep, numberStep, plainStep, typedStep, placeStep, stepOf}
 use Rattle.judge.specs.Judge.{lineOutcome, lineStep}
-use Rattle.judge.specs.Refusal.{Refusing}
+use Rattle.judge.specs.Refusal.{Refusing, LineNumber}
 
 -- a property of every refusal of a line
 module _ (P : Refusal → Type 0) where
@@ -30,16 +31,16 @@ module _ (P : Refusal → Type 0) where
   picked true a b p q = p
   picked false a b p q = q
 
+  by-number : (n c : ℕ) (s : State) → (0 < n → P (refusal n c)) → Refusing P (unless (refusal n c) s)
+  by-number zero c s h = tt
+  by-number (suc n) c s h = h (omega arith)
+
   by-row : (f : Refusal) (s : State) → (0 < f .number → P f) → Refusing P (unless f s)
-  by-row f s h = go (f .number) refl
-    where
-      go : (n : ℕ) → f .number ≡ n → Refusing P (unless f s)
-      go zero e = rw e tt
-      go (suc n) e = let q : unless f s ≡ Refused f = rw e refl in subst (Refusing P) (sym q) (h (omega arith))
+  by-row f s h = by-number (f .number) (f .column) s h
 
   -- it holds where it holds of those by the place where the line stands, which name column 1, of those by the row due, and of those by the
   -- line's own bytes and columns
-  module _ (place : (n : ℕ) → 0 < n → n ≤ 15 → P (refusal n 1)) (row : (r : Row) (line : List ℕ) → 0 < rowRefusal r line .number → P (rowRefusal r line))
+  module _ (place : (n : ℕ) → 4 < n → n ≤ 15 → P (refusal n 1)) (row : (r : Row) (line : List ℕ) → 0 < rowRefusal r line .number → P (rowRefusal r line))
       (own : (cs : List ℕ) → 0 < lineFault true cs .number → P (lineFault true cs)) where
     at-place : (p : Place) (n : ℕ) (line : List ℕ) → Refusing P (placeStep p n line)
     unfolding outsideStep numberStep plainStep typedStep
@@ -56,23 +57,36 @@ module _ (P : Refusal → Type 0) where
         (picked (isClosed d) (Refused (refusal 8 1)) _ (place 8 (omega arith) (omega arith))
         (by-row (rowRefusal (rowDue d) line) (state (Typed (after d line)) n) (row (rowDue d) line)))
 
-    on-line : (s : State) (cs : List ℕ) → Refusing P (lineOutcome s (lineFault true cs) cs)
+    on-line : (s : State) (n c : ℕ) (cs : List ℕ) → (0 < n → P (refusal n c)) → Refusing P (lineOutcome s (refusal n c) cs)
     unfolding stepOf
-    on-line s cs = go (lineFault true cs .number) refl
-      where
-        go : (n : ℕ) → lineFault true cs .number ≡ n → Refusing P (lineOutcome s (lineFault true cs) cs)
-        go zero e = rw e (at-place (s .place) (s .sets) (filled cs))
-        go (suc n) e =
-            let q : lineOutcome s (lineFault true cs) cs ≡ Refused (lineFault true cs) = rw e refl in
-            subst (Refusing P) (sym q) (own cs (omega arith))
+    on-line s zero c cs h = at-place (s .place) (s .sets) (filled cs)
+    on-line s (suc n) c cs h = h (omega arith)
 
     pub refusal-is : (s : State) (l : List ℕ) (f : Refusal) → lineStep s l ≡ Refused f → P f
     unfolding lineStep
-    refusal-is s l f e = rw e at (on-line s (columns true l))
+    refusal-is s l f e =
+        let cs : List ℕ = columns true l in
+        rw e at (on-line s (lineFault true cs .number) (lineFault true cs .column) cs (own cs))
+
+-- the numbers that a line's refusal can have: 2 to 15
+own-number : (cs : List ℕ) → 0 < lineFault true cs .number → LineNumber (lineFault true cs .number)
+unfolding lineFault
+own-number cs h = by (ltb 0 (firstBad 1 cs)) (ltb 80 (length cs)) h
+  where
+    by : (bad long : Bool) → 0 < pick bad (refusal 2 (firstBad 1 cs)) (pick long (refusal 3 1) passed) .number
+        → LineNumber (pick bad (refusal 2 (firstBad 1 cs)) (pick long (refusal 3 1) passed) .number)
+    by true long h = (omega arith, omega arith)
+    by false true h = (omega arith, omega arith)
+    by false false h = absurd (omega arith)
+
+pub line-number : (s : State) (l : List ℕ) (f : Refusal) → lineStep s l ≡ Refused f → LineNumber (f .number)
+line-number =
+    refusal-is (λ (f : Refusal). LineNumber (f .number)) (λ n p q. (omega arith, q))
+    (row-number (λ (n : ℕ). 0 < n → LineNumber n) (λ h. absurd (omega arith)) (λ n p q h. (omega arith, omega arith))) own-number
 
 -- a refusal has a number
 pub refusal-sure : (s : State) (l : List ℕ) (f : Refusal) → lineStep s l ≡ Refused f → 0 < f .number
-refusal-sure = refusal-is (λ (f : Refusal). 0 < f .number) (λ n p q. p) (λ r line p. p) (λ cs p. p)
+refusal-sure s l f e = omega (arith, line-number s l f e .0)
 
 -- a line with no refusal of its own passes
 pub no-fault : (cs : List ℕ) → lineFault true cs .number ≡ 0 → lineFault true cs ≡ passed

@@ -9,10 +9,11 @@ use walk::Outcome;
 use walk::Place;
 use walk::State;
 
-// Document 01's number and place; for an accepted file 0 and the number of its lines.
+// Document 01's number and place; for an accepted file 0 and the number of its lines. The column is 0.
 pub struct Reply {
     pub number: u8,
     pub place: usize,
+    pub column: usize,
 }
 
 // How far finished lines are judged: while `number` is 0, the state after `lines` of them and the byte where the rest begins; otherwise
@@ -82,6 +83,7 @@ fn ends_inside(lines: usize) -> Reply
     Reply {
         number: 7,
         place: lines + 1,
+        column: 0,
     }
 }
 
@@ -95,6 +97,7 @@ pub fn finish(s: State, lines: usize, rest: &[u8]) -> Reply
         return Reply {
             number: fault.number,
             place: lines + 1,
+            column: 0,
         };
     }
     let place = s.place;
@@ -104,11 +107,13 @@ pub fn finish(s: State, lines: usize, rest: &[u8]) -> Reply
                 return Reply {
                     number: 16,
                     place: 0,
+                    column: 0,
                 };
             }
             Reply {
                 number: 0,
                 place: lines,
+                column: 0,
             }
         }
         Place::Number => ends_inside(lines),
@@ -125,6 +130,7 @@ pub fn judge(file: &[u8]) -> Reply
         return Reply {
             number: 1,
             place: 0,
+            column: 0,
         };
     }
     let start = State {
@@ -136,6 +142,7 @@ pub fn judge(file: &[u8]) -> Reply
         return Reply {
             number: read.number,
             place: read.lines + 1,
+            column: 0,
         };
     }
     let at = read.at;

@@ -1,10 +1,11 @@
--- The standing record as plain data, for a host that lends it: twelve numbers and a line of 82 bytes.
+-- The standing record as plain data, for a host that lends it: 16 numbers, of which the last four are 0, and a line of 96 bytes, of which the last
+-- 14 are 0.
 use mathlib.Core.Path.{_≡_}
 use mathlib.Core.Bool.{Bool, true, false, not, _||_}
 use mathlib.Core.List.{List, [], _∷_, _++_}
 use Prim.Native.Nat.{ℕ, _%_, _<_}
 use lib.Dec.{ltb, eqb}
-use lib.ListN.{length, getD, take, drop, set}
+use lib.ListN.{length, getD, take, drop, set, replicate}
 use Rattle.laws.specs.Choice.{pick}
 use Rattle.walk.specs.declared.Due.{Due}
 use Rattle.walk.specs.declared.Place.{Place}
@@ -16,9 +17,16 @@ use Rattle.judge.specs.Judge.{reply}
 use Rattle.stream.specs.declared.Stream.{Stream}
 use Rattle.stream.specs.Stream.{seen, Stepped, answerOf, paper, endReply, freshRecord}
 
--- the room is too short: fewer than 12 numbers or 82 bytes
+-- the room of a record: so many numbers and so many bytes
+abbrev pub numbersRoom : ℕ
+numbersRoom = 16
+
+abbrev pub lineRoom : ℕ
+lineRoom = 96
+
+-- fewer are too short
 abbrev pub isShort : List ℕ → List ℕ → Bool
-isShort ns bs = ltb (length ns) 12 || ltb (length bs) 82
+isShort ns bs = ltb (length ns) numbersRoom || ltb (length bs) lineRoom
 
 -- the record that numbers and a line stand for: any do
 abbrev pub dueOf : List ℕ → Due
@@ -31,12 +39,16 @@ placeOf ns =
     (pick (eqb (getD ns 0 0) 2) Plain
     (Typed (dueOf ns))))
 
+-- a refusal's number, 255 where it is more: no line can have it
+unfoldable pub byteOf : ℕ → ℕ
+byteOf n = pick (ltb 255 n) 255 n
+
 unfoldable pub streamOf : List ℕ → List ℕ → Stream
 streamOf ns bs =
     record {
       state = state (placeOf ns) (getD ns 6 0 % 4294967296);
       lines = getD ns 7 0;
-      number = getD ns 8 0 % 256;
+      number = byteOf (getD ns 8 0);
       total = getD ns 9 0;
       pending = take 82 bs;
       held = getD ns 10 0;
@@ -50,8 +62,18 @@ placeNumbers Number = 1 ∷ 0 ∷ 0 ∷ 0 ∷ 0 ∷ 0 ∷ []
 placeNumbers Plain = 2 ∷ 0 ∷ 0 ∷ 0 ∷ 0 ∷ 0 ∷ []
 placeNumbers (Typed d) = 3 ∷ d .kind ∷ d .at ∷ d .case ∷ d .left ∷ d .second ∷ []
 
+abbrev pub countNumbers : Stream → List ℕ
+countNumbers c = c .state .sets ∷ c .lines ∷ c .number ∷ c .total ∷ c .held ∷ pick (c .ended) 1 0 ∷ []
+
+-- those that no record uses
+abbrev pub unusedNumbers : List ℕ
+unusedNumbers = replicate 4 0
+
+abbrev pub unusedBytes : List ℕ
+unusedBytes = replicate 14 0
+
 unfoldable pub numbersOf : Stream → List ℕ
-numbersOf c = placeNumbers (c .state .place) ++ (c .state .sets ∷ c .lines ∷ c .number ∷ c .total ∷ c .held ∷ pick (c .ended) 1 0 ∷ [])
+numbersOf c = (placeNumbers (c .state .place) ++ countNumbers c) ++ unusedNumbers
 
 -- a record whose parts fit their types, as every program's do
 pub record Fits (c : Stream) : Type 0 where
@@ -61,10 +83,10 @@ pub record Fits (c : Stream) : Type 0 where
 
 -- the buffers with a record laid out at their start
 abbrev pub numbersAfter : Stream → List ℕ → List ℕ
-numbersAfter c ns = numbersOf c ++ drop 12 ns
+numbersAfter c ns = numbersOf c ++ drop numbersRoom ns
 
 abbrev pub lineAfter : Stream → List ℕ → List ℕ
-lineAfter c bs = c .pending ++ drop 82 bs
+lineAfter c bs = c .pending ++ (unusedBytes ++ drop lineRoom bs)
 
 -- the start: a fresh record is laid out
 unfoldable pub startReply : List ℕ → List ℕ → Reply

@@ -6,9 +6,9 @@ use Prim.Native.Nat.{ℕ, suc, _+_, _-_, _%_, _≤_, _<_}
 use native.Mathlib.Numerals.{add-one}
 use native.Mathlib.Omega.{arith}
 use lib.Dec.{ltb, eqb}
-use borrow.Author.Tests.{ltb-false, eq-eqb, ne-eqb}
+use borrow.Author.Tests.{ltb-false, le-ltb, eq-eqb, ne-eqb}
 use borrow.Rule.Slice.PartMut.{putMid, midOf}
-use lib.ListN.{length, getD, take, drop, set, replicate, length-drop}
+use lib.ListN.{length, getD, take, drop, set, replicate, length-drop, length-append}
 use lib.Seq.{take-suc, drop-cons, append-snoc, set-at, take-at, drop-at, take-all, take-length, drop-length, drop-drop, length-take-le, getD-set-same, getD-set-other}
 use Rattle.laws.specs.Choice.{pick}
 use Rattle.laws.specs.ChoiceLaws.{false-not-true}
@@ -19,9 +19,18 @@ use Rattle.judge.specs.declared.Reply.{Reply}
 use Rattle.judge.specs.Judge.{reply}
 use Rattle.stream.specs.declared.Stream.{Stream}
 use Rattle.stream.specs.Stream.{seen, closed, Stepped, answerOf, paper, endReply, freshRecord}
-use Rattle.lent.specs.Lent.{placeOf, streamOf, placeNumbers, numbersOf, Fits, numbersAfter, lineAfter, isShort, startReply, startNumbers, startLine, endOf, endNumbers, Burst, same}
+use Rattle.output.specs.Output.{placed}
+use Rattle.output.specs.OutputLaws.{placed-then, placed-first}
+use Rattle.lent.specs.Lent.{numbersRoom, lineRoom, placeOf, streamOf, placeNumbers, countNumbers, unusedNumbers, unusedBytes, byteOf, numbersOf, Fits, numbersAfter, lineAfter, isShort, startReply, startNumbers, startLine, endOf, endNumbers, Burst, same}
 
--- six numbers laid one after the other
+-- four numbers laid one after the other, and six
+pub four-laid : (l : List ℕ) → 4 ≤ length l → set (set (set (set l 0 0) 1 0) 2 0) 3 0 ≡ unusedNumbers ++ drop 4 l
+four-laid [] h = absurd (omega arith)
+four-laid (_ ∷ []) h = absurd (omega arith)
+four-laid (_ ∷ _ ∷ []) h = absurd (omega arith)
+four-laid (_ ∷ _ ∷ _ ∷ []) h = absurd (omega arith)
+four-laid (_ ∷ _ ∷ _ ∷ _ ∷ l) h = refl
+
 pub six-laid : (l : List ℕ) (a b c d e f : ℕ) → 6 ≤ length l → set (set (set (set (set (set l 0 a) 1 b) 2 c) 3 d) 4 e) 5 f ≡ a ∷ b ∷ c ∷ d ∷ e ∷ f ∷ drop 6 l
 six-laid [] a b c d e f h = absurd (omega arith)
 six-laid (_ ∷ []) a b c d e f h = absurd (omega arith)
@@ -48,22 +57,34 @@ place-length Number = refl
 place-length Plain = refl
 place-length (Typed d) = refl
 
-pub laid-record : (c : Stream) (ns ns₁ ys : List ℕ) (f : ℕ) → ns₁ ≡ placeNumbers (c .state .place) ++ drop 6 ns
-    → ys ≡ c .state .sets ∷ c .lines ∷ c .number ∷ c .total ∷ c .held ∷ f ∷ drop 6 (midOf 6 (length ns₁ - 6) ns₁) → f ≡ pick (c .ended) 1 0
-    → putMid 6 (length ns₁ - 6) ns₁ ys ≡ numbersAfter c ns
-unfolding numbersOf
-laid-record c ns ns₁ ys f e y g =
-    laid-after (placeNumbers (c .state .place)) (c .state .sets ∷ c .lines ∷ c .number ∷ c .total ∷ c .held ∷ pick (c .ended) 1 0 ∷ []) ns ns₁ ys 6 6
-    (place-length (c .state .place)) e (rw g at y)
+module _ (c : Stream) (ns ns₁ ys : List ℕ) (f : ℕ) (e : ns₁ ≡ placeNumbers (c .state .place) ++ drop 6 ns)
+    (y : ys ≡ c .state .sets ∷ c .lines ∷ c .number ∷ c .total ∷ c .held ∷ f ∷ drop 6 (midOf 6 (length ns₁ - 6) ns₁)) (g : f ≡ pick (c .ended) 1 0) where
+  used : putMid 6 (length ns₁ - 6) ns₁ ys ≡ (placeNumbers (c .state .place) ++ countNumbers c) ++ drop 12 ns
+  used = laid-after (placeNumbers (c .state .place)) (countNumbers c) ns ns₁ ys 6 6 (place-length (c .state .place)) e (rw g at y)
+
+  used-length : length (placeNumbers (c .state .place) ++ countNumbers c) ≡ 12
+  used-length = length-append (placeNumbers (c .state .place)) (countNumbers c) ∙ rw (place-length (c .state .place)) refl
+
+  pub laid-record : (ns₂ zs : List ℕ) → ns₂ ≡ putMid 6 (length ns₁ - 6) ns₁ ys → zs ≡ unusedNumbers ++ drop 4 (midOf 12 (length ns₂ - 12) ns₂)
+      → putMid 12 (length ns₂ - 12) ns₂ zs ≡ numbersAfter c ns
+  unfolding numbersOf
+  laid-record ns₂ zs u z = laid-after (placeNumbers (c .state .place) ++ countNumbers c) unusedNumbers ns ns₂ zs 12 4 used-length (u ∙ used) z
+
+-- a record's line, then the bytes that it does not use
+pub laid-line : (p line l₁ l₂ : List ℕ) (past : ℕ) → length p ≡ 82 → past ≡ 0 + length p → l₁ ≡ placed 0 p line → l₂ ≡ placed past unusedBytes l₁
+    → l₂ ≡ p ++ (unusedBytes ++ drop lineRoom line)
+laid-line p line l₁ l₂ past h q e f =
+    let n : length (p ++ unusedBytes) ≡ lineRoom = length-append p unusedBytes ∙ rw h refl in
+    f ∙ rw (q, e) (placed-then 0 p line unusedBytes (omega arith)) ∙ placed-first (p ++ unusedBytes) line ∙ rw (n, append-assoc p unusedBytes (drop lineRoom line)) refl
 
 -- the room of a record
-pub room : (n m : ℕ) → ltb n 12 || ltb m 82 ≡ false → (12 ≤ n) × (82 ≤ m)
-room n m e = go (ltb n 12) refl (ltb m 82) refl e
+pub room : (n m : ℕ) → ltb n numbersRoom || ltb m lineRoom ≡ false → (numbersRoom ≤ n) × (lineRoom ≤ m)
+room n m e = go (ltb n numbersRoom) refl (ltb m lineRoom) refl e
   where
-    go : (s : Bool) → ltb n 12 ≡ s → (t : Bool) → ltb m 82 ≡ t → s || t ≡ false → (12 ≤ n) × (82 ≤ m)
+    go : (s : Bool) → ltb n numbersRoom ≡ s → (t : Bool) → ltb m lineRoom ≡ t → s || t ≡ false → (numbersRoom ≤ n) × (lineRoom ≤ m)
     go true p t q h = false-not-true (sym h)
     go false p true q h = false-not-true (sym h)
-    go false p false q h = (ltb-false n 12 p, ltb-false m 82 q)
+    go false p false q h = (ltb-false n numbersRoom p, ltb-false m lineRoom q)
 
 -- a record that was laid out is read again as itself
 module _ (sets lines number total held : ℕ) (pending x y : List ℕ) (s : sets < 4294967296) (n : number < 256) (l : length pending ≡ 82) where
@@ -73,8 +94,9 @@ module _ (sets lines number total held : ℕ) (pending x y : List ℕ) (s : sets
   sets-same : sets % 4294967296 ≡ sets
   sets-same = omega arith
 
-  number-same : number % 256 ≡ number
-  number-same = omega arith
+  number-same : byteOf number ≡ number
+  unfolding byteOf
+  number-same = rw (le-ltb 255 number (omega arith)) refl
 
   parts-again : (p : Place) (e : Bool) → streamOf (numbersOf (made p e) ++ x) (pending ++ y) ≡ made p e
   unfolding streamOf placeOf numbersOf
@@ -96,7 +118,7 @@ unfolding freshRecord
 fresh-fits = record { sets = omega arith; number = omega arith; pending = refl }
 
 -- the end closes the record
-pub end-closes : (ns bs : List ℕ) → 12 ≤ length ns → streamOf (set ns 11 1) bs ≡ closed (streamOf ns bs)
+pub end-closes : (ns bs : List ℕ) → numbersRoom ≤ length ns → streamOf (set ns 11 1) bs ≡ closed (streamOf ns bs)
 unfolding streamOf placeOf closed
 end-closes ns bs h =
     let k : (j : ℕ) → j < 11 → getD (set ns 11 1) j 0 ≡ getD ns j 0 = λ j l. getD-set-other ns 11 j 1 0 (λ e. omega arith) in
@@ -176,7 +198,7 @@ module _ (ns bs b : List ℕ) where
         record {
           short = λ t. false-not-true (sym s ∙ t);
           ended = λ t e. false-not-true (sym (not-asked ns bs h) ∙ e);
-          further = λ t e. record { left = left; stepped = rw (← q) w; numbers = p; line = l; again = rw (p, l) (read-again left (drop 12 ns) (drop 82 bs) f); said = a };
+          further = λ t e. record { left = left; stepped = rw (← q) w; numbers = p; line = l; again = rw (p, l) (read-again left (drop numbersRoom ns) (unusedBytes ++ drop lineRoom bs) f); said = a };
         }
 
 -- the same, with the reply in another form

@@ -1,7 +1,7 @@
-// A file judged while it arrives, for hosts that hold the standing record as plain data: twelve numbers and a line of 82 bytes. The numbers:
+// A file judged while it arrives, for hosts that hold the standing record as plain data: 16 numbers and a line of 96 bytes. The numbers:
 // 0 the place (0 outside sets, 1 where a number line is due, 2 in a plain set, any other in a typed set), 1 to 5 what is due there (kind, at,
 // case, left, second), 6 the sets opened, 7 the lines, 8 the refusal's number, 9 the total, 10 how many bytes of the line are held, 11 whether
-// the end was asked (0: no).
+// the end was asked (0: no), 12 to 15 nothing yet. The line's last 14 bytes are nothing yet. What is nothing yet is laid as 0 and not read.
 ghost use mathlib.Core.Path.{_≡_};
 ghost use mathlib.Core.List.{_∷_, _++_};
 ghost use mathlib.Core.Bool.{_||_};
@@ -9,7 +9,7 @@ ghost use Prim.Native.Nat.{_≤_};
 ghost use lib.Dec.{ltb};
 ghost use lib.ListN.{length, drop};
 ghost use Rattle.laws.specs.Choice.{pick};
-ghost use Rattle.lent.specs.Lent.{isShort, dueOf, placeOf, streamOf, placeNumbers, Fits, numbersAfter, lineAfter, startReply, startNumbers, startLine, endOf, endNumbers, same, Burst};
+ghost use Rattle.lent.specs.Lent.{numbersRoom, lineRoom, isShort, byteOf, dueOf, placeOf, streamOf, placeNumbers, unusedNumbers, unusedBytes, Fits, numbersAfter, lineAfter, startReply, startNumbers, startLine, endOf, endNumbers, same, Burst};
 ghost use Rattle.stream.specs.Stream.{paper};
 use judge::Reply;
 use output::put_text;
@@ -18,6 +18,11 @@ use stream::Stream;
 use walk::Due;
 use walk::Place;
 use walk::State;
+
+// The room of a record: so many numbers and so many bytes.
+pub const NUMBERS_ROOM: usize = 16;
+
+pub const LINE_ROOM: usize = 96;
 
 // Lays six numbers at the start.
 fn put_six(out: &mut [u64], a: u64, b: u64, c: u64, d: u64, e: u64, f: u64)
@@ -30,6 +35,17 @@ fn put_six(out: &mut [u64], a: u64, b: u64, c: u64, d: u64, e: u64, f: u64)
     out[3] = d;
     out[4] = e;
     out[5] = f;
+}
+
+// Lays the numbers that no record uses.
+fn put_unused(out: &mut [u64])
+    requires { ⌜ 4 ≤ length (now out) ⌝ }
+    ensures { λ _. ⌜ now (out .exit) ≡ unusedNumbers ++ drop 4 (now (out .entry)) ⌝ }
+{
+    out[0] = 0;
+    out[1] = 0;
+    out[2] = 0;
+    out[3] = 0;
 }
 
 // Lays a place and what is due there.
@@ -65,15 +81,16 @@ fn flag(on: bool) -> u64
 
 // Lays a record's line.
 fn put_line(line: &mut [u8], pending: &[u8; 82])
-    requires { ⌜ 82 ≤ length (now line) ⌝ }
-    ensures { λ _. ⌜ (now (line .exit) ≡ now (pending .entry) ++ drop 82 (now (line .entry))) × (length (now (pending .entry)) ≡ 82) ⌝ }
+    requires { ⌜ lineRoom ≤ length (now line) ⌝ }
+    ensures { λ _. ⌜ (now (line .exit) ≡ now (pending .entry) ++ (unusedBytes ++ drop lineRoom (now (line .entry)))) × (length (now (pending .entry)) ≡ 82) ⌝ }
 {
-    put_text(line, 0, pending);
+    let past = put_text(line, 0, pending);
+    put_text(line, past, &[0u8; LINE_ROOM - 82]);
 }
 
 // Lays a record out.
 fn put_record(numbers: &mut [u64], line: &mut [u8], c: Stream)
-    requires { ⌜ (12 ≤ length (now numbers)) × (82 ≤ length (now line)) ⌝ }
+    requires { ⌜ (numbersRoom ≤ length (now numbers)) × (lineRoom ≤ length (now line)) ⌝ }
     ensures { λ _. ⌜ (now (numbers .exit) ≡ numbersAfter c (now (numbers .entry))) × (now (line .exit) ≡ lineAfter c (now (line .entry))) × Fits c ⌝ }
 {
     let state = c.state;
@@ -87,6 +104,7 @@ fn put_record(numbers: &mut [u64], line: &mut [u8], c: Stream)
     let pending = c.pending;
     put_place(numbers, place);
     put_six(&mut numbers[6..], sets, lines, number, total, held, ended);
+    put_unused(&mut numbers[12..]);
     put_line(line, &pending);
 }
 
@@ -122,14 +140,24 @@ fn place_in(numbers: &[u64]) -> Place
     Place::Typed(due_in(numbers))
 }
 
+// A refusal's number, 255 where it is more.
+fn byte_of(n: u64) -> u8
+    ensures { λ r. ⌜ r ≡ byteOf n ⌝ }
+{
+    if 255 < n {
+        return 255;
+    }
+    n as u8
+}
+
 // The record, from its numbers and its line.
 fn record_in(numbers: &[u64], line: &[u8]) -> Stream
-    requires { ⌜ (12 ≤ length (now numbers)) × (82 ≤ length (now line)) ⌝ }
+    requires { ⌜ (numbersRoom ≤ length (now numbers)) × (lineRoom ≤ length (now line)) ⌝ }
     ensures { λ r. ⌜ r ≡ streamOf (now (numbers .entry)) (now (line .entry)) ⌝ }
 {
     let place = place_in(numbers);
     let sets = (numbers[6] % 4294967296) as u32;
-    let number = (numbers[8] % 256) as u8;
+    let number = byte_of(numbers[8]);
     let mut pending = [0u8; 82];
     put_text(&mut pending, 0, &line[..82]);
     Stream {
@@ -145,9 +173,9 @@ fn record_in(numbers: &[u64], line: &[u8]) -> Stream
 
 // Whether so many numbers and bytes are too few for a record.
 fn is_short(numbers: usize, line: usize) -> bool
-    ensures { λ r. ⌜ r ≡ ltb numbers 12 || ltb line 82 ⌝ }
+    ensures { λ r. ⌜ r ≡ ltb numbers numbersRoom || ltb line lineRoom ⌝ }
 {
-    (numbers < 12) | (line < 82)
+    (numbers < NUMBERS_ROOM) | (line < LINE_ROOM)
 }
 
 // The number and the place of an answer; "so far" is 127.
@@ -158,8 +186,9 @@ fn reply_of(a: Answer) -> Reply
         Answer::SoFar(lines) => Reply {
             number: 127,
             place: lines,
+            column: 0,
         },
-        Answer::Refused(number, place) => Reply { number, place },
+        Answer::Refused(reply) => reply,
     }
 }
 
@@ -171,12 +200,14 @@ pub fn start(numbers: &mut [u64], line: &mut [u8]) -> Reply
         return Reply {
             number: 20,
             place: 0,
+            column: 0,
         };
     }
     put_record(numbers, line, stream::fresh());
     Reply {
         number: 0,
         place: 0,
+        column: 0,
     }
 }
 
@@ -188,12 +219,14 @@ pub fn burst(numbers: &mut [u64], line: &mut [u8], bytes: &[u8]) -> Reply
         return Reply {
             number: 20,
             place: 0,
+            column: 0,
         };
     }
     if 0 < numbers[11] {
         return Reply {
             number: 23,
             place: 0,
+            column: 0,
         };
     }
     let after = standing::after_burst(record_in(numbers, line), bytes);
@@ -211,6 +244,7 @@ pub fn end(numbers: &mut [u64], line: &[u8]) -> Reply
         return Reply {
             number: 20,
             place: 0,
+            column: 0,
         };
     }
     let found = stream::reply(record_in(numbers, line));

@@ -95,11 +95,13 @@ pub fn list(file: &[u8], rows: &mut [u32]) -> Reply
         return Reply {
             number: 17,
             place: 0,
+            column: 0,
         };
     }
     put_rows(file, rows);
     Reply {
         number: 0,
         place: sets,
+        column: 0,
     }
 }

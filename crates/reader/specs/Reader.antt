@@ -20,7 +20,7 @@ use Rattle.layout.specs.Layout.{layoutOf, numbersOf}
 use Rattle.parts.specs.Parts.{Part, partsOf}
 use Rattle.parts.specs.Function.{caseOf, countOf, storedOf, firstByte, pastByte}
 use Rattle.judge.specs.declared.Reply.{Reply}
-use Rattle.judge.specs.Judge.{judged}
+use Rattle.judge.specs.Judge.{judged, reply}
 use Rattle.reader.specs.declared.Read.{Read}
 use Rattle.reader.specs.declared.Read.the-variants as read
 use Rattle.reader.specs.declared.NumberAnswer.{NumberAnswer}
@@ -30,16 +30,18 @@ use Rattle.reader.specs.declared.ValueAnswer.the-variants as value
 
 -- what a call says: the paper's number and place, and what it shows
 pub record Said (A : Type 0) : Type 0 where
-  pub number : ℕ
-  pub place : ℕ
+  pub reply : Reply
   pub shown : List A
 
 abbrev pub said : {A : Type 0} → ℕ → ℕ → List A → Said A
-said n p s = record { number = n; place = p; shown = s }
+said n p s = record { reply = reply n p; shown = s }
 
 -- "A refusal returns its number and place (0 if none is named) and nothing else"
+abbrev pub refusedBy : {A : Type 0} → Reply → Said A
+refusedBy r = record { reply = r; shown = [] }
+
 abbrev pub refused : {A : Type 0} → ℕ → ℕ → Said A
-refused n p = said n p []
+refused n p = refusedBy (reply n p)
 
 -- "first and past byte of its columns, and the sign, coefficient and scale" of a stored number; the sign is true for a minus, the scale is given
 -- by whether it is below zero and its size
@@ -61,18 +63,18 @@ shown a e n c b k = record { first = a; past = e; sign = n; coefficient = c; bel
 -- 4 abscissa and complex pair)
 abbrev pub paperNumber : NumberAnswer → Said Shown
 paperNumber (number.Number s) = said 0 0 (shown (s .first) (s .past) (s .minus) (s .coefficient) (s .below) (s .scale) ∷ [])
-paperNumber (number.Refused r) = refused (r .number) (r .place)
+paperNumber (number.Refused r) = refusedBy r
 
 abbrev pub paper : ValueAnswer → Said Float
 paper (value.Real x) = said 0 1 (x ∷ [])
 paper (value.Complex x y) = said 0 2 (x ∷ y ∷ [])
 paper (value.RealAt a x) = said 0 3 (a ∷ x ∷ [])
 paper (value.ComplexAt a x y) = said 0 4 (a ∷ x ∷ y ∷ [])
-paper (value.Refused r) = refused (r .number) (r .place)
+paper (value.Refused r) = refusedBy r
 
 -- "The .. reader .. judge first; 17 to 21 come after"
 abbrev pub judgedFirst : {A : Type 0} → Reply → Said A → Said A
-judgedFirst r s = pick (ltb 0 (r .number)) (refused (r .number) (r .place)) s
+judgedFirst r s = pick (ltb 0 (r .number)) (refusedBy r) s
 
 -- "By set (from 1)": the sets from this one on; none for set 0
 unfoldable pub setsFrom : List ℕ → ℕ → List Part

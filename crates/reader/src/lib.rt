@@ -159,6 +159,7 @@ fn no_number() -> NumberAnswer
     NumberAnswer::Refused(Reply {
         number: 18,
         place: 0,
+        column: 0,
     })
 }
 
@@ -227,7 +228,11 @@ fn read_at(file: &[u8], d: Data, j: usize) -> Read
 fn refuse(number: u8) -> ValueAnswer
     ensures { λ r. ⌜ paper r ≡ refused number 0 ⌝ }
 {
-    ValueAnswer::Refused(Reply { number, place: 0 })
+    ValueAnswer::Refused(Reply {
+        number,
+        place: 0,
+        column: 0,
+    })
 }
 
 // A value of one number.

@@ -38,7 +38,7 @@ fn show_refusal(number: u8, place: usize) {
 fn show_answer(answer: Answer) {
     match answer {
         Answer::SoFar(n) => show_count(b"so far ", n),
-        Answer::Refused(number, place) => show_refusal(number, place),
+        Answer::Refused(r) => show_refusal(r.number, r.place),
     }
 }
 

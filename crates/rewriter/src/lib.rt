@@ -154,11 +154,13 @@ pub fn rewrite(file: &[u8], out: &mut [u8]) -> Reply
         return Reply {
             number: 20,
             place: 0,
+            column: 0,
         };
     }
     put_sets(out, file);
     Reply {
         number: 0,
         place: n,
+        column: 0,
     }
 }

@@ -54,9 +54,13 @@ stepOf (inLimit r q n) b =
     pick (ltb 16777216 (n + length b)) past
     (kept (over runStep r (cut (q ++ b) .lines)) (cut (q ++ b) .rest) (n + length b))
 
--- past the limit; so is a record with more lines than bytes, which no bursts give
+-- neither 0 nor a number that a line's refusal can have, 2 to 15
+unfoldable pub isStrange : ℕ → Bool
+isStrange n = eqb n 1 || ltb 15 n
+
+-- past the limit; so is a record with more lines than bytes, or with a strange number, which no bursts give
 unfoldable pub isPast : Stream → Bool
-isPast c = ltb 16777216 (c .total) || ltb (c .total) (c .lines)
+isPast c = (ltb 16777216 (c .total) || ltb (c .total) (c .lines)) || isStrange (c .number)
 
 -- how many bytes of the open line a record holds: up to an LF, which no bursts put there
 unfoldable pub openLen : Stream → ℕ
@@ -88,17 +92,17 @@ pub record Stepped (c : Stream) (b : List ℕ) (r : Stream) : Type 0 where
 -- the answer of a burst, from the record it leaves: "23, a burst after the end was asked, first of all"; "1 once the running length is past the
 -- limit, otherwise the refusal of the earliest bad line whose LF has come, otherwise 'so far' with the number of finished lines"
 abbrev pub soFar : Seen → Answer
-soFar past = Refused 1 0
+soFar past = Refused (reply 1 0)
 soFar (inLimit (going s n) q t) = SoFar n
-soFar (inLimit (refused r) q t) = Refused (r .number) (r .place)
+soFar (inLimit (refused r) q t) = Refused r
 
 unfoldable pub answerOf : Bool → Seen → Answer
-answerOf ended s = pick ended (Refused 23 0) (soFar s)
+answerOf ended s = pick ended (Refused (reply 23 0)) (soFar s)
 
 -- the paper's number and place of an answer; "so far" is 127, which is no refusal of a file's bytes
 abbrev pub paper : Answer → Reply
 paper (SoFar n) = reply 127 n
-paper (Refused n p) = reply n p
+paper (Refused r) = r
 
 -- the end's answer: the whole file's
 abbrev pub endReply : Seen → Reply
@@ -123,7 +127,7 @@ atTotal c t = record { state = c .state; lines = c .lines; number = c .number; t
 
 -- the running length with m bytes more, or a number past the limit
 pub record Running (c : Stream) (m r : ℕ) : Type 0 where
-  pub within : r ≤ 16777216 → (c .lines ≤ c .total) × (r ≡ c .total + m)
+  pub within : r ≤ 16777216 → (isPast c ≡ false) × (r ≡ c .total + m)
   pub beyond : 16777216 < r → (isPast c ≡ true) ⊎ (16777216 < c .total + m)
   pub stops : 16777216 < r → r ≡ 16777217
 

@@ -23,9 +23,10 @@ use Rattle.judge.specs.declared.Reply.{Reply}
 use Rattle.judge.specs.declared.Lines.{Lines}
 use Rattle.judge.specs.Lines.{LinesJudged}
 use Rattle.judge.specs.JudgeLaws.{over-refused}
-use Rattle.judge.specs.LinesLaws.{one-run, one-more}
+use Rattle.judge.specs.Refusal.{LineNumber}
+use Rattle.judge.specs.LinesLaws.{one-run, one-more, outcome-number, judged-number}
 use Rattle.stream.specs.declared.Stream.{Stream}
-use Rattle.stream.specs.Stream.{push, pushAll, squeezed, Seen, inLimit, past, kept, stepOf, isPast, openLen, openOf, seen, Stepped, closed, freshRecord, judgedOn, atTotal, Running, OpenJudged, Open, made}
+use Rattle.stream.specs.Stream.{push, pushAll, squeezed, Seen, inLimit, past, kept, stepOf, isStrange, isPast, openLen, openOf, seen, Stepped, closed, freshRecord, judgedOn, atTotal, Running, OpenJudged, Open, made}
 use Rattle.stream.specs.SqueezeLaws.{push-append, squeezed-again, run-squeezed}
 
 or-left : (a b : Bool) → a || b ≡ false → a ≡ false
@@ -163,9 +164,9 @@ module _ (c : Stream) where
   open-part n e = rw e refl
 
   -- what a record says
-  not-past : c .total ≤ 16777216 → c .lines ≤ c .total → isPast c ≡ false
+  not-past : c .total ≤ 16777216 → c .lines ≤ c .total → isStrange (c .number) ≡ false → isPast c ≡ false
   unfolding isPast
-  not-past t l = rw (le-ltb 16777216 (c .total) t, le-ltb (c .total) (c .lines) l) refl
+  not-past t l n = rw (le-ltb 16777216 (c .total) t, le-ltb (c .total) (c .lines) l) n
 
   too-long : 16777216 < c .total → isPast c ≡ true
   unfolding isPast
@@ -173,7 +174,13 @@ module _ (c : Stream) where
 
   pub past-not : isPast c ≡ false → (c .total ≤ 16777216) × (c .lines ≤ c .total)
   unfolding isPast
-  past-not h = (ltb-false _ _ (or-left (ltb 16777216 (c .total)) (ltb (c .total) (c .lines)) h), ltb-false _ _ (or-right (ltb 16777216 (c .total)) (ltb (c .total) (c .lines)) h))
+  past-not h =
+      let k = or-left (ltb 16777216 (c .total) || ltb (c .total) (c .lines)) (isStrange (c .number)) h in
+      (ltb-false _ _ (or-left (ltb 16777216 (c .total)) (ltb (c .total) (c .lines)) k), ltb-false _ _ (or-right (ltb 16777216 (c .total)) (ltb (c .total) (c .lines)) k))
+
+  pub number-known : isPast c ≡ false → isStrange (c .number) ≡ false
+  unfolding isPast
+  number-known h = or-right (ltb 16777216 (c .total) || ltb (c .total) (c .lines)) (isStrange (c .number)) h
 
   pub seen-past : isPast c ≡ true → seen c ≡ past
   unfolding seen
@@ -192,14 +199,23 @@ module _ (c : Stream) where
   unfolding seen closed isPast openOf openLen
   seen-closed = refl
 
+-- the numbers that bursts give
+none-strange : isStrange 0 ≡ false
+unfolding isStrange
+none-strange = refl
+
+line-known : (n : ℕ) → LineNumber n → isStrange n ≡ false
+unfolding isStrange
+line-known n h = rw (ne-eqb n 1 (λ e. omega (arith, h .0)), le-ltb 15 n (h .1)) refl
+
 module _ (s : State) (n t : ℕ) (p : List ℕ) (h : ℕ) (limit : t ≤ 16777216) (few : n ≤ t) where
   made-going : (q : List ℕ) → h ≤ 82 → take h p ≡ q → Open q → seen (made s n 0 t p h) ≡ inLimit (going s n) q t
   made-going q m e o =
-      seen-going (made s n 0 t p h) (not-past (made s n 0 t p h) limit few) refl ∙
+      seen-going (made s n 0 t p h) (not-past (made s n 0 t p h) limit few none-strange) refl ∙
       ap (λ (x : List ℕ). inLimit (going s n) x t) (open-held (made s n 0 t p h) q m e o)
 
-  made-refused : (k : ℕ) → 0 < k → seen (made s n k t p h) ≡ inLimit (refused (reply k (n + 1))) [] t
-  made-refused k z = seen-refused (made s n k t p h) (not-past (made s n k t p h) limit few) z
+  made-refused : (k : ℕ) → LineNumber k → seen (made s n k t p h) ≡ inLimit (refused (reply k (n + 1))) [] t
+  made-refused k z = seen-refused (made s n k t p h) (not-past (made s n k t p h) limit few (line-known k z)) (omega (arith, z .0))
 
 -- a burst on a record that is neither past the limit nor refused: no LF comes, or the open line's end
 module _ (c : Stream) (b : List ℕ) (total : ℕ) (few : c .lines + length b ≤ total) (limit : total ≤ 16777216) (e : ℕ) (at : e ≡ lineLen b) (p : List ℕ) (h : ℕ) (m : h ≤ 82) (pushed : take h p ≡ pushAll (openOf c) (take e b)) where
@@ -221,7 +237,7 @@ module _ (c : Stream) (b : List ℕ) (total : ℕ) (few : c .lines + length b �
     pub burst-stops : (p′ : List ℕ) → 0 < r .number → seen (made (r .state) (r .lines) (r .number) total p′ 0) ≡ judgedOn (c .state) (c .lines) (openOf c ++ b) total
     burst-stops p′ z =
         let g : refused (reply (r .number) (r .lines + 1)) ≡ onOutcome (c .lines) (lineStep (c .state) (take h p)) = rw (ne-eqb (r .number) 0 (λ y. omega arith)) at (j .run) in
-        made-refused (r .state) (r .lines) total p′ 0 limit (omega (arith, j .few)) (r .number) z ∙
+        made-refused (r .state) (r .lines) total p′ 0 limit (omega (arith, j .few)) (r .number) (outcome-number (c .state) (c .lines) (take h p) _ g) ∙
         sym (judged-stops (c .state) (c .lines) (openOf c) b total (open-open c) (open-short c) (rw at at l) (reply (r .number) (r .lines + 1)) (rw (← at, ← pushed) g))
 
 -- the lines of a burst from a place on
@@ -229,7 +245,7 @@ module _ (s : State) (n : ℕ) (b : List ℕ) (at total : ℕ) (within : at ≤ 
   pub lines-refused : (p : List ℕ) → 0 < r .number → seen (made (r .state) (r .lines) (r .number) total p 0) ≡ judgedOn s n (drop at b) total
   unfolding judgedOn
   lines-refused p z =
-      made-refused (r .state) (r .lines) total p 0 limit (omega (arith, j .few)) (r .number) z ∙
+      made-refused (r .state) (r .lines) total p 0 limit (omega (arith, j .few)) (r .number) (judged-number s n b at r j z) ∙
       rw (← j .run, ne-eqb (r .number) 0 (λ e. omega arith)) refl
 
   pub lines-going : (p : List ℕ) (h : ℕ) → r .number ≤ 0 → h ≤ 82 → take h p ≡ squeezed (drop (r .at) b) → seen (made (r .state) (r .lines) 0 total p h) ≡ judgedOn s n (drop at b) total
@@ -333,17 +349,17 @@ module _ (c : Stream) (b : List ℕ) where
 
     module _ (l : total ≤ 16777216) where
       stays : isPast c ≡ false
-      stays = not-past c (omega (arith, t .within l .1)) (t .within l .0)
+      stays = t .within l .0
 
       few : c .lines ≤ total
-      few = omega (arith, t .within l .0, t .within l .1)
+      few = omega (arith, past-not c stays .1, t .within l .1)
 
       pub bounds : c .lines + length b ≤ total
-      bounds = omega (arith, t .within l .0, t .within l .1)
+      bounds = omega (arith, past-not c stays .1, t .within l .1)
 
       pub stepped-refused : (r : Stream) → 0 < c .number → r ≡ atTotal c total → Stepped c b r
       stepped-refused r z q =
-          let u = seen-refused (atTotal c total) (not-past (atTotal c total) l few) z in
+          let u = seen-refused (atTotal c total) (not-past (atTotal c total) l few (number-known c stays)) z in
           rw q (stepped (atTotal c total)
           (u ∙ rw (t .within l .1) (sym (step-refused c b stays (rw (t .within l .1) at l) z))) (λ p. not-past-limit _ _ _ (sym u ∙ p)) refl)
 
@@ -353,5 +369,5 @@ module _ (c : Stream) (b : List ℕ) where
 
 -- what a fresh record says
 pub fresh-says : (seen freshRecord ≡ inLimit (going start 0) [] 0) × (freshRecord .ended ≡ false)
-unfolding freshRecord seen isPast openOf openLen lineLen
+unfolding freshRecord seen isPast isStrange openOf openLen lineLen
 fresh-says = (refl, refl)

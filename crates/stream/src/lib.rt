@@ -7,7 +7,7 @@ ghost use lib.ListN.{length, take, drop};
 ghost use lib.Dec.{ltb};
 ghost use Rattle.laws.specs.Choice.{pick};
 ghost use Rattle.laws.specs.Cut.{lineLen};
-ghost use Rattle.stream.specs.Stream.{push, pushAll, isPast, openLen, openOf, seen, Stepped, answerOf, endReply, closed, freshRecord, OpenJudged, Running, atTotal, judgedOn};
+ghost use Rattle.stream.specs.Stream.{push, pushAll, isStrange, isPast, openLen, openOf, seen, Stepped, answerOf, endReply, closed, freshRecord, OpenJudged, Running, atTotal, judgedOn};
 use judge::Lines;
 use judge::Reply;
 use walk::Place;
@@ -26,10 +26,10 @@ pub struct Stream {
     pub ended: bool,
 }
 
-// What a burst answers: the number of finished lines so far, or document 01's number and place.
+// What a burst answers: the number of finished lines so far, or document 01's refusal.
 pub enum Answer {
     SoFar(usize),
-    Refused(u8, usize),
+    Refused(Reply),
 }
 
 // A record that starts a new file, all its numbers and bytes 0.
@@ -111,11 +111,18 @@ fn open_len(c: Stream) -> usize
     before_end(&line, n)
 }
 
-// Whether a record is past the limit, or has more lines than bytes.
+// Whether a refusal's number is neither 0 nor one that a line can have, 2 to 15.
+fn is_strange(number: u8) -> bool
+    ensures { λ r. ⌜ r ≡ isStrange number ⌝ }
+{
+    (number == 1) | (15 < number)
+}
+
+// Whether a record is past the limit, or is none that bursts give: with more lines than bytes, or with a strange number.
 fn is_past(c: Stream) -> bool
     ensures { λ r. ⌜ r ≡ isPast c ⌝ }
 {
-    (16777216 < c.total) | (c.total < c.lines)
+    (16777216 < c.total) | (c.total < c.lines) | is_strange(c.number)
 }
 
 // The running length with so many bytes more; past the limit, 16777217.
@@ -255,13 +262,25 @@ pub fn answer_of(c: Stream) -> Answer
     ensures { λ r. ⌜ r ≡ answerOf (c .ended) (seen c) ⌝ }
 {
     if c.ended {
-        return Answer::Refused(23, 0);
+        return Answer::Refused(Reply {
+            number: 23,
+            place: 0,
+            column: 0,
+        });
     }
     if is_past(c) {
-        return Answer::Refused(1, 0);
+        return Answer::Refused(Reply {
+            number: 1,
+            place: 0,
+            column: 0,
+        });
     }
     if 0 < c.number {
-        return Answer::Refused(c.number, c.lines + 1);
+        return Answer::Refused(Reply {
+            number: c.number,
+            place: c.lines + 1,
+            column: 0,
+        });
     }
     Answer::SoFar(c.lines)
 }
@@ -291,12 +310,14 @@ pub fn reply(c: Stream) -> Reply
         return Reply {
             number: 1,
             place: 0,
+            column: 0,
         };
     }
     if 0 < c.number {
         return Reply {
             number: c.number,
             place: c.lines + 1,
+            column: 0,
         };
     }
     let line = c.pending;

@@ -14,7 +14,7 @@ use Rattle.stream.specs.declared.Stream.{Stream}
 use Rattle.stream.specs.declared.Answer.{Answer}
 use Rattle.stream.specs.Stream.{seen, Stepped, answerOf, paper, closed, freshRecord}
 use Rattle.stream.specs.StreamLaws.{fresh-says}
-use Rattle.lent.specs.Lent.{isShort, streamOf, numbersOf, startNumbers, startLine, endOf, endNumbers, Untouched, Brought, Burst}
+use Rattle.lent.specs.Lent.{numbersRoom, lineRoom, unusedBytes, isShort, streamOf, numbersOf, startNumbers, startLine, endOf, endNumbers, Untouched, Brought, Burst}
 use Rattle.lent.specs.LentLaws.{room, read-again, fresh-fits, end-closes}
 use Rattle.streaming.specs.Streaming.{burstAnswer, joined, Bursts}
 use Rattle.streaming.specs.Streaming as S
@@ -55,7 +55,7 @@ calls-kept s e (more {ns = ns} {bs = bs} {ns₁ = ns₁} {bs₁ = bs₁} w p q k
 module _ (ns bs : List ℕ) (s : isShort ns bs ≡ false) where
   start-fresh : streamOf (startNumbers ns bs) (startLine ns bs) ≡ freshRecord
   unfolding startNumbers startLine
-  start-fresh = rw s (read-again freshRecord (drop 12 ns) (drop 82 bs) fresh-fits)
+  start-fresh = rw s (read-again freshRecord (drop numbersRoom ns) (unusedBytes ++ drop lineRoom bs) fresh-fits)
 
   start-long : isShort (startNumbers ns bs) (startLine ns bs) ≡ false
   unfolding startNumbers startLine numbersOf freshRecord

@@ -50,7 +50,7 @@ lengthOf (inLimit r q n) = n
 
 abbrev linesOf : Answer → ℕ
 linesOf (SoFar n) = n
-linesOf (Refused n p) = 0
+linesOf (Refused r) = 0
 
 -- each CR ends a burst, and its LF begins the next; the last burst has no bytes. A judge that takes a burst's end for a line's end refuses it.
 abbrev returns : List (List ℕ)
@@ -61,17 +61,17 @@ unfolding stepOf answerOf push pushAll over cut run allBlank isDigit I.push step
 returns-accepted = (refl, refl)
 
 -- a CR that ends a burst and has no LF after it is a byte not allowed. A judge that drops it at once accepts the line.
-pub return-alone : answers fresh ((bytes "    -" ++ (13 ∷ [])) ∷ (bytes "1" ++ (10 ∷ [])) ∷ []) ≡ SoFar 0 ∷ Refused 2 1 ∷ []
+pub return-alone : answers fresh ((bytes "    -" ++ (13 ∷ [])) ∷ (bytes "1" ++ (10 ∷ [])) ∷ []) ≡ SoFar 0 ∷ Refused (reply 2 1) ∷ []
 unfolding stepOf answerOf push pushAll over cut isAllowed withoutReturn columns firstBad lineFault lineStep
 return-alone = refl
 
 -- a line of 85 bytes, the 83rd of them not allowed. A judge that keeps only its first bytes answers 3.
-pub late-byte : answers fresh (replicate 82 32 ∷ (9 ∷ []) ∷ (32 ∷ 32 ∷ []) ∷ (10 ∷ []) ∷ []) ≡ SoFar 0 ∷ SoFar 0 ∷ SoFar 0 ∷ Refused 2 1 ∷ []
+pub late-byte : answers fresh (replicate 82 32 ∷ (9 ∷ []) ∷ (32 ∷ 32 ∷ []) ∷ (10 ∷ []) ∷ []) ≡ SoFar 0 ∷ SoFar 0 ∷ SoFar 0 ∷ Refused (reply 2 1) ∷ []
 unfolding stepOf answerOf push pushAll over cut isAllowed withoutReturn columns firstBad lineFault lineStep
 late-byte = refl
 
 -- 84 blanks, then CR LF: 3, since the CR belongs to the end
-pub late-return : answers fresh (replicate 84 32 ∷ (13 ∷ []) ∷ (10 ∷ []) ∷ []) ≡ SoFar 0 ∷ SoFar 0 ∷ Refused 3 1 ∷ []
+pub late-return : answers fresh (replicate 84 32 ∷ (13 ∷ []) ∷ (10 ∷ []) ∷ []) ≡ SoFar 0 ∷ SoFar 0 ∷ Refused (reply 3 1) ∷ []
 unfolding stepOf answerOf push pushAll over cut isAllowed withoutReturn columns firstBad lineFault lineStep
 late-return = refl
 

@@ -6,7 +6,7 @@ use lib.ListN.{length}
 use Rattle.laws.specs.Choice.{pick}
 use Rattle.laws.specs.Cut.{cut, over}
 use Rattle.walk.specs.Step.{start}
-use Rattle.judge.specs.Judge.{Run, going, refused, runStep, runEnd}
+use Rattle.judge.specs.Judge.{Run, going, refused, reply, runStep, runEnd}
 use Rattle.stream.specs.declared.Stream.{Stream}
 use Rattle.stream.specs.declared.Answer.{Answer}
 use Rattle.stream.specs.declared.Answer.the-variants.{SoFar, Refused}
@@ -23,11 +23,11 @@ after bytes = pick (ltb 16777216 (length bytes)) past (kept (finished bytes) (cu
 -- "the refusal of the earliest bad line whose LF has come, otherwise 'so far' with the number of finished lines"
 abbrev pub runAnswer : Run → Answer
 runAnswer (going s n) = SoFar n
-runAnswer (refused r) = Refused (r .number) (r .place)
+runAnswer (refused r) = Refused r
 
 -- "A burst's answer is 1 once the running length is past the limit, otherwise" that of the finished lines
 abbrev pub burstAnswer : List ℕ → Answer
-burstAnswer bytes = pick (ltb 16777216 (length bytes)) (Refused 1 0) (runAnswer (finished bytes))
+burstAnswer bytes = pick (ltb 16777216 (length bytes)) (Refused (reply 1 0)) (runAnswer (finished bytes))
 
 -- all bursts, one after the other
 unfoldable pub joined : List (List ℕ) → List ℕ

@@ -84,7 +84,7 @@ pub answer-after : (a : List ℕ) → answerOf false (after a) ≡ burstAnswer a
 unfolding answerOf after
 answer-after a = go (ltb 16777216 (length a))
   where
-    go : (t : Bool) → soFar (pick t past (kept (finished a) (cut a .rest) (length a))) ≡ pick t (Refused 1 0) (runAnswer (finished a))
+    go : (t : Bool) → soFar (pick t past (kept (finished a) (cut a .rest) (length a))) ≡ pick t (Refused (reply 1 0)) (runAnswer (finished a))
     go true = refl
     go false = soFar-kept (finished a) (cut a .rest) (length a)
 
@@ -113,7 +113,7 @@ pub lines-after : (a : List ℕ) (n : ℕ) → burstAnswer a ≡ SoFar n → n �
 unfolding finished
 lines-after a n h = go (ltb 16777216 (length a)) (finished a) h (over-counts (going start 0) (cut a .lines) 0 refl)
   where
-    go : (t : Bool) (r : Run) → pick t (Refused 1 0) (runAnswer r) ≡ SoFar n → Counts r (0 + length (cut a .lines)) → n ≡ length (cut a .lines)
+    go : (t : Bool) (r : Run) → pick t (Refused (reply 1 0)) (runAnswer r) ≡ SoFar n → Counts r (0 + length (cut a .lines)) → n ≡ length (cut a .lines)
     go true r h k = cc
     go false (going s m) h k = let e : m ≡ n = cc in omega arith
     go false (refused p) h k = cc
@@ -148,18 +148,18 @@ bursts-end none s = more s none
 bursts-end (more u k) s = more u (bursts-end k s)
 
 -- a run that is refused
-run-told : (x : Run) (n p : ℕ) → runAnswer x ≡ Refused n p → x ≡ refused (reply n p)
-run-told (going s m) n p h = cc
-run-told (refused r) n p h = let a : r .number ≡ n = cc in let b : r .place ≡ p = cc in rw (a, b) refl
+run-told : (x : Run) (f : Reply) → runAnswer x ≡ Refused f → x ≡ refused f
+run-told (going s m) f h = cc
+run-told (refused r) f h = let e : r ≡ f = cc in rw e refl
 
 -- A refusal that a burst has told is the whole file's, if that is not too long.
-pub told-stays : (a b : List ℕ) (n p : ℕ) → burstAnswer a ≡ Refused n p → length (a ++ b) ≤ 16777216 → judged (a ++ b) ≡ reply n p
+pub told-stays : (a b : List ℕ) (f : Reply) → burstAnswer a ≡ Refused f → length (a ++ b) ≤ 16777216 → judged (a ++ b) ≡ f
 unfolding judged judge finished
-told-stays a b n p h l =
+told-stays a b f h l =
     let m : length a ≤ 16777216 = omega (arith, length-append a b) in
-    let t : runAnswer (finished a) ≡ Refused n p = rw (le-ltb 16777216 (length a) m) at h in
-    let e : finished a ≡ refused (reply n p) = run-told (finished a) n p t in
-    rw (le-ltb 16777216 (length (a ++ b)) l, cut-append a b, over-append runStep (going start 0) (cut a .lines) (cut (cut a .rest ++ b) .lines), e, over-refused (reply n p) (cut (cut a .rest ++ b) .lines)) refl
+    let t : runAnswer (finished a) ≡ Refused f = rw (le-ltb 16777216 (length a) m) at h in
+    let e : finished a ≡ refused f = run-told (finished a) f t in
+    rw (le-ltb 16777216 (length (a ++ b)) l, cut-append a b, over-append runStep (going start 0) (cut a .lines) (cut (cut a .rest ++ b) .lines), e, over-refused f (cut (cut a .rest ++ b) .lines)) refl
 
 -- asking for the end again changes nothing
 pub closed-again : (r : Stream) → closed (closed r) ≡ closed r
@@ -167,7 +167,7 @@ unfolding closed
 closed-again r = refl
 
 -- 23, "a burst after the end was asked, first of all": the record stays as it is.
-pub after-end : {t : Stream} {b : List ℕ} (r : Stream) → Stepped (closed r) b t → (t ≡ closed r) × (answerOf (t .ended) (seen t) ≡ Refused 23 0)
+pub after-end : {t : Stream} {b : List ℕ} (r : Stream) → Stepped (closed r) b t → (t ≡ closed r) × (answerOf (t .ended) (seen t) ≡ Refused (reply 23 0))
 unfolding closed answerOf
 after-end r s = (s .untouched refl, rw (s .ended) refl)
 

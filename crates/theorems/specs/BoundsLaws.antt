@@ -7,25 +7,12 @@ use native.Mathlib.Nat.{add-zero}
 use native.Mathlib.Omega.{arith}
 use borrow.Author.Tests.{ltb-false}
 use lib.Dec.{ltb, eqb}
-use lib.ListN.{length, take, drop}
+use lib.ListN.{length}
 use Rattle.laws.specs.Choice.{pick}
 use Rattle.laws.specs.Cut as Cut
 use Rattle.laws.specs.Cut.{onto, cut, over, judge}
-use Rattle.text.specs.Blank.{allBlank}
-use Rattle.text.specs.Parts.{signed}
-use Rattle.integer.specs.declared.Integer.{Integer}
-use Rattle.integer.specs.declared.Integer.the-variants as I
-use Rattle.integer.specs.Integer.{integerOf}
-use Rattle.real.specs.declared.Real.{Real}
-use Rattle.real.specs.declared.Real.the-variants as R
-use Rattle.real.specs.Real.{realOf}
 use Rattle.line.specs.declared.Refusal.{Refusal}
 use Rattle.line.specs.Line.{refusal, passed, firstBad, lineFault}
-use Rattle.codes.specs.Rule.{Rule, keeps}
-use Rattle.codes.specs.Form.{Form, skip, text, identification, real, integer}
-use Rattle.field.specs.Field.{mayBlank, integerNumber, realNumber, fieldNumber}
-use Rattle.rows.specs.Row.{Field, Row, breach}
-use Rattle.record.specs.Check.{orElse, fieldsFault, stray, itemsOf, breachFault, conditionFault, strayFault, fieldsRefusal, rowRefusal}
 use Rattle.walk.specs.declared.Place.{Place}
 use Rattle.walk.specs.declared.Place.the-variants.{Outside, Number, Plain, Typed}
 use Rattle.walk.specs.declared.State.{State}
@@ -33,62 +20,8 @@ use Rattle.walk.specs.declared.Outcome.{Outcome}
 use Rattle.walk.specs.declared.Outcome.the-variants.{Next, Refused}
 use Rattle.walk.specs.Step.{start}
 use Rattle.judge.specs.declared.Reply.{Reply}
-use Rattle.judge.specs.RefusalLaws.{refusal-is}
+use Rattle.judge.specs.RefusalLaws.{line-number}
 use Rattle.judge.specs.Judge.{judged, reply, lineStep, Run, going, refused, onOutcome, runStep, atEnd, runEnd}
-
--- a field's number
-test-most : (t : Bool) (a b : ℕ) → a ≤ 12 → b ≤ 12 → pick t a b ≤ 12
-test-most true a b p q = p
-test-most false a b p q = q
-
-integer-most : (r : Rule) (may : Bool) (i : Integer) → integerNumber r may i ≤ 12
-integer-most r may I.Blank = test-most may 0 10 (omega arith) (omega arith)
-integer-most r may I.Malformed = omega arith
-integer-most r may I.OutOfRange = omega arith
-integer-most r may (I.Value n v) = test-most (keeps r (signed n v)) 0 11 (omega arith) (omega arith)
-
-real-most : (x : Real) → realNumber x ≤ 12
-real-most R.Blank = omega arith
-real-most R.Malformed = omega arith
-real-most (R.Value v) = omega arith
-
-field-most : (f : Form) (may : Bool) (cols : List ℕ) → fieldNumber f may cols ≤ 12
-unfolding fieldNumber
-field-most skip may cols = omega arith
-field-most text may cols = omega arith
-field-most identification may cols = test-most (allBlank cols) 9 0 (omega arith) (omega arith)
-field-most real may cols = real-most (realOf cols)
-field-most (integer r o) may cols = integer-most r may (integerOf cols)
-
--- a line's number by its row
-orElse-most : (m n c : ℕ) (f : Refusal) → n ≤ m → f .number ≤ m → orElse n c f .number ≤ m
-orElse-most m zero c f p q = q
-orElse-most m (suc n) c f p q = p
-
-fields-most : (fs : List Field) (at : ℕ) (line : List ℕ) → fieldsFault fs at line .number ≤ 14
-unfolding fieldsFault
-fields-most [] at line = omega arith
-fields-most (f ∷ fs) at line =
-    orElse-most 14 (fieldNumber (f .form) (mayBlank (f .form) line) (take (f .width) (drop at line))) (at + 1) (fieldsFault fs (at + f .width) line)
-    (omega (arith, field-most (f .form) (mayBlank (f .form) line) (take (f .width) (drop at line)))) (fields-most fs (at + f .width) line)
-
-stray-most : (c : ℕ) → strayFault c .number ≤ 14
-stray-most zero = omega arith
-stray-most (suc c) = omega arith
-
-breach-most : (fs : List Field) (k : ℕ) → breachFault fs k .number ≤ 14
-breach-most fs zero = omega arith
-breach-most fs (suc k) = omega arith
-
-row-most : (r : Row) (line : List ℕ) → rowRefusal r line .number ≤ 14
-unfolding rowRefusal fieldsRefusal conditionFault
-row-most r line =
-    let f : Refusal = fieldsFault (r .fields) 0 line in
-    let s : Refusal = strayFault (stray (r .fields) 0 line) in
-    let g : Refusal = orElse (f .number) (f .column) s in
-    orElse-most 14 (g .number) (g .column) (breachFault (r .fields) (breach (r .condition) (itemsOf (r .fields) 0 line)))
-    (orElse-most 14 (f .number) (f .column) s (fields-most (r .fields) 0 line) (stray-most (stray (r .fields) 0 line)))
-    (breach-most (r .fields) (breach (r .condition) (itemsOf (r .fields) 0 line)))
 
 -- a line's own number
 fault-most : (ended : Bool) (cs : List ℕ) → lineFault ended cs .number ≤ 4
@@ -103,8 +36,7 @@ fault-most ended cs = go (ltb 0 (firstBad 1 cs)) (ltb 80 (length cs)) ended
 
 -- the refusals of lines are below 16, so "so far", 127, is none of them
 pub refusal-few : (s : State) (l : List ℕ) (f : Refusal) → lineStep s l ≡ Refused f → f .number ≤ 15
-refusal-few =
-    refusal-is (λ (f : Refusal). f .number ≤ 15) (λ n p q. q) (λ r line p. omega (arith, row-most r line)) (λ cs p. omega (arith, fault-most true cs))
+refusal-few s l f e = line-number s l f e .1
 
 -- a run of lines, after n of them
 abbrev Bounded : ℕ → Run → Type 0

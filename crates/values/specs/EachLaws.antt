@@ -112,12 +112,12 @@ module _ (g : ℕ → Real) (c count : ℕ) where
   all-each n xs e =
       ⊎-elim
       (λ (l : 0 < refusalIn (all g c count)).
-      let z : refusalIn (all g c count) ≡ 0 = ap (λ (s : Said Float). s .number) (sym (whole-refused g 0 (count * numbersOf c) (count * numbersOf c) [] l) ∙ e) in
+      let z : refusalIn (all g c count) ≡ 0 = ap (λ (s : Said Float). s .reply .number) (sym (whole-refused g 0 (count * numbersOf c) (count * numbersOf c) [] l) ∙ e) in
       absurd (omega arith))
       (λ (l : refusalIn (all g c count) ≤ 0).
       let z : said 0 (count * numbersOf c) (floatsIn (all g c count)) ≡ said 0 n xs = sym (whole-shown g 0 (count * numbersOf c) (count * numbersOf c) [] l) ∙ e in
       let x : floatsIn (all g c count) ≡ xs = ap (λ (s : Said Float). s .shown) z in
-      let m : count * numbersOf c ≡ n = ap (λ (s : Said Float). s .place) z in
+      let m : count * numbersOf c ≡ n = ap (λ (s : Said Float). s .reply .place) z in
       record {
         counted = sym m;
         long = ap length (sym x) ∙ shown-length g 0 (count * numbersOf c) l ∙ m;
@@ -133,6 +133,6 @@ module _ (g : ℕ → Real) (c count : ℕ) where
       let w = value-refused g c count l in
       (w .0, (w .1 .0, w .1 .1 ∙ z)))
       (λ (l : refusalIn (all g c count) ≤ 0).
-      let z : 0 ≡ m = ap (λ (s : Said Float). s .number) (sym (whole-shown g 0 (count * numbersOf c) (count * numbersOf c) [] l) ∙ e) in
+      let z : 0 ≡ m = ap (λ (s : Said Float). s .reply .number) (sym (whole-shown g 0 (count * numbersOf c) (count * numbersOf c) [] l) ∙ e) in
       absurd (omega arith))
       (below-or-not 0 (refusalIn (all g c count)))

@@ -27,8 +27,8 @@ allValues file set = judgedFirst (judged file) (allFrom file (setsFrom file set)
 -- the reply where so many places are lent: the refusal; 20, "output too short"; otherwise the number of f64
 abbrev pub replyIn : Said Float → ℕ → Reply
 replyIn s places =
-    pick (ltb 0 (s .number)) (reply (s .number) (s .place))
-    (pick (ltb places (length (s .shown))) (reply 20 0) (reply 0 (s .place)))
+    pick (ltb 0 (s .reply .number)) (s .reply)
+    (pick (ltb places (length (s .shown))) (reply 20 0) (reply 0 (s .reply .place)))
 
 unfoldable pub allReply : List ℕ → ℕ → ℕ → Reply
 allReply file set places = replyIn (allValues file set) places

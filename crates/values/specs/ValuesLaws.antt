@@ -17,7 +17,7 @@ use Rattle.parts.specs.Function.{caseOf, countOf, storedOf}
 use Rattle.judge.specs.declared.Reply.{Reply}
 use Rattle.judge.specs.Judge.{judged, reply}
 use Rattle.reader.specs.declared.Data.{Data}
-use Rattle.reader.specs.Reader.{Said, said, refused, setsFrom, realIn, reads, whole, valuesIn}
+use Rattle.reader.specs.Reader.{Said, said, refused, refusedBy, setsFrom, realIn, reads, whole, valuesIn}
 use Rattle.reader.specs.Find.{nothing, dataOf, realAt}
 use Rattle.reader.specs.FindLaws.{stands}
 use Rattle.reader.specs.ReaderLaws.{values-none, reads-same, own, real-own}
@@ -43,15 +43,15 @@ by-sets file set [] e = refl
 by-sets file set (p ∷ ps) e = by-part file p ps (stands file set p ps e) (isFunction p && ltb (caseOf p) 8) refl
 
 -- a refusal leaves the places
-refused-reply : (s : Said Float) (n p : ℕ) (out : List ℕ) → s ≡ refused n p → 0 < n → (reply n p ≡ replyIn s (length out)) × (out ≡ placesIn s out)
-refused-reply s n p out e h =
-    (rw (e, lt-ltb 0 n h) refl, rw (e, lt-ltb 0 n h, ne-eqb n 0 (λ z. omega arith)) refl)
+refused-reply : (s : Said Float) (r : Reply) (out : List ℕ) → s ≡ refusedBy r → 0 < r .number → (r ≡ replyIn s (length out)) × (out ≡ placesIn s out)
+refused-reply s r out e h =
+    (rw (e, lt-ltb 0 (r .number) h) refl, rw (e, lt-ltb 0 (r .number) h, ne-eqb (r .number) 0 (λ z. omega arith)) refl)
 
 -- the call's replies, and the places after each
 module _ (file : List ℕ) (set : ℕ) (out : List ℕ) (r : Reply) (f : r ≡ judged file) where
   pub refused-first : 0 < r .number → (r ≡ allReply file set (length out)) × (out ≡ allPlaces file set out)
   unfolding allReply allPlaces allValues
-  refused-first h = refused-reply (allValues file set) (r .number) (r .place) out (rw (← f, lt-ltb 0 (r .number) h) refl) h
+  refused-first h = refused-reply (allValues file set) r out (rw (← f, lt-ltb 0 (r .number) h) refl) h
 
   module _ (z : r .number ≤ 0) (d : Data) (q : d ≡ dataOf (setsFrom file set)) where
     by-data : allValues file set ≡ allBy file d
@@ -60,7 +60,7 @@ module _ (file : List ℕ) (set : ℕ) (out : List ℕ) (r : Reply) (f : r ≡ j
 
     pub none-there : d .count ≡ 0 → (reply 18 0 ≡ allReply file set (length out)) × (out ≡ allPlaces file set out)
     unfolding allReply allPlaces allBy
-    none-there e = refused-reply (allValues file set) 18 0 out (by-data ∙ rw e refl) (omega arith)
+    none-there e = refused-reply (allValues file set) (reply 18 0) out (by-data ∙ rw e refl) (omega arith)
 
     module _ (some : d .count ≡ 0 → ⊥) (count k m : ℕ) (many : count ≡ d .count * k) (numbers : k ≡ numbersOf (d .case)) (first : m ≡ refusalIn (reads (realAt file d) 0 count)) where
       by-numbers : allValues file set ≡ whole count [] (reads (realAt file d) 0 count)
@@ -69,7 +69,7 @@ module _ (file : List ℕ) (set : ℕ) (out : List ℕ) (r : Reply) (f : r ≡ j
 
       pub one-refused : 0 < m → (reply m 0 ≡ allReply file set (length out)) × (out ≡ allPlaces file set out)
       unfolding allReply allPlaces
-      one-refused h = refused-reply (allValues file set) m 0 out (by-numbers ∙ whole-refused (realAt file d) 0 count count [] (rw first at h) ∙ rw (← first) refl) h
+      one-refused h = refused-reply (allValues file set) (reply m 0) out (by-numbers ∙ whole-refused (realAt file d) 0 count count [] (rw first at h) ∙ rw (← first) refl) h
 
       module _ (h : m ≤ 0) where
         shows : allValues file set ≡ said 0 count (floatsIn (reads (realAt file d) 0 count))

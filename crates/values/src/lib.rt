@@ -138,22 +138,29 @@ pub fn values(file: &[u8], set: u32, out: &mut [u64]) -> Reply
         return Reply {
             number: 18,
             place: 0,
+            column: 0,
         };
     }
     let stored = (d.count as usize) * layout::numbers_of(d.case);
     let number = first_refusal(file, d, stored);
     if 0 < number {
-        return Reply { number, place: 0 };
+        return Reply {
+            number,
+            place: 0,
+            column: 0,
+        };
     }
     if out.len() < stored {
         return Reply {
             number: 20,
             place: 0,
+            column: 0,
         };
     }
     fill(file, d, stored, out);
     Reply {
         number: 0,
         place: stored,
+        column: 0,
     }
 }

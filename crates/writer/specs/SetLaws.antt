@@ -15,7 +15,7 @@ use Rattle.parts.specs.PartsLaws.{lines-past}
 use Rattle.judge.specs.declared.Reply.{Reply}
 use Rattle.judge.specs.Judge.{reply}
 use Rattle.header.specs.declared.Header.{Header}
-use Rattle.header.specs.Header.{headerOf}
+use Rattle.header.specs.Header.{headerOf, replyOf}
 use Rattle.rewriter.specs.Rewriter.{headText, linesText, delimiterLine, setText}
 use Rattle.output.specs.Output.{Put, placed}
 use Rattle.output.specs.OutputLaws.{put-start, put-done, put-room, put-next}
@@ -139,9 +139,9 @@ module _ (header : List ℕ) (xs ss : List ℤ) (out : List ℕ) where
   -- the replies in their order, and the buffer after each
   module _ (h : Header) (q : h ≡ headerOf header) where
     pub header-both : 0 < h .number
-        → (reply (h .number) (h .place) ≡ writeReply header xs ss (length out)) × (out ≡ writeOut header xs ss out)
+        → (replyOf h ≡ writeReply header xs ss (length out)) × (out ≡ writeOut header xs ss out)
     unfolding writeReply
-    header-both g = refused (reply (h .number) (h .place)) (rw (← q, lt-ltb 0 (h .number) g) refl) g
+    header-both g = refused (replyOf h) (rw (← q, lt-ltb 0 (h .number) g) refl) g
 
     module _ (g : h .number ≤ 0) where
       passes : laidReply header (h .case) (h .stored) xs ss (length out) ≡ writeReply header xs ss (length out)

@@ -171,12 +171,14 @@ pub fn write(header: &[u8], coefficients: &[i64], scales: &[i16], out: &mut [u8]
         return Reply {
             number: found.number,
             place: found.place,
+            column: found.column,
         };
     }
     if coefficients.len() != found.stored || scales.len() != found.stored {
         return Reply {
             number: 22,
             place: 0,
+            column: 0,
         };
     }
     let at = first_unfit(found.case, coefficients, scales);
@@ -184,17 +186,20 @@ pub fn write(header: &[u8], coefficients: &[i64], scales: &[i16], out: &mut [u8]
         return Reply {
             number: 19,
             place: at,
+            column: 0,
         };
     }
     if !set_fits(header, found.case, coefficients.len(), out.len()) {
         return Reply {
             number: 20,
             place: 0,
+            column: 0,
         };
     }
     let n = put_set(out, header, found.case, coefficients, scales);
     Reply {
         number: 0,
         place: n,
+        column: 0,
     }
 }

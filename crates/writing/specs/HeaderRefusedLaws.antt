@@ -21,7 +21,7 @@ use Rattle.walk.specs.declared.Outcome.the-variants.{Next, Refused}
 use Rattle.walk.specs.Due.{opening, after}
 use Rattle.walk.specs.Step.{state, start}
 use Rattle.judge.specs.declared.Reply.{Reply}
-use Rattle.judge.specs.Judge.{judged, reply, lineStep, Run, going, onOutcome, runStep, runEnd}
+use Rattle.judge.specs.Judge.{judged, reply, replyAt, lineStep, Run, going, onOutcome, runStep, runEnd}
 use Rattle.header.specs.declared.Header.{Header}
 use Rattle.header.specs.Header.{answer, opened, headerStep, headerOf}
 use Rattle.judge.specs.JudgeLaws as Judge
@@ -42,7 +42,7 @@ filed d n ls rest = runEnd (over runStep (going (state (Typed d) 1) (n + 2)) ls)
 record Halted (n : ℕ) (ls : List (List ℕ)) (h : Header) (r : Reply) : Type 0 where
   above : n < h .place
   below : h .place ≤ 12
-  alike : (length ls + n ≤ 11) ⊎ (h .place ≤ 11) → r ≡ reply (h .number) (h .place + 2)
+  alike : (length ls + n ≤ 11) ⊎ (h .place ≤ 11) → r ≡ replyAt (h .number) (h .place + 2) (h .column)
   past : 11 < length ls + n → 11 < h .place → h .number ≡ twelfthNumber (getD ls (11 - n) [])
 
 abbrev Halts : Due → ℕ → List (List ℕ) → List ℕ → Type 0
@@ -137,12 +137,12 @@ module _ (header : List ℕ) (h : 0 < headerOf header .number) where
 
   -- "judged as lines 1 to 11 of a set": at most eleven lines are refused as the file is that they open, two lines further down there
   pub refused-judged : length (cut header .lines) ≤ 11 → length (headText 58 ++ header) ≤ 16777216
-      → judged (headText 58 ++ header) ≡ reply (headerOf header .number) (headerOf header .place + 2)
+      → judged (headText 58 ++ header) ≡ replyAt (headerOf header .number) (headerOf header .place + 2) (headerOf header .column)
   refused-judged l b = file-run b ∙ whole .alike (inl (omega arith))
 
   -- so is a longer header that is refused at one of its first eleven lines
   pub early-judged : headerOf header .place ≤ 11 → length (headText 58 ++ header) ≤ 16777216
-      → judged (headText 58 ++ header) ≡ reply (headerOf header .number) (headerOf header .place + 2)
+      → judged (headText 58 ++ header) ≡ replyAt (headerOf header .number) (headerOf header .place + 2) (headerOf header .column)
   early-judged p b = file-run b ∙ whole .alike (inr p)
 
   -- one refused past them is refused for its twelfth line

@@ -12,7 +12,7 @@ use Rattle.laws.specs.Choice.{pick}
 use Rattle.laws.specs.ChoiceLaws.{and-left, and-right}
 use Rattle.judge.specs.declared.Reply.{Reply}
 use Rattle.judge.specs.Judge.{reply}
-use Rattle.header.specs.Header.{headerOf}
+use Rattle.header.specs.Header.{headerOf, replyOf}
 use Rattle.writer.specs.Writer.{fitsAt, firstUnfit, writtenSet, laidReply, writeReply}
 use Rattle.writing.specs.DataRun.{AllFit}
 use Rattle.writing.specs.Reply.{Coefficients, Answered, more}
@@ -43,7 +43,7 @@ module _ (header : List ℕ) (xs ss : List ℤ) (room : ℕ) where
   -- the tests of the reply, in order
   abbrev tests : Bool → Bool → Bool → Bool → Reply
   tests bad same unfit long =
-      pick bad (reply (headerOf header .number) (headerOf header .place))
+      pick bad (replyOf (headerOf header))
       (pick same (pick unfit (reply 19 (firstUnfit c 0 xs ss)) (pick long (reply 20 0) (reply 0 (length text)))) (reply 22 0))
 
   by-tests : (bad same unfit long : Bool) → ltb 0 (headerOf header .number) ≡ bad → eqb (length xs) n && eqb (length ss) n ≡ same

@@ -7,12 +7,12 @@ use borrow.Author.Needs.{needs}
 use Rattle.host.proofs.answer_one.Statement.{statement}
 use Rattle.host.proofs.answer_one.Tie as tie
 
-pack-requires : tie.Need-pack-requires
-pack-requires c κs = search needs
+bare-requires : tie.Need-bare-requires
+bare-requires c κs = search needs
 
 returns : tie.Need-returns
 unfolding valueBytes bytesOf
-returns c = answered-short _ _ _ (omega arith) (c .pack .ensures)
+returns c = answered-short _ _ _ (omega arith) (c .bare .ensures)
 
 bits-requires : tie.Need-bits-requires
 bits-requires c κs = search needs
@@ -20,8 +20,8 @@ bits-requires c κs = search needs
 put-bytes-requires : tie.Need-put-bytes-requires
 put-bytes-requires c κs = search needs
 
-pack-requires-2 : tie.Need-pack-requires-2
-pack-requires-2 c κs = search needs
+bare-requires-2 : tie.Need-bare-requires-2
+bare-requires-2 c κs = search needs
 
 same-length : tie.Need-same-length
 same-length c = search needs
@@ -30,16 +30,16 @@ returns-2 : tie.Need-returns-2
 unfolding valueBytes bytesOf
 returns-2 c =
     let at-bits = c .before .before .before .before in
-    answered _ _ _ _ (omega arith) (c .pack2 .ensures) (laid-one _ _ _ _ (at-bits .bits .ensures) (c .before .before .before .put-bytes .ensures))
+    answered _ _ _ _ (omega arith) (c .bare2 .ensures) (laid-one _ _ _ _ (at-bits .bits .ensures) (c .before .before .before .put-bytes .ensures))
 
 pub answer-one-spec : {M : Type 1} → statement M
 answer-one-spec =
     tie.close
     (tie.spec
-    pack-requires
+    bare-requires
     returns
     bits-requires
     put-bytes-requires
-    pack-requires-2
+    bare-requires-2
     same-length
     returns-2)

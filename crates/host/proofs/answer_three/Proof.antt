@@ -7,12 +7,12 @@ use borrow.Author.Needs.{needs}
 use Rattle.host.proofs.answer_three.Statement.{statement}
 use Rattle.host.proofs.answer_three.Tie as tie
 
-pack-requires : tie.Need-pack-requires
-pack-requires c κs = search needs
+bare-requires : tie.Need-bare-requires
+bare-requires c κs = search needs
 
 returns : tie.Need-returns
 unfolding valueBytes bytesOf
-returns c = answered-short _ _ _ (omega arith) (c .pack .ensures)
+returns c = answered-short _ _ _ (omega arith) (c .bare .ensures)
 
 bits-requires : tie.Need-bits-requires
 bits-requires c κs = search needs
@@ -32,8 +32,8 @@ bits-requires-3 c κs = search needs
 put-bytes-requires-3 : tie.Need-put-bytes-requires-3
 put-bytes-requires-3 c κs = search needs
 
-pack-requires-2 : tie.Need-pack-requires-2
-pack-requires-2 c κs = search needs
+bare-requires-2 : tie.Need-bare-requires-2
+bare-requires-2 c κs = search needs
 
 same-length : tie.Need-same-length
 same-length c = search needs
@@ -46,13 +46,13 @@ returns-2 c =
     let at-bits2 = at-put-bytes2 .before in
     let at-put-bytes = at-bits2 .before .before .before .before in
     let at-bits = at-put-bytes .before in
-    answered _ _ _ _ (omega arith) (c .pack2 .ensures) (laid-three _ _ _ _ (at-bits .bits .ensures) (at-put-bytes .put-bytes .ensures) _ _ _ (at-bits2 .bits2 .ensures) (at-put-bytes2 .put-bytes2 .ensures) _ _ _ (at-bits3 .bits3 .ensures) (c .before .before .before .put-bytes3 .ensures))
+    answered _ _ _ _ (omega arith) (c .bare2 .ensures) (laid-three _ _ _ _ (at-bits .bits .ensures) (at-put-bytes .put-bytes .ensures) _ _ _ (at-bits2 .bits2 .ensures) (at-put-bytes2 .put-bytes2 .ensures) _ _ _ (at-bits3 .bits3 .ensures) (c .before .before .before .put-bytes3 .ensures))
 
 pub answer-three-spec : {M : Type 1} → statement M
 answer-three-spec =
     tie.close
     (tie.spec
-    pack-requires
+    bare-requires
     returns
     bits-requires
     put-bytes-requires
@@ -60,6 +60,6 @@ answer-three-spec =
     put-bytes-requires-2
     bits-requires-3
     put-bytes-requires-3
-    pack-requires-2
+    bare-requires-2
     same-length
     returns-2)

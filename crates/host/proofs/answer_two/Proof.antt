@@ -7,12 +7,12 @@ use borrow.Author.Needs.{needs}
 use Rattle.host.proofs.answer_two.Statement.{statement}
 use Rattle.host.proofs.answer_two.Tie as tie
 
-pack-requires : tie.Need-pack-requires
-pack-requires c κs = search needs
+bare-requires : tie.Need-bare-requires
+bare-requires c κs = search needs
 
 returns : tie.Need-returns
 unfolding valueBytes bytesOf
-returns c = answered-short _ _ _ (omega arith) (c .pack .ensures)
+returns c = answered-short _ _ _ (omega arith) (c .bare .ensures)
 
 bits-requires : tie.Need-bits-requires
 bits-requires c κs = search needs
@@ -26,8 +26,8 @@ bits-requires-2 c κs = search needs
 put-bytes-requires-2 : tie.Need-put-bytes-requires-2
 put-bytes-requires-2 c κs = search needs
 
-pack-requires-2 : tie.Need-pack-requires-2
-pack-requires-2 c κs = search needs
+bare-requires-2 : tie.Need-bare-requires-2
+bare-requires-2 c κs = search needs
 
 same-length : tie.Need-same-length
 same-length c = search needs
@@ -38,18 +38,18 @@ returns-2 c =
     let at-bits2 = c .before .before .before .before in
     let at-put-bytes = at-bits2 .before .before .before .before in
     let at-bits = at-put-bytes .before in
-    answered _ _ _ _ (omega arith) (c .pack2 .ensures) (laid-two _ _ _ _ (at-bits .bits .ensures) (at-put-bytes .put-bytes .ensures) _ _ _ (at-bits2 .bits2 .ensures) (c .before .before .before .put-bytes2 .ensures))
+    answered _ _ _ _ (omega arith) (c .bare2 .ensures) (laid-two _ _ _ _ (at-bits .bits .ensures) (at-put-bytes .put-bytes .ensures) _ _ _ (at-bits2 .bits2 .ensures) (c .before .before .before .put-bytes2 .ensures))
 
 pub answer-two-spec : {M : Type 1} → statement M
 answer-two-spec =
     tie.close
     (tie.spec
-    pack-requires
+    bare-requires
     returns
     bits-requires
     put-bytes-requires
     bits-requires-2
     put-bytes-requires-2
-    pack-requires-2
+    bare-requires-2
     same-length
     returns-2)

@@ -1,5 +1,7 @@
 -- `lent::put_record` meets its contract.
+use mathlib.Core.Path.{refl}
 use Rattle.lent.specs.LentLaws.{laid-record}
+use native.Mathlib.Omega.{arith}
 use borrow.Author.Needs.{needs}
 use Rattle.lent.proofs.put_record.Statement.{statement}
 use Rattle.lent.proofs.put_record.Tie as tie
@@ -28,6 +30,18 @@ part-put-six-end c = search needs
 put-six-requires : tie.Need-put-six-requires
 put-six-requires c κs = search needs
 
+sub-put-unused : tie.Need-sub-put-unused
+sub-put-unused c = search needs
+
+part-put-unused-start : tie.Need-part-put-unused-start
+part-put-unused-start c = search needs
+
+part-put-unused-end : tie.Need-part-put-unused-end
+part-put-unused-end c = search needs
+
+put-unused-requires : tie.Need-put-unused-requires
+put-unused-requires c κs = search needs
+
 put-line-requires : tie.Need-put-line-requires
 put-line-requires c κs = search needs
 
@@ -40,11 +54,14 @@ same-length-2 c = search needs
 returns : tie.Need-returns
 returns c =
     let at-put-line = c .before .before in
-    let at-put-six = at-put-line .before .before .before .before .before in
+    let at-put-unused = at-put-line .before .before .before .before .before in
+    let at-put-six = at-put-unused .before .before .before .before in
     let at-put-place = at-put-six .before .before .before .before in
     let at-flag = at-put-place .before .before .before in
     let at-start = at-flag .before .before .before .before .before .before in
-    (laid-record (at-start .args .c) (at-start .args .numbers .now) _ _ _ (at-put-place .put-place .ensures) (at-put-six .put-six .ensures) (at-flag .flag .ensures), at-put-line .put-line .ensures .0, record { sets = search needs; number = search needs; pending = at-put-line .put-line .ensures .1 })
+    let fits = at-flag .before .struct-known2 .given in
+    let numbers = laid-record (at-start .args .c) (at-start .args .numbers .now) _ _ _ (at-put-place .put-place .ensures) (at-put-six .put-six .ensures) (at-flag .flag .ensures) _ _ refl (at-put-unused .put-unused .ensures) in
+    (numbers, at-put-line .put-line .ensures .0, record { sets = omega (arith, fits); number = omega (arith, fits); pending = at-put-line .put-line .ensures .1 })
 
 pub put-record-spec : {M : Type 1} → statement M
 put-record-spec =
@@ -58,6 +75,10 @@ put-record-spec =
     part-put-six-start
     part-put-six-end
     put-six-requires
+    sub-put-unused
+    part-put-unused-start
+    part-put-unused-end
+    put-unused-requires
     put-line-requires
     same-length
     same-length-2

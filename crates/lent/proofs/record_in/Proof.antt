@@ -18,23 +18,23 @@ shared-slice-read-sets c = search needs
 cast-sets : tie.Need-cast-sets
 cast-sets c = search needs
 
-shared-slice-read-number : tie.Need-shared-slice-read-number
-shared-slice-read-number c = search needs
+shared-slice-read-byte-of : tie.Need-shared-slice-read-byte-of
+shared-slice-read-byte-of c = search needs
 
-cast-number : tie.Need-cast-number
-cast-number c = search needs
+byte-of-requires : tie.Need-byte-of-requires
+byte-of-requires c κs = search needs
 
 slice-aggregate-put-text : tie.Need-slice-aggregate-put-text
 slice-aggregate-put-text c = search needs
 
 slice-aggregate-put-text-2 : tie.Need-slice-aggregate-put-text-2
 slice-aggregate-put-text-2 c =
-    let at-pre = c .before .before .before .before .before .before .before in
+    let at-pre = c .before .before .before .before .before .before .before .before in
     sym (length-take-le 82 (at-pre .args .line .now) (search needs))
 
 put-text-requires : tie.Need-put-text-requires
 put-text-requires c κs =
-    let at-pre = c .before .before .before .before .before .before .before in
+    let at-pre = c .before .before .before .before .before .before .before .before in
     omega (arith, length-take-le 82 (at-pre .args .line .now) (search needs))
 
 shared-slice-read-t8 : tie.Need-shared-slice-read-t8
@@ -53,10 +53,11 @@ returns : tie.Need-returns
 unfolding streamOf
 returns c =
     let at-put-text = c .before .before .before .before .before in
-    let at-place-in = at-put-text .before .before .before .before .before in
+    let at-byte-of = at-put-text .before .before .before in
+    let at-place-in = at-byte-of .before .before .before in
     let at-pre = at-place-in .before .before .before in
     let room : length (take 82 (at-pre .args .line .now)) ≡ 82 = length-take-le 82 (at-pre .args .line .now) (search needs) in
-    rw (at-place-in .place-in .ensures, at-put-text .put-text .ensures .1, placed-whole _ _ room) refl
+    rw (at-place-in .place-in .ensures, at-byte-of .byte-of .ensures, at-put-text .put-text .ensures .1, placed-whole _ _ room) refl
 
 pub record-in-spec : {M : Type 1} → statement M
 record-in-spec =
@@ -65,13 +66,13 @@ record-in-spec =
     place-in-requires
     shared-slice-read-sets
     cast-sets
-    shared-slice-read-number
-    cast-number
+    shared-slice-read-byte-of
+    byte-of-requires
     slice-aggregate-put-text
     slice-aggregate-put-text-2
     put-text-requires
-    shared-slice-read-t8
     shared-slice-read-t9
+    shared-slice-read-t8
     shared-slice-read-t22
     shared-slice-read-t25
     returns)

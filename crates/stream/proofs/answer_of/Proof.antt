@@ -18,8 +18,8 @@ returns-2 : tie.Need-returns-2
 unfolding answerOf
 returns-2 c = rw (seen-past (c .before .before .before .args .c) (sym (c .before .is-past .ensures) ∙ c .if2 .taken), c .before .before .if1 .left) refl
 
-add-t4 : tie.Need-add-t4
-add-t4 c =
+add-t6 : tie.Need-add-t6
+add-t6 c =
     let at-is-past = c .before .before .before .before in
     let at-start = at-is-past .before .before in
     omega (arith, past-not (at-start .args .c) (sym (at-is-past .is-past .ensures) ∙ c .before .before .before .if2 .left))
@@ -40,4 +40,4 @@ returns-4 c =
     rw (seen-going (at-start .args .c) (sym (c .before .before .before .is-past .ensures) ∙ c .before .before .if2 .left) (omega arith), at-if1 .if1 .left) refl
 
 pub answer-of-spec : {M : Type 1} → statement M
-answer-of-spec = tie.close (tie.spec returns is-past-requires returns-2 add-t4 returns-3 returns-4)
+answer-of-spec = tie.close (tie.spec returns is-past-requires returns-2 add-t6 returns-3 returns-4)

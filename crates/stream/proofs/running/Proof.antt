@@ -26,7 +26,8 @@ returns-3 : tie.Need-returns-3
 returns-3 c =
     let at-if1 = c .before .before .before in
     let at-is-past = at-if1 .before in
-    record { within = λ h. (past-not _ (sym (at-is-past .is-past .ensures) ∙ at-if1 .if1 .left) .1, refl); beyond = λ h. inr h; stops = λ h. absurd (omega (arith, h, c .before .if2 .left, past-not _ (sym (at-is-past .is-past .ensures) ∙ at-if1 .if1 .left) .0)) }
+    let inside = sym (at-is-past .is-past .ensures) ∙ at-if1 .if1 .left in
+    record { within = λ h. (inside, refl); beyond = λ h. inr h; stops = λ h. absurd (omega (arith, h, c .before .if2 .left, past-not _ inside .0)) }
 
 pub running-spec : {M : Type 1} → statement M
 running-spec = tie.close (tie.spec is-past-requires returns sub-if2 returns-2 add-result returns-3)

@@ -1,4 +1,7 @@
-//! Plain files built to measure: for the edge files and for the benchmark.
+//! Document 01's example, plain files built to measure, and a file's lines.
+
+/// Document 01's example: 22 lines.
+pub const EXAMPLE: &str = include_str!("../../samples/bearing.uff");
 
 /// A 58 of a case (1 to 8) that declares one count and holds numbers for another. Its ID lines are
 /// lines 3 to 7, lines 6 and 7 of the set are lines 8 and 9, the data begin at line 14.
@@ -34,15 +37,21 @@ NONE
          0    0    0    0 NONE                 NONE
          0    0    0    0 NONE                 NONE
 ";
-    let total = held * numbers;
-    for n in 0..total {
-        file += fields[n % fields.len()];
-        if (n + 1) % fields.len() == 0 || n + 1 == total {
-            file.push('\n');
-        }
-    }
+    file += &data_lines(fields, held * numbers);
     file += "    -1\n";
     file.into_bytes()
+}
+
+/// So many numbers in lines of these fields.
+fn data_lines(fields: &[&str], total: usize) -> String {
+    let mut lines = String::new();
+    for n in 0..total {
+        lines += fields[n % fields.len()];
+        if (n + 1) % fields.len() == 0 || n + 1 == total {
+            lines.push('\n');
+        }
+    }
+    lines
 }
 
 /// So many sets without lines, three lines each.
@@ -69,4 +78,16 @@ pub fn filled(file: &[u8], end: &[u8]) -> Vec<u8> {
         line.resize(80, b' ');
     }
     joined(&lines, end)
+}
+
+/// The lines that have ended in some bytes.
+pub fn ends(bytes: &[u8]) -> usize {
+    bytes.iter().filter(|&&b| b == b'\n').count()
+}
+
+/// Prints the first lines of some bytes, each with its number, so that every byte can be seen.
+pub fn print_lines(bytes: &[u8], most: usize) {
+    for (n, line) in bytes.split_inclusive(|&b| b == b'\n').take(most).enumerate() {
+        println!("{:5} |{}|", n + 1, line[..line.len().min(200)].escape_ascii());
+    }
 }

@@ -1,0 +1,73 @@
+/* The lister. */
+#include "canaries.h"
+
+#include <stdlib.h>
+#include <string.h>
+
+#define ROW_BYTES (UFF_ROW_NUMBERS * sizeof(uint32_t))
+
+static const uint32_t example_rows[2][UFF_ROW_NUMBERS] = {{1, 164, 0, 0, 164, 0}, {7, 58, 7, 164, 672, 572}};
+
+static void list(const char *what, size_t places, uint64_t number, uint64_t place)
+{
+    struct text t = whole();
+    struct lent file = lend(t.bytes, t.count), rows = lend(NULL, places * sizeof(uint32_t));
+    name = what;
+    check_reply(uff_list(file.at, t.count, (uint32_t *)(void *)rows.at, places), number, place);
+    take_back(&file, NULL, 0);
+    take_back(&rows, example_rows, number == 0 ? sizeof example_rows : 0);
+}
+
+static void rooms(void)
+{
+    list("room for two rows", 2 * UFF_ROW_NUMBERS, 0, 2);
+    list("a place more", 2 * UFF_ROW_NUMBERS + 1, 0, 2);
+    list("100 places", 100, 0, 2);
+    list("a place too few", 2 * UFF_ROW_NUMBERS - 1, 17, 0);
+    list("no places", 0, 17, 0);
+}
+
+/* Sets of one plain set each, 21 bytes in three lines. */
+static uint8_t *plain_sets(size_t sets)
+{
+    uint8_t *bytes = need(malloc(sets * 21));
+    for (size_t i = 0; i < sets; i++)
+        memcpy(bytes + i * 21, "    -1\n   999\n    -1\n", 21);
+    return bytes;
+}
+
+/* The rows of so many of them. */
+static uint32_t *plain_rows(uint32_t sets)
+{
+    uint32_t *rows = need(malloc(sets * ROW_BYTES));
+    for (uint32_t i = 0; i < sets; i++) {
+        const uint32_t row[UFF_ROW_NUMBERS] = {3 * i + 1, 999, 0, 21 * i, 21 * i + 21, 0};
+        memcpy(rows + UFF_ROW_NUMBERS * i, row, ROW_BYTES);
+    }
+    return rows;
+}
+
+static void most_sets(void)
+{
+    const size_t count = UFF_SETS * 21, places = UFF_SETS * UFF_ROW_NUMBERS, size = UFF_SETS * ROW_BYTES;
+    uint8_t *bytes = plain_sets(UFF_SETS + 1);
+    uint32_t *due = plain_rows(UFF_SETS);
+    struct lent file = lend(bytes, count), rows = lend(NULL, size), few = lend(NULL, size - sizeof *due);
+    name = "4,096 sets";
+    check_reply(uff_judge(file.at, count), 0, 12288);
+    check_reply(uff_list(file.at, count, (uint32_t *)(void *)rows.at, places), 0, 4096);
+    check_reply(uff_list(file.at, count, (uint32_t *)(void *)few.at, places - 1), 17, 0);
+    take_back(&file, NULL, 0);
+    take_back(&rows, due, size);
+    take_back(&few, NULL, 0);
+    name = "4,097 sets";
+    refuse_all(bytes, count + 21, 15, 12289);
+    free(bytes);
+    free(due);
+}
+
+void try_list(void)
+{
+    rooms();
+    most_sets();
+}

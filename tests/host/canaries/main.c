@@ -1,0 +1,67 @@
+/*
+ * Every exported call on accepted and refused inputs, against replies typed by hand from document 01; the path of its
+ * example is the only argument. Each case is run with its buffers lent in four ways (lent.c): between canaries, as
+ * pieces of the heap of just their length (for valgrind), before a page that may not be touched, and after one. What is
+ * lent to be filled, and the canaries, hold NaNs of every sort among other bits. No byte outside a lent buffer, and none
+ * past the answer, may differ afterwards. The first difference ends the program with 1; its last line counts the cases.
+ */
+#include "canaries.h"
+
+#include <stdio.h>
+#include <stdlib.h>
+#include <string.h>
+
+const char *name = "no case yet";
+int way;
+unsigned cases;
+
+void differs(const char *what)
+{
+    fprintf(stderr, "canaries: %s, lent in way %d: %s\n", name, way, what);
+    exit(1);
+}
+
+void check_reply(uint64_t reply, uint64_t number, uint64_t place)
+{
+    if (reply != (number << 57 | place)) {
+        fprintf(stderr, "reply %u at %u, due %u at %u\n", UFF_NUMBER(reply), UFF_PLACE(reply), (unsigned)number, (unsigned)place);
+        differs("the reply");
+    }
+    if (UFF_NUMBER(reply) != number || UFF_PLACE(reply) != place || UFF_COLUMN(reply) != 0)
+        differs("the macros that take a reply apart");
+    cases++;
+}
+
+static void check_texts(void)
+{
+    name = "the table of texts";
+    for (unsigned i = 0; i < 128; i++) {
+        bool in_table = i <= 23 || i == 127;
+        if ((strcmp(uff_text(i), uff_text(99)) != 0) != in_table)
+            differs("a number without a text of its own");
+        cases++;
+    }
+}
+
+static void (*const calls[])(void) = {
+    try_judge, try_list, try_number, try_value, try_values, try_rewrite, try_write, try_stream,
+};
+
+int main(int count, char **words)
+{
+    if (count != 2) {
+        fprintf(stderr, "usage: canaries EXAMPLE\n");
+        return 1;
+    }
+    catch_faults();
+    read_example(words[1]);
+    check_texts();
+    make_most();
+    for (way = 0; way < WAYS; way++)
+        for (size_t i = 0; i < sizeof calls / sizeof *calls; i++)
+            calls[i]();
+    free_most();
+    try_long_stream();
+    printf("%u cases\n", cases);
+    return 0;
+}

@@ -1,0 +1,239 @@
+/* A file judged while it arrives: start, bursts and the end. */
+#include "canaries.h"
+
+#include <stdlib.h>
+#include <string.h>
+
+/* Which of the record's numbers is the refusal's, which says that the end was asked; how many numbers and bytes are used. */
+#define REFUSAL 8
+#define MARK 11
+#define USED_NUMBERS 12
+#define USED_LINE 82
+
+/* A record whose buffers have so many places. */
+struct record {
+    struct lent numbers, line;
+    size_t number_count, line_count;
+};
+
+static struct record lend_record(size_t number_count, size_t line_count)
+{
+    struct record r = {lend(NULL, number_count * sizeof(uint64_t)), lend(NULL, line_count), number_count, line_count};
+    return r;
+}
+
+static uint64_t *numbers_of(struct record *r)
+{
+    return (uint64_t *)(void *)r->numbers.at;
+}
+
+static uint64_t start(struct record *r)
+{
+    return uff_start(numbers_of(r), r->number_count, r->line.at, r->line_count);
+}
+
+static uint64_t burst(struct record *r, const uint8_t *bytes, size_t count)
+{
+    return uff_burst(numbers_of(r), r->number_count, r->line.at, r->line_count, bytes, count);
+}
+
+static uint64_t end(struct record *r)
+{
+    return uff_end(numbers_of(r), r->number_count, r->line.at, r->line_count);
+}
+
+/* What the record holds. */
+static struct uff_stream contents(const struct record *r)
+{
+    struct uff_stream now;
+    memcpy(now.numbers, r->numbers.at, sizeof now.numbers);
+    memcpy(now.line, r->line.at, sizeof now.line);
+    return now;
+}
+
+/* Does the record hold this? */
+static bool holds(const struct record *r, const struct uff_stream *due)
+{
+    return memcmp(r->numbers.at, due->numbers, sizeof due->numbers) == 0 &&
+           memcmp(r->line.at, due->line, sizeof due->line) == 0;
+}
+
+/* Takes a record back that was written to: canaries, and the bytes past it. */
+static void take_back_record(struct record *r)
+{
+    struct uff_stream now = contents(r);
+    take_back(&r->numbers, now.numbers, sizeof now.numbers);
+    take_back(&r->line, now.line, sizeof now.line);
+}
+
+static void short_record(const char *what, size_t number_count, size_t line_count)
+{
+    struct record r = lend_record(number_count, line_count);
+    struct lent bytes = lend("    -1\n", 7);
+    name = what;
+    check_reply(start(&r), 20, 0);
+    check_reply(burst(&r, bytes.at, 7), 20, 0);
+    check_reply(end(&r), 20, 0);
+    take_back(&r.numbers, NULL, 0);
+    take_back(&r.line, NULL, 0);
+    take_back(&bytes, NULL, 0);
+}
+
+static void rooms(void)
+{
+    static const struct uff_stream zeros;
+    struct record r = lend_record(UFF_STREAM_NUMBERS + 1, UFF_STREAM_LINE + 8);
+    name = "a start with more room";
+    check_reply(start(&r), 0, 0);
+    take_back(&r.numbers, zeros.numbers, sizeof zeros.numbers);
+    take_back(&r.line, zeros.line, sizeof zeros.line);
+    short_record("a number too few", UFF_STREAM_NUMBERS - 1, UFF_STREAM_LINE);
+    short_record("a byte too few", UFF_STREAM_NUMBERS, UFF_STREAM_LINE - 1);
+    short_record("no record", 0, 0);
+    name = "null pointers";
+    check_reply(uff_start(NULL, 0, NULL, 0), 20, 0);
+    check_reply(uff_burst(NULL, 0, NULL, 0, NULL, 0), 20, 0);
+    check_reply(uff_end(NULL, 0, NULL, 0), 20, 0);
+}
+
+/* Sends the text in bursts of `size`: so far until line `bad` has come, then its refusal. */
+static void send(struct record *r, struct text t, size_t size, uint64_t bad, uint64_t number, uint64_t place)
+{
+    uint64_t lines = 0;
+    for (size_t at = 0; at < t.count; at += size) {
+        size_t n = t.count - at < size ? t.count - at : size;
+        struct lent bytes = lend(t.bytes + at, n);
+        for (size_t i = 0; i < n; i++)
+            lines += t.bytes[at + i] == '\n';
+        if (bad != 0 && lines >= bad)
+            check_reply(burst(r, bytes.at, n), number, place);
+        else
+            check_reply(burst(r, bytes.at, n), 127, lines);
+        take_back(&bytes, NULL, 0);
+    }
+}
+
+/* The end's reply, twice, and 23 in between. The end changes the record's mark alone, 23 nothing. */
+static void ask_end(struct record *r, uint64_t number, uint64_t place)
+{
+    struct uff_stream marked = contents(r);
+    marked.numbers[MARK] = 1;
+    check_reply(end(r), number, place);
+    if (!holds(r, &marked))
+        differs("the end changed more of the record than its mark");
+    check_reply(burst(r, (const uint8_t *)"x", 1), 23, 0);
+    check_reply(end(r), number, place);
+    if (!holds(r, &marked))
+        differs("23 changed the record");
+}
+
+/* The text in bursts of `size`, of which line `bad` is the first bad one that has its LF; and the end's reply. */
+static void stream(const char *what, struct text t, size_t size, uint64_t bad, uint64_t number, uint64_t place)
+{
+    struct record r = lend_record(UFF_STREAM_NUMBERS, UFF_STREAM_LINE);
+    name = what;
+    check_reply(start(&r), 0, 0);
+    check_reply(burst(&r, NULL, 0), 127, 0);
+    send(&r, t, size, bad, number, place);
+    ask_end(&r, number, place);
+    take_back_record(&r);
+}
+
+static void streams(void)
+{
+    static const size_t sizes[] = {1, 7, 79, 512, 4096};
+    for (size_t i = 0; i < sizeof sizes / sizeof *sizes; i++) {
+        struct text none = {{0}, 0}, cut = whole();
+        cut.count -= 1;
+        stream("the example in bursts", whole(), sizes[i], 0, 0, 22);
+        stream("nothing in bursts", none, sizes[i], 0, 16, 0);
+        stream("cut in bursts", cut, sizes[i], 0, 4, 22);
+        stream("without line 21 in bursts", with(1, LINES, 21, NULL), sizes[i], 21, 7, 21);
+        stream("81 columns in bursts", with(1, LINES, 9, EIGHTY "1"), sizes[i], 9, 3, 9);
+        stream("a bad byte in bursts", with(1, LINES, 9, EIGHTY EIGHTY "\x01"), sizes[i], 9, 2, 9);
+    }
+}
+
+/* Any contents of a record are safe. */
+static void wild_records(void)
+{
+    for (unsigned k = 0; k < 64; k++) {
+        struct record r = lend_record(UFF_STREAM_NUMBERS, UFF_STREAM_LINE);
+        uint64_t *places = numbers_of(&r);
+        struct text t = whole();
+        name = "a record of any contents";
+        for (int i = 0; i < UFF_STREAM_NUMBERS; i++)
+            places[i] = k & 1 ? UINT64_MAX >> (k % 60) : (uint64_t)k * (uint64_t)i;
+        places[MARK] = 0;
+        burst(&r, (const uint8_t *)t.bytes, t.count);
+        end(&r);
+        take_back_record(&r);
+        cases++;
+    }
+}
+
+/* What the record does not use is laid as 0, whatever stood there. */
+static void unused_stay(void)
+{
+    static const struct uff_stream zeros;
+    struct record r = lend_record(UFF_STREAM_NUMBERS, UFF_STREAM_LINE);
+    name = "what a record does not use";
+    check_reply(start(&r), 0, 0);
+    memset(numbers_of(&r) + USED_NUMBERS, 0xff, (UFF_STREAM_NUMBERS - USED_NUMBERS) * sizeof(uint64_t));
+    memset(r.line.at + USED_LINE, 0xff, UFF_STREAM_LINE - USED_LINE);
+    check_reply(burst(&r, (const uint8_t *)"    -1\n    ", 11), 127, 1);
+    if (memcmp(numbers_of(&r) + USED_NUMBERS, zeros.numbers, (UFF_STREAM_NUMBERS - USED_NUMBERS) * sizeof(uint64_t)) != 0 ||
+        memcmp(r.line.at + USED_LINE, zeros.line, UFF_STREAM_LINE - USED_LINE) != 0)
+        differs("a number or byte that is not used is not 0");
+    check_reply(end(&r), 4, 2);
+    take_back_record(&r);
+}
+
+/* A record with this refusal number, which no bursts gave: what it answers. */
+static void made_up(uint64_t refusal, uint64_t number, uint64_t place)
+{
+    struct record r = lend_record(UFF_STREAM_NUMBERS, UFF_STREAM_LINE);
+    check_reply(start(&r), 0, 0);
+    numbers_of(&r)[REFUSAL] = refusal;
+    check_reply(burst(&r, (const uint8_t *)"\n", 1), number, place);
+    check_reply(end(&r), number, place);
+    take_back_record(&r);
+}
+
+/* A refusal number that is neither 0 nor one that a line can have counts as past the limit. */
+static void refusal_numbers(void)
+{
+    static const uint64_t others[] = {1, 16, 17, 20, 23, 24, 126, 127, 128, 129, 255, 256, 258, 384, 4294967298, UINT64_MAX};
+    name = "a record with a made-up refusal number";
+    for (size_t i = 0; i < sizeof others / sizeof *others; i++)
+        made_up(others[i], 1, 0);
+    for (uint64_t n = 2; n <= 15; n++)
+        made_up(n, n, 1);
+}
+
+void try_stream(void)
+{
+    rooms();
+    streams();
+    wild_records();
+    unused_stay();
+    refusal_numbers();
+}
+
+/* 1 replaces the refusal of line 1. */
+void try_long_stream(void)
+{
+    static struct uff_stream record;
+    uint8_t *bytes = need(malloc(UFF_LONGEST));
+    memset(bytes, ' ', UFF_LONGEST);
+    bytes[0] = 'x';
+    bytes[1] = '\n';
+    name = "a stream that grows too long";
+    check_reply(uff_stream_start(&record), 0, 0);
+    check_reply(uff_stream_burst(&record, bytes, UFF_LONGEST), 5, 1);
+    check_reply(uff_stream_burst(&record, bytes, 0), 5, 1);
+    check_reply(uff_stream_burst(&record, bytes, 1), 1, 0);
+    check_reply(uff_stream_end(&record), 1, 0);
+    check_reply(uff_stream_burst(&record, bytes, 1), 23, 0);
+    free(bytes);
+}
