@@ -22,7 +22,7 @@ use Rattle.walk.specs.declared.Outcome.the-variants.{Next, Refused}
 use Rattle.walk.specs.Due.{opening, after}
 use Rattle.walk.specs.Step.{state, start}
 use Rattle.judge.specs.declared.Reply.{Reply}
-use Rattle.judge.specs.Judge.{judged, reply, replyAt, lineStep, Run, going, refused, onOutcome, runStep, runEnd}
+use Rattle.judge.specs.Judge.{judged, reply, replyAt, lineStep, Run, going, onOutcome, runStep, runEnd}
 use Rattle.header.specs.declared.Header.{Header}
 use Rattle.header.specs.Header.{answer, opened, headerStep, headerOf}
 use Rattle.judge.specs.JudgeLaws as Judge

@@ -3,8 +3,7 @@ use Prim.Native.Nat.{_+_, _≤_, _/_, _%_}
 use native.Mathlib.Nat.{div-le-self}
 use lib.ListN.{getD}
 use Rattle.layout.specs.Layout.{layoutOf}
-use Rattle.layout.specs.LayoutLaws.{fieldsOf-some}
-use Rattle.layout.specs.LayoutLaws.{field-inside}
+use Rattle.layout.specs.LayoutLaws.{fieldsOf-some, field-inside}
 use Rattle.reader.specs.SpanLaws.{span-by}
 use borrow.Author.Needs.{needs}
 use Rattle.reader.proofs.span_of.Statement.{statement}
