@@ -16,8 +16,8 @@ use Rattle.text.specs.Parts.{signed}
 use Rattle.codes.specs.Rule.{Rule, keeps, oneOf, codes, span}
 use Rattle.codes.specs.Form.{Form, Optional, skip, text, identification, real, integer, never, within, ordinateType, count, spacing}
 use Rattle.layout.specs.Layout as Layout
-use Rattle.field.specs.Item.{Item, natural}
 use Rattle.line.specs.Line.{filled}
+use Rattle.field.specs.Item.{Item, natural}
 use Rattle.rows.specs.Row.{Field}
 use Rattle.rows.specs.Records.{I, X, records, recordOf, dataForm}
 use Rattle.rows.specs.TypedSets.{lineSeven}
@@ -108,7 +108,7 @@ items-case (pos t) (pos u) p q = eight t u p (leb-true u 1 (and-right (leb 0 u) 
 items-case (pos t) (negsuc u) p q = false-not-true q
 items-case (negsuc t) b p q = false-not-true p
 
-record-case : (is : List Item) (line : List ℕ) → Written (recordOf dataForm) is line → caseBy is < 8
+pub record-case : (is : List Item) (line : List ℕ) → Written (recordOf dataForm) is line → caseBy is < 8
 unfolding recordOf records caseBy naturalAt
 record-case is line w =
     let x = first-item line ordinateType 10 _ (w .in-columns) refl in
@@ -127,7 +127,7 @@ unfolding keeps
 item-counted (pos v) k = (leb-true 1 v (and-left (leb 1 v) (leb v 65536) k), leb-true v 65536 (and-right (leb 1 v) (leb v 65536) k))
 item-counted (negsuc v) k = false-not-true k
 
-record-counted : (is : List Item) (line : List ℕ) → Written (recordOf dataForm) is line → (1 ≤ countBy is) × (countBy is ≤ 65536)
+pub record-counted : (is : List Item) (line : List ℕ) → Written (recordOf dataForm) is line → (1 ≤ countBy is) × (countBy is ≤ 65536)
 unfolding recordOf records countBy naturalAt
 record-counted is line w =
     let x = first-item line ordinateType 10 _ (w .in-columns) refl in

@@ -59,12 +59,12 @@ module _ (iss : List (List Item)) (c total : ℕ) (e : listsOf kind58 iss ≡ li
   data-row : (k : ℕ) → k < linesFor (length (dataRow c .fields)) total → getD (rowsOf 58 iss) (headerLines + k) (plain []) ≡ cut (total - k * length (dataRow c .fields)) (dataRow c)
   unfolding rowsOf kindOf sequence typedSets
   data-row k h =
-      getD-append-add (map recordOf (1 ∷ 1 ∷ 1 ∷ 1 ∷ 1 ∷ 2 ∷ 3 ∷ 4 ∷ 4 ∷ 4 ∷ 4 ∷ [])) (listsOf kind58 iss) k (plain [])
+      getD-append-add (map recordOf (sequence kind58)) (listsOf kind58 iss) k (plain [])
       ∙ rw e (numberRows-at (dataRow c) (linesFor (length (dataRow c .fields)) total) total k h)
 
   data-rows : (k : ℕ) → k < linesFor (length (dataRow c .fields)) total → headerLines + k < length (rowsOf 58 iss)
   unfolding rowsOf kindOf sequence typedSets
-  data-rows k h = rw (length-append (map recordOf (1 ∷ 1 ∷ 1 ∷ 1 ∷ 1 ∷ 2 ∷ 3 ∷ 4 ∷ 4 ∷ 4 ∷ 4 ∷ [])) (listsOf kind58 iss), e, numberRows-length) (omega arith)
+  data-rows k h = rw (length-append (map recordOf (sequence kind58)) (listsOf kind58 iss), e, numberRows-length) (omega arith)
 
 -- the first fields of a line of reals
 pub map-take : (m : ℕ) (ws : List ℕ) → take m (map E ws) ≡ map E (take m ws)
@@ -112,7 +112,7 @@ module _ (iss : List (List Item)) (css : List (List ℕ)) (c total : ℕ) (e : l
   typed-count : length css ≡ headerLines + linesFor (fieldsOf c) total
   unfolding rowsOf kindOf sequence typedSets
   typed-count =
-      typed-length l ∙ length-append (map recordOf (1 ∷ 1 ∷ 1 ∷ 1 ∷ 1 ∷ 2 ∷ 3 ∷ 4 ∷ 4 ∷ 4 ∷ 4 ∷ [])) (listsOf kind58 iss)
+      typed-length l ∙ length-append (map recordOf (sequence kind58)) (listsOf kind58 iss)
       ∙ rw (e, numberRows-length (dataRow c) (linesFor (length (dataRow c .fields)) total) total, dataRow-length c) refl
 
 pub set-data : {s : Set} {css : List (List ℕ)} → SetLines s css → s .number ≡ 58 → DataLines s css

@@ -114,11 +114,11 @@ module _ (line : List ℕ) (eighty : length line ≡ 80) where
       rw (field-join at (f .width)) at (fieldsIn-field (f .form) (f .width) at fs _ own _ (field-width at (f .width) (omega arith)) (m .0) (d .0) t)
 
   -- a line that is taken is a writing of the items that are read in it
-  pub written-sound : (r : Row) → total (map (λ (f : Field). f .width) (r .fields)) ≤ 80 → rowRefusal r line ≡ passed
+  pub written-sound : (r : Row) → total (map (λ (f : Field). f .width) (r .fields)) ≤ 80 → rowRefusal r line .number ≡ 0
       → Written r (itemsOf (r .fields) 0 line) line
   unfolding rowRefusal fieldsRefusal conditionFault
   written-sound r fits h =
-      let c = orElse-passed _ _ _ (ap (λ (f : Refusal). f .number) h) in
+      let c = orElse-passed _ _ _ h in
       let f = orElse-passed _ _ _ (c .0) in
       record {
         in-columns = fieldsIn-sound (r .fields) 0 (omega arith) (f .0) (strayFault-passed _ (f .1));

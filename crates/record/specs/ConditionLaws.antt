@@ -2,7 +2,7 @@
 use mathlib.Core.Path.{_≡_, refl, sym, _∙_, ap}
 use mathlib.Core.Bool.{Bool, true, false}
 use mathlib.Core.List.{List}
-use Prim.Native.Nat.{ℕ, suc, _≤_, _<_}
+use Prim.Native.Nat.{ℕ, suc, _-_, _≤_, _<_}
 use native.Mathlib.Omega.{arith}
 use borrow.Author.Tests.{leb-true}
 use mathlib.Core.Logic.{⊎-elim}
@@ -75,7 +75,7 @@ unfolding recordOf records
 unbound-others k a b =
     ⊎-elim (λ h. in-range unbound true 0 3 k refl (omega arith) h)
     (λ h. ⊎-elim (λ l. in-range unbound true 4 6 k refl (above h a) l)
-    (λ h′. ⊎-elim (λ l. in-range unbound true 11 19 k refl (above h′ b) l) (λ m. rw (recordOf-past k m) refl) (below-or-not k noRecord))
+    (λ h′. ⊎-elim (λ l. in-range unbound true 11 (noRecord - 11) k refl (above h′ b) l) (λ m. rw (recordOf-past k m) refl) (below-or-not k noRecord))
     (below-or-not k 10))
     (below-or-not k 3)
   where

@@ -168,6 +168,10 @@ module _ (k : ℕ) (h : k < untyped) (ls : List (List Item)) where
       rw (reached-counted k ls (following k) refl (typed-sound k h .counted))
       (counted-listing (following k) k n n (getD ls (countPlace (following k)) []) refl past (typed-sound k h .counted))
 
+  -- so what is owed once the records have come is what document 01 gives
+  lists-owed : {iss : List (List Item)} → Owes (reached k ls (length (sequence k))) iss (listsOf k ls)
+  lists-owed = rw (← reached-lists) (Owes.lists reached-listing)
+
 -- the first of what is left after a places, and the rest of it
 drop-first : {A : Type 0} (ls : List A) (a : ℕ) (x d : A) (xs : List A) → drop a ls ≡ x ∷ xs → (getD ls a d ≡ x) × (drop (suc a) ls ≡ xs)
 drop-first ls a x d xs e = (sym (rw (e, add-zero) at (getD-drop a ls 0 d)), sym (rw (e, add-one) at (drop-drop 1 a ls)))
@@ -193,7 +197,7 @@ module _ (k a : ℕ) (ls : List (List Item)) (h : k < untyped) (p : a < length (
       (λ (q : suc a < length (sequence k)). Owes.records k (suc a) ls h q e)
       (λ (q : length (sequence k) ≤ suc a).
       let f : length (sequence k) ≡ suc a = omega arith in
-      rw (← f, drop-length, ← reached-lists k h ls) (Owes.lists (reached-listing k h ls)))
+      rw (← f, drop-length) (lists-owed k h ls))
       (below-or-not (suc a) (length (sequence k)))
 
   -- its row, and the state after it

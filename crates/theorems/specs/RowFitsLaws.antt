@@ -1,15 +1,14 @@
 -- The row that is due in a typed set fits the line's 80 columns.
 use mathlib.Core.Path.{_≡_, refl, ap}
-use mathlib.Core.Bool.{Bool, true, false}
+use mathlib.Core.Bool.{Bool, true}
 use mathlib.Core.List.{List, [], _∷_, map}
 use mathlib.Core.Logic.{⊎-elim}
 use Prim.Native.Nat.{ℕ, zero, suc, _≤_}
 use native.Mathlib.Nat.{le-trans}
 use native.Mathlib.Omega.{arith}
 use borrow.Author.Tests.{leb-true}
-use lib.Dec.{leb, ltb}
+use lib.Dec.{leb}
 use lib.ListN.{take}
-use Rattle.laws.specs.Choice.{pick}
 use Rattle.laws.specs.ChoiceLaws.{below-or-not}
 use Rattle.laws.specs.RangesLaws.{in-range}
 use Rattle.layout.specs.Columns.{total}
@@ -18,9 +17,9 @@ use Rattle.layout.specs.LayoutLaws.{total-inside}
 use Rattle.rows.specs.Row.{Field, Row, cut}
 use Rattle.rows.specs.Records.{E, records, recordOf, dataRow, noRecord}
 use Rattle.rows.specs.TabledLaws.{recordOf-past}
-use Rattle.rows.specs.TypedSets.{Following, nothing, list, lists, dataLines, following}
 use Rattle.record.specs.CheckLaws.{total-take}
-use Rattle.walk.specs.Due.{recordDue, listRow, rowDue, fullRow}
+use Rattle.walk.specs.Due.{rowDue}
+use Rattle.walk.specs.DueLaws.{rowDue-is}
 use Rattle.walk.specs.declared.Due.{Due}
 
 -- the widths of a row's fields
@@ -52,11 +51,6 @@ dataRow-fits : (c : ℕ) → Fits (dataRow c)
 unfolding dataRow
 dataRow-fits c = rw (widths-data (layoutOf c .widths)) (total-inside c)
 
--- one of two rows that fit
-pick-fits : (t : Bool) (r s : Row) → Fits r → Fits s → Fits (pick t r s)
-pick-fits true r s p q = p
-pick-fits false r s p q = q
-
 -- a row that is cut
 widths-take : (n : ℕ) (fs : List Field) → widths (take n fs) ≡ take n (widths fs)
 widths-take zero fs = refl
@@ -66,20 +60,7 @@ widths-take (suc n) (f ∷ fs) = ap (_∷_ (f .width)) (widths-take n fs)
 cut-fits : (n : ℕ) (r : Row) → Fits r → Fits (cut n r)
 cut-fits n r h = rw (widths-take n (r .fields)) (le-trans (total-take (widths (r .fields)) n) h)
 
--- a full line of the list that follows the records
-fullRow-fits : (f : Following) (c : ℕ) → Fits (fullRow f c)
-fullRow-fits nothing c = recordOf-fits noRecord
-fullRow-fits (list r p i) c = recordOf-fits r
-fullRow-fits (lists r p i j) c = recordOf-fits r
-fullRow-fits (dataLines p) c = dataRow-fits c
-
-listRow-fits : (d : Due) → Fits (listRow d)
-unfolding listRow
-listRow-fits d = fullRow-fits (following (d .kind)) (d .case)
-
 -- the row of the next line, a record or what is left of a list
 pub rowDue-fits : (d : Due) → total (map (λ (f : Field). f .width) (rowDue d .fields)) ≤ 80
-unfolding rowDue
 rowDue-fits d =
-    pick-fits (ltb (recordDue d) noRecord) (recordOf (recordDue d)) (cut (d .left) (listRow d)) (recordOf-fits (recordDue d))
-    (cut-fits (d .left) (listRow d) (listRow-fits d))
+    rowDue-is Fits recordOf-fits (λ n k. cut-fits n (recordOf k) (recordOf-fits k)) (λ n c. cut-fits n (dataRow c) (dataRow-fits c)) d

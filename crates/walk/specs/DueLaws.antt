@@ -1,7 +1,7 @@
 -- The code's table of records, the numbers that a record gives, and the rows of lists.
 use mathlib.Core.Path.{_≡_, refl, sym, ap, _∙_}
 use mathlib.Core.Logic.{⊎-elim}
-use mathlib.Core.Bool.{Bool, true, false, not}
+use mathlib.Core.Bool.{Bool, true, false, not, _||_}
 use mathlib.Core.List.{List, [], _∷_}
 use Prim.Native.Nat.{ℕ, zero, suc, _-_, _≤_, _<_}
 use native.Mathlib.Omega.{arith}
@@ -9,7 +9,8 @@ use borrow.Author.Tests.{leb-true, lt-ltb, le-ltb, eqb-true, eqb-false, ne-eqb, 
 use lib.Dec.{leb, eqb, ltb}
 use lib.ListN.{length, getD, take, List·getD-eq-default, length-map}
 use Rattle.laws.specs.Choice.{pick}
-use Rattle.laws.specs.ChoiceLaws.{below-or-not}
+use Rattle.laws.specs.ChoiceLaws.{below-or-not, false-not-true}
+use Rattle.laws.specs.Ranges.{allAre}
 use Rattle.laws.specs.RangesLaws.{in-range}
 use Rattle.integer.specs.declared.Integer.{Integer}
 use Rattle.integer.specs.declared.Integer.the-variants.{Blank, Malformed, OutOfRange, Value}
@@ -19,7 +20,7 @@ use Rattle.kind.specs.Kind.{positive}
 use Rattle.layout.specs.Layout.{layouts, layoutOf, fieldsOf, numbersOf}
 use Rattle.field.specs.Item.{natural, Item}
 use Rattle.field.specs.Field.{integerItem}
-use Rattle.rows.specs.Row.{Row, none, breach}
+use Rattle.rows.specs.Row.{Row, none, breach, cut}
 use Rattle.rows.specs.Records.{records, recordOf, dataRow, noRecord}
 use Rattle.rows.specs.TypedSets.{typedSets, sequence, untyped, Following, nothing, list, lists, dataLines, kind58, kind82, kind1815, lineSeven, beforeAxes, following}
 use Rattle.record.specs.Check.{orElse, otherwise, strayFault, fieldsFault, stray, fieldsRefusal, conditionFault, rowRefusal, itemsOf}
@@ -125,6 +126,22 @@ listRow-none d =
     (λ h. rw (following-past (d .kind) h) (fullRow-none 0 nothing (d .case) refl))
     (below-or-not (d .kind) untyped)
 
+-- what holds of every record, and of the first fields of every record and of every data line, holds of the row due
+pub rowDue-is : (P : Row → Type 0) → ((k : ℕ) → P (recordOf k)) → ((n k : ℕ) → P (cut n (recordOf k))) → ((n c : ℕ) → P (cut n (dataRow c))) → (d : Due)
+    → P (rowDue d)
+unfolding rowDue listRow
+rowDue-is P whole some lines d = by (ltb (recordDue d) noRecord)
+  where
+    full : (f : Following) → P (cut (d .left) (fullRow f (d .case)))
+    full nothing = some (d .left) noRecord
+    full (list r p i) = some (d .left) r
+    full (lists r p i j) = some (d .left) r
+    full (dataLines p) = lines (d .left) (d .case)
+
+    by : (t : Bool) → P (pick t (recordOf (recordDue d)) (cut (d .left) (fullRow (following (d .kind)) (d .case))))
+    by true = whole (recordDue d)
+    by false = full (following (d .kind))
+
 -- the row due: a record, or the first fields of a list's line
 module _ (d : Due) (line : List ℕ) where
   pub rowRefusal-record : recordDue d < noRecord → rowRefusal (rowDue d) line ≡ rowRefusal (recordOf (recordDue d)) line
@@ -135,19 +152,44 @@ module _ (d : Due) (line : List ℕ) where
   unfolding rowDue
   rowRefusal-list h = simp (le-ltb _ _ h) (rowRefusal-none _ line (listRow-none d))
 
--- the kinds whose records nothing follows
+-- what a test of the table says of the kinds that the code does not name
+module _ (test : ℕ → Bool) (k : ℕ) (a : k ≡ kind58 → ⊥) (b : k ≡ kind82 → ⊥) (c : k ≡ kind1815 → ⊥) where
+  abbrev named : ℕ → Bool
+  named i = test i || (eqb i kind58 || (eqb i kind82 || eqb i kind1815))
+
+  others : allAre named true 0 untyped ≡ true → k < untyped → test k ≡ true
+  others all h = by (test k) (in-range named true 0 untyped k all (omega arith) h)
+    where
+      by : (t : Bool) → t || (eqb k kind58 || (eqb k kind82 || eqb k kind1815)) ≡ true → t ≡ true
+      by true h = refl
+      by false h = rw (ne-eqb k kind58 a, ne-eqb k kind82 b, ne-eqb k kind1815 c) at h
+
+-- nothing follows their records
+abbrev isNothing : Following → Bool
+isNothing nothing = true
+isNothing (list r p i) = false
+isNothing (lists r p i j) = false
+isNothing (dataLines p) = false
+
+is-nothing : (f : Following) → isNothing f ≡ true → f ≡ nothing
+is-nothing nothing t = refl
+is-nothing (list r p i) t = false-not-true t
+is-nothing (lists r p i j) t = false-not-true t
+is-nothing (dataLines p) t = false-not-true t
+
 pub following-none : (k : ℕ) → (k ≡ kind58 → ⊥) → (k ≡ kind82 → ⊥) → (k ≡ kind1815 → ⊥) → following k ≡ nothing
 unfolding following typedSets
 following-none k a b c =
-    ⊎-elim (λ h. among k h a b c) (λ h. following-past k h) (below-or-not k untyped)
-  where
-    among : (k : ℕ) → k < untyped → (k ≡ kind58 → ⊥) → (k ≡ kind82 → ⊥) → (k ≡ kind1815 → ⊥) → following k ≡ nothing
-    among zero h a b c = absurd (a refl)
-    among (suc zero) h a b c = absurd (b refl)
-    among (suc (suc zero)) h a b c = refl
-    among (suc (suc (suc zero))) h a b c = refl
-    among (suc (suc (suc (suc zero)))) h a b c = absurd (c refl)
-    among (suc (suc (suc (suc (suc k))))) h a b c = absurd (omega arith)
+    ⊎-elim (λ h. is-nothing (following k) (others (λ (i : ℕ). isNothing (following i)) k a b c refl h)) (λ h. following-past k h) (below-or-not k untyped)
+
+-- and none of their records counts
+pub uncounted : (k : ℕ) → (k ≡ kind58 → ⊥) → (k ≡ kind82 → ⊥) → (k ≡ kind1815 → ⊥) → countPlace (following k) ≡ noRecord
+unfolding following typedSets
+uncounted k a b c =
+    ⊎-elim
+    (λ h. eqb-true _ noRecord (others (λ (i : ℕ). eqb (countPlace (following i)) noRecord) k a b c refl h))
+    (λ h. ap countPlace (following-past k h))
+    (below-or-not k untyped)
 
 -- the code's accounts of the records that count: 58's line 7, 82's line 1 and 1815's record 24
 module _ (d : Due) (line : List ℕ) where

@@ -97,12 +97,12 @@ fit-at {c} {j} (suc i) (AllFit.more n f t) h = let z : j + suc i ≡ suc j + i =
 header-row : (iss : List (List Item)) (i : ℕ) → i < headerLines → getD (rowsOf 58 iss) i (plain []) ≡ recordOf (getD (sequence kind58) i noRecord)
 unfolding rowsOf kindOf sequence typedSets recordOf records
 header-row iss i h =
-    let ks : List ℕ = 1 ∷ 1 ∷ 1 ∷ 1 ∷ 1 ∷ 2 ∷ 3 ∷ 4 ∷ 4 ∷ 4 ∷ 4 ∷ [] in
+    let ks : List ℕ = sequence kind58 in
     List·getD-append (map recordOf ks) (listsOf kind58 iss) (plain []) i h ∙ List·getD-map recordOf ks i noRecord
 
 rows-eleven : (iss : List (List Item)) (i : ℕ) → i < headerLines → i < length (rowsOf 58 iss)
 unfolding rowsOf kindOf sequence typedSets
-rows-eleven iss i h = rw (length-append (map recordOf (1 ∷ 1 ∷ 1 ∷ 1 ∷ 1 ∷ 2 ∷ 3 ∷ 4 ∷ 4 ∷ 4 ∷ 4 ∷ [])) (listsOf kind58 iss)) (omega arith)
+rows-eleven iss i h = rw (length-append (map recordOf (sequence kind58)) (listsOf kind58 iss)) (omega arith)
 
 header-line : {s : Set} {css : List (List ℕ)} → SetLines s css → s .number ≡ 58 → (i : ℕ) → i < headerLines
     → Written (recordOf (getD (sequence kind58) i noRecord)) (getD (s .lines) i []) (filled (getD css i []))

@@ -5,7 +5,7 @@ use mathlib.Core.List.{List, [], _∷_, map}
 use Prim.Native.Nat.{ℕ, zero, suc, _+_, _-_, _≤_, _<_}
 use native.Mathlib.Nat.{add-zero}
 use native.Mathlib.Omega.{arith}
-use borrow.Author.Tests.{ne-eqb, eqb-true, leb-true, lt-ltb}
+use borrow.Author.Tests.{ne-eqb, eqb-true, leb-true}
 use lib.Dec.{leb, eqb}
 use lib.IntN.{ℤ}
 use lib.ListN.{length, getD, take, drop, replicate, length-drop}
@@ -27,8 +27,8 @@ use Rattle.record.specs.Written.{FieldsIn, Written, Kept}
 use Rattle.reading.specs.LineReadingLaws.{written-complete}
 use Rattle.walk.specs.declared.Place.the-variants.{Typed}
 use Rattle.walk.specs.declared.Outcome.the-variants.{Next}
-use Rattle.walk.specs.Due.{due, recordDue, listRow, mayContinue, rowDue, settled, afterList, after, afterItems}
-use Rattle.walk.specs.DueLaws.{dataRow-length}
+use Rattle.walk.specs.Due.{due, recordDue, listRow, mayClose, mayContinue, rowDue, settled, afterList, after, afterItems}
+use Rattle.walk.specs.DueLaws.{dataRow-length, open-continues}
 use Rattle.walk.specs.Step.{state, stepOf, typedStep}
 use Rattle.judge.specs.Judge.{lineStep}
 use Rattle.places.specs.StoredLaws.{map-take}
@@ -45,9 +45,12 @@ row-due : (c left : ℕ) → rowDue (dataDue c left) ≡ Row.cut left (dataRow c
 unfolding rowDue recordDue listRow sequence following typedSets
 row-due c left = refl
 
+not-closed : (c left : ℕ) → 0 < left → mayClose (dataDue c left) ≡ false
+unfolding mayClose recordDue sequence typedSets
+not-closed c left h = ne-eqb left 0 (λ e. omega arith)
+
 still-open : (c left : ℕ) → 0 < left → mayContinue (dataDue c left) ≡ true
-unfolding mayContinue recordDue sequence typedSets
-still-open c left h = lt-ltb 0 left h
+still-open c left h = open-continues (dataDue c left) (not-closed c left h)
 
 -- after a line of it
 settled-same : (c left : ℕ) → settled (dataDue c left) ≡ dataDue c left

@@ -113,7 +113,7 @@ module _ (d : Due) (n : ℕ) (l : List ℕ) (ls : List (List ℕ)) (rest : List 
   halted-line s b k ih = ⊎-elim (λ h. met h (line-met d l (not-closed n d s h))) (λ h. halted-past (omega arith)) (below-or-not n headerLines)
     where
       met : n < headerLines → Met d l → Halts d n (l ∷ ls) rest
-      met h (taken t) = halted-taken h t (ih (after-stood n d s h (columnsIn l) (t .row)) (omega arith) (rw (lt-ltb n headerLines h, t .step) at k))
+      met h (taken t) = halted-taken h t (ih (after-stood n d s h (columns true l) (t .row)) (omega arith) (rw (lt-ltb n headerLines h, t .step) at k))
       met h (stopped f e p) = halted-stopped h f e
 
 halted : (ls : List (List ℕ)) (d : Due) (n : ℕ) (rest : List ℕ) → Stood n d → n ≤ headerLines → 0 < ended d n ls rest .number → Halts d n ls rest

@@ -1,39 +1,31 @@
 -- A header that passes is eleven lines of a 58, none of them a delimiter; its line 7 says which case it is and how many numbers it stores.
 use mathlib.Core.Path.{_≡_, refl, sym, ap, _∙_}
 use mathlib.Core.Logic.{⊎-elim}
-use mathlib.Core.Bool.{Bool, true, false, _&&_, _||_}
-use mathlib.Core.List.{List, [], _∷_}
+use mathlib.Core.Bool.{Bool, true, false}
+use mathlib.Core.List.{List, [], _∷_, map}
 use Prim.Native.Nat.{ℕ, zero, suc, _+_, _-_, _*_, _≤_, _<_}
 use native.Mathlib.Nat.{mul-le-mul, mul-pos, add-zero}
 use native.Mathlib.Omega.{arith}
-use borrow.Author.Tests.{leb-true, ltb-true, ltb-false, eqb-true, eqb-false, lt-ltb, lt-leb, le-ltb, eq-eqb, ne-eqb}
-use lib.Dec.{leb, ltb, eqb}
-use lib.IntN.{ℤ, pos, negsuc}
-use lib.ListN.{length, getD, take, drop}
+use borrow.Author.Tests.{ltb-true, ltb-false, eqb-true, eqb-false, lt-ltb, lt-leb, le-ltb, eq-eqb, ne-eqb}
+use lib.Dec.{ltb, eqb}
+use lib.ListN.{length, getD}
 use Rattle.laws.specs.Choice.{pick}
-use Rattle.laws.specs.ChoiceLaws.{and-left, and-right, false-not-true, below-or-not, pick-passed}
+use Rattle.laws.specs.ChoiceLaws.{below-or-not}
 use Rattle.laws.specs.RangesLaws.{in-range}
 use Rattle.laws.specs.Cut.{cut, over, judge}
-use Rattle.text.specs.Parts.{signed}
-use Rattle.integer.specs.declared.Integer.{Integer}
-use Rattle.integer.specs.declared.Integer.the-variants.{Blank, Malformed, OutOfRange, Value}
-use Rattle.integer.specs.Integer.{integerOf}
 use Rattle.line.specs.declared.Refusal.{Refusal}
-use Rattle.line.specs.Line.{refusal, columns, firstBad, lineFault}
-use Rattle.codes.specs.Rule.{Rule, keeps, oneOf}
-use Rattle.codes.specs.Form.{ordinateType, count, spacing}
-use Rattle.layout.specs.Layout.{layouts, layoutOf, caseOf, numbersOf}
-use Rattle.field.specs.Item.{Item, natural}
-use Rattle.field.specs.Field.{mayBlank, integerNumber, integerItem, fieldNumber}
-use Rattle.rows.specs.Row.{Field, Row}
-use Rattle.rows.specs.Records.{I, records, recordOf, noRecord, dataForm}
+use Rattle.line.specs.Line.{refusal, columns, firstBad, lineFault, filled}
+use Rattle.layout.specs.Layout.{layouts, layoutOf, numbersOf}
+use Rattle.field.specs.Item.{Item}
+use Rattle.rows.specs.Row.{Field}
+use Rattle.rows.specs.Records.{records, recordOf, noRecord, dataForm}
 use Rattle.rows.specs.TypedSets.{typedSets, sequence, headerLines, beforeAxes, kind58, lineSeven}
-use Rattle.record.specs.Check.{orElse, fieldsFault, fieldsRefusal, conditionFault, rowRefusal}
-use Rattle.record.specs.Declared.{numberIn, caseIn, countIn, storedIn}
+use Rattle.record.specs.Check.{rowRefusal, itemsOf}
+use Rattle.record.specs.Declared.{caseIn, storedIn, caseBy, countBy, storedBy}
 use Rattle.walk.specs.declared.Due.{Due}
 use Rattle.walk.specs.declared.Place.the-variants.{Typed}
 use Rattle.walk.specs.declared.Outcome.the-variants.{Next, Refused}
-use Rattle.walk.specs.Due.{due, recordDue, mayClose, mayContinue, rowDue, opening, next, after}
+use Rattle.walk.specs.Due.{due, recordDue, mayClose, rowDue, opening, next, after}
 use Rattle.walk.specs.DueLaws.{numbersOf-few, rowRefusal-record, after-58, open-continues}
 use Rattle.walk.specs.Step.{state, unless, typedStep, stepOf}
 use Rattle.walk.specs.StepLaws.{unless-here, unless-on}
@@ -45,49 +37,13 @@ use Rattle.parts.specs.Parts.{columnsIn, closes}
 use Rattle.rewriter.specs.Fair.{Fair, Inner, Inner.none as no-line, Inner.more as one-line}
 use Rattle.rewriter.specs.RewriterLaws.{fair-passed}
 use Rattle.judge.specs.RefusalLaws.{no-fault}
+use Rattle.line.specs.LineLaws.{filled-length}
+use Rattle.layout.specs.Columns.{total}
+use Rattle.record.specs.DeclaredLaws.{declares-items}
+use Rattle.record.specs.Written.{Written}
+use Rattle.reading.specs.LineReadingLaws.{written-sound}
+use Rattle.places.specs.CaseLaws.{record-case, record-counted}
 use Rattle.writing.specs.HeaderRun.{Says, Passed, Bounds, Stood, Taken, Met, ended, taken, stopped}
-
--- an integer that passes keeps its rule; here a rule that takes nothing below zero
-kept-value : (r : Rule) → ((v : ℕ) → keeps r (negsuc v) ≡ false) → (z : ℤ) → keeps r z ≡ true → keeps r (pos (natural (Item.integer z))) ≡ true
-kept-value r m (pos v) h = h
-kept-value r m (negsuc v) h = false-not-true (sym (m v) ∙ h)
-
-kept : (r : Rule) → ((v : ℕ) → keeps r (negsuc v) ≡ false) → (i : Integer) → integerNumber r false i ≡ 0 → keeps r (pos (natural (integerItem i))) ≡ true
-kept r m Blank h = absurd (omega arith)
-kept r m Malformed h = absurd (omega arith)
-kept r m OutOfRange h = absurd (omega arith)
-kept r m (Value n v) h = kept-value r m (signed n v) (pick-passed (keeps r (signed n v)) 10 h)
-
--- what passes has no refusal of its own, and none follows
-orElse-first : (n c : ℕ) (rest : Refusal) → orElse n c rest .number ≡ 0 → n ≡ 0
-orElse-first zero c rest h = refl
-orElse-first (suc n) c rest h = h
-
-orElse-then : (n c : ℕ) (rest : Refusal) → orElse n c rest .number ≡ 0 → rest .number ≡ 0
-orElse-then zero c rest h = h
-orElse-then (suc n) c rest h = absurd (omega arith)
-
--- an ordinate type of those listed names a case with either spacing
-abbrev every : (ℕ → Bool) → List ℕ → Bool
-every f [] = true
-every f (c ∷ cs) = f c && every f cs
-
-every-one : (f : ℕ → Bool) (cs : List ℕ) (x : ℕ) → every f cs ≡ true → oneOf cs x ≡ true → f x ≡ true
-every-one f [] x a h = false-not-true h
-every-one f (c ∷ cs) x a h = by (eqb x c) refl h (every-one f cs x (and-right (f c) (every f cs) a))
-  where
-    by : (t : Bool) → eqb x c ≡ t → t || oneOf cs x ≡ true → (oneOf cs x ≡ true → f x ≡ true) → f x ≡ true
-    by true e k ih = ap f (eqb-true x c e) ∙ and-left (f c) (every f cs) a
-    by false e k ih = ih k
-
-abbrev named : ℕ → ℕ → Bool
-named u t = ltb (caseOf t u) 8
-
-case-named : (t u : ℕ) → oneOf (2 ∷ 4 ∷ 5 ∷ 6 ∷ []) t ≡ true → u ≤ 1 → caseOf t u < 8
-unfolding caseOf layouts
-case-named t zero h l = ltb-true _ 8 (every-one (named 0) (2 ∷ 4 ∷ 5 ∷ 6 ∷ []) t refl h)
-case-named t (suc zero) h l = ltb-true _ 8 (every-one (named 1) (2 ∷ 4 ∷ 5 ∷ 6 ∷ []) t refl h)
-case-named t (suc (suc u)) h l = absurd (omega arith)
 
 -- a value stores one number at least
 abbrev stores : ℕ → Bool
@@ -105,37 +61,19 @@ stored-bounds c n e l u =
       most = mul-le-mul u (numbersOf-few c);
     }
 
--- the first of fields that pass, and those after it
-module _ (at : ℕ) (line : List ℕ) where
-  first-kept : (w : ℕ) (r : Rule) (fs : List Field) → ((v : ℕ) → keeps r (negsuc v) ≡ false) → fieldsFault (I w r ∷ fs) at line .number ≡ 0
-      → keeps r (pos (natural (integerItem (integerOf (take w (drop at line)))))) ≡ true
-  unfolding fieldsFault fieldNumber mayBlank
-  first-kept w r fs m h =
-      let i : Integer = integerOf (take w (drop at line)) in
-      kept r m i (orElse-first (integerNumber r false i) (at + 1) (fieldsFault fs (at + w) line) h)
-
-  others-kept : (f : Field) (fs : List Field) → fieldsFault (f ∷ fs) at line .number ≡ 0 → fieldsFault fs (at + f .width) line .number ≡ 0
-  unfolding fieldsFault
-  others-kept f fs h = orElse-then (fieldNumber (f .form) (mayBlank (f .form) line) (take (f .width) (drop at line))) (at + 1) (fieldsFault fs (at + f .width) line) h
-
-fields-passed : (r : Row) (line : List ℕ) → rowRefusal r line .number ≡ 0 → fieldsFault (r .fields) 0 line .number ≡ 0
-unfolding rowRefusal fieldsRefusal
-fields-passed r line h =
-    let f : Refusal = fieldsFault (r .fields) 0 line in
-    orElse-first (f .number) (f .column) _ (orElse-first _ _ (conditionFault r line) h)
-
 -- line 7 says both, where it passes
-seventh-bounds : (line : List ℕ) → rowRefusal (recordOf dataForm) line .number ≡ 0 → Bounds (caseIn line) (storedIn line)
-unfolding recordOf records numberIn caseIn countIn storedIn keeps
-seventh-bounds line h =
-    let a = fields-passed (recordOf dataForm) line h in
-    let b = others-kept 0 line (I 10 ordinateType) _ a in
-    let c = others-kept 10 line (I 10 count) _ b in
-    let t : oneOf (2 ∷ 4 ∷ 5 ∷ 6 ∷ []) (numberIn 0 10 line) ≡ true = first-kept 0 line 10 ordinateType _ (λ v. refl) a in
-    let n : leb 1 (numberIn 10 20 line) && leb (numberIn 10 20 line) 65536 ≡ true = first-kept 10 line 10 count _ (λ v. refl) b in
-    let u : leb 0 (numberIn 20 30 line) && leb (numberIn 20 30 line) 1 ≡ true = first-kept 20 line 10 spacing _ (λ v. refl) c in
-    stored-bounds (caseIn line) (numberIn 10 20 line) (case-named _ _ t (leb-true _ 1 (and-right (leb 0 (numberIn 20 30 line)) _ u)))
-    (leb-true 1 _ (and-left (leb 1 (numberIn 10 20 line)) _ n)) (leb-true _ 65536 (and-right (leb 1 (numberIn 10 20 line)) _ n))
+seventh-fits : total (map (λ (f : Field). f .width) (recordOf dataForm .fields)) ≤ 80
+unfolding recordOf records total
+seventh-fits = omega arith
+
+seventh-bounds : (cs : List ℕ) → rowRefusal (recordOf dataForm) (filled cs) .number ≡ 0 → Bounds (caseIn (filled cs)) (storedIn (filled cs))
+unfolding storedBy
+seventh-bounds cs h =
+    let is : List Item = itemsOf (recordOf dataForm .fields) 0 (filled cs) in
+    let w : Written (recordOf dataForm) is (filled cs) = written-sound (filled cs) (filled-length cs) (recordOf dataForm) seventh-fits h in
+    let e = declares-items (filled cs) in
+    let m = record-counted is (filled cs) w in
+    rw (e .case, e .stored) (stored-bounds (caseBy is) (countBy is) (record-case is (filled cs) w) (m .0) (m .1))
 
 -- before the eleventh line has come a record is due
 abbrev some-record : ℕ → Bool
@@ -157,21 +95,21 @@ module _ (n : ℕ) (d : Due) (s : Stood n d) (h : n < headerLines) where
   unfolding mayClose
   not-closed = rw (lt-leb noRecord (recordDue d) due-below) refl
 
-  module _ (l : List ℕ) (p : rowRefusal (rowDue d) l .number ≡ 0) where
-    after-record : after d l ≡ pick (eqb n lineSeven) (due kind58 beforeAxes (caseIn l) (storedIn l) 0) (next d)
-    after-record = after-58 d l (s .kind) due-below ∙ rw (s .at) refl
+  module _ (cs : List ℕ) (p : rowRefusal (rowDue d) (filled cs) .number ≡ 0) where
+    after-record : after d (filled cs) ≡ pick (eqb n lineSeven) (due kind58 beforeAxes (caseIn (filled cs)) (storedIn (filled cs)) 0) (next d)
+    after-record = after-58 d (filled cs) (s .kind) due-below ∙ rw (s .at) refl
 
-    after-seventh : n ≡ lineSeven → Bounds (caseIn l) (storedIn l)
+    after-seventh : n ≡ lineSeven → Bounds (caseIn (filled cs)) (storedIn (filled cs))
     unfolding sequence typedSets
     after-seventh e =
         let r : recordDue d ≡ dataForm = due-record ∙ rw e refl in
-        let q : rowRefusal (rowDue d) l ≡ rowRefusal (recordOf dataForm) l = rowRefusal-record d l due-below ∙ ap (λ (x : ℕ). rowRefusal (recordOf x) l) r in
-        seventh-bounds l (rw q at p)
+        let q : rowRefusal (rowDue d) (filled cs) ≡ rowRefusal (recordOf dataForm) (filled cs) = rowRefusal-record d (filled cs) due-below ∙ ap (λ (x : ℕ). rowRefusal (recordOf x) (filled cs)) r in
+        seventh-bounds cs (rw q at p)
 
-    pub after-stood : Stood (n + 1) (after d l)
+    pub after-stood : Stood (n + 1) (after d (filled cs))
     after-stood = rw after-record (by (eqb n lineSeven) refl)
       where
-        by : (t : Bool) → eqb n lineSeven ≡ t → Stood (n + 1) (pick t (due kind58 beforeAxes (caseIn l) (storedIn l) 0) (next d))
+        by : (t : Bool) → eqb n lineSeven ≡ t → Stood (n + 1) (pick t (due kind58 beforeAxes (caseIn (filled cs)) (storedIn (filled cs)) 0) (next d))
         by true e =
             let x : n ≡ lineSeven = eqb-true n lineSeven e in
             record { kind = refl; at = omega arith; second = refl; bounds = λ k. after-seventh x }
@@ -277,12 +215,12 @@ module _ (d : Due) (n : ℕ) (l : List ℕ) (ls : List (List ℕ)) (rest : List 
   -- line 7 says the case and how many numbers are stored; no later line does
   seventh-says : n < headerLines → Taken d l → n ≡ lineSeven → Says (columnsIn l) later
   seventh-says h t e =
-      let x : later ≡ due kind58 beforeAxes (caseIn (columnsIn l)) (storedIn (columnsIn l)) 0 = after-record n d s h (columnsIn l) (t .row) ∙ rw (eq-eqb n lineSeven e) refl in
+      let x : later ≡ due kind58 beforeAxes (caseIn (columnsIn l)) (storedIn (columnsIn l)) 0 = after-record n d s h (columns true l) (t .row) ∙ rw (eq-eqb n lineSeven e) refl in
       rw x (record { case = refl; left = refl })
 
   later-kept : n < headerLines → Taken d l → (n ≡ lineSeven → ⊥) → (later .case ≡ d .case) × (later .left ≡ d .left)
   later-kept h t e =
-      let x : later ≡ next d = after-record n d s h (columnsIn l) (t .row) ∙ rw (ne-eqb n lineSeven e) refl in
+      let x : later ≡ next d = after-record n d s h (columns true l) (t .row) ∙ rw (ne-eqb n lineSeven e) refl in
       rw x (refl, refl)
 
   line-says : n < headerLines → Taken d l → (r : Ran later (n + 1) ls rest) → n ≤ lineSeven → Says (columnsIn (getD (l ∷ ls) (lineSeven - n) [])) (r .due)
@@ -321,7 +259,7 @@ module _ (d : Due) (n : ℕ) (l : List ℕ) (ls : List (List ℕ)) (rest : List 
           not-passed (pastNumber m) (n + 1) ls rest (past-some m) (rw (le-ltb n headerLines h) at k)
 
       met : n < headerLines → Met d l → Ran d n (l ∷ ls) rest
-      met h (taken t) = run-taken h t (ih (after-stood n d s h (columnsIn l) (t .row)) (omega arith) (rw (lt-ltb n headerLines h, t .step) at k))
+      met h (taken t) = run-taken h t (ih (after-stood n d s h (columns true l) (t .row)) (omega arith) (rw (lt-ltb n headerLines h, t .step) at k))
       met h (stopped f e p) = not-passed (f .number) (n + 1) ls rest p (rw (lt-ltb n headerLines h, e) at k)
 
       early : n < headerLines → Ran d n (l ∷ ls) rest

@@ -3,7 +3,7 @@ use mathlib.Core.Path.{refl, _∙_}
 use native.Mathlib.Omega.{arith}
 use Rattle.rows.specs.Records.{noRecord}
 use Rattle.rows.specs.TypedSets.{lineSeven, typedSets, following}
-use Rattle.walk.specs.DueLaws.{following-none, afterRecord-data, afterRecord-trace, afterRecord-orders, afterRecord-next}
+use Rattle.walk.specs.DueLaws.{uncounted, afterRecord-data, afterRecord-trace, afterRecord-orders, afterRecord-next}
 use borrow.Author.Needs.{needs}
 use Rattle.walk.proofs.after_record.Statement.{statement}
 use Rattle.walk.proofs.after_record.Tie as tie
@@ -54,7 +54,7 @@ returns-7 : tie.Need-returns-7
 returns-7 c =
     let at-if3 = c .before .before .before in
     let at-if1 = at-if3 .before .before in
-    c .next-record4 .ensures ∙ afterRecord-next _ _ noRecord (rw (following-none _ (at-if1 .if1 .left) (at-if3 .if3 .left) (c .before .if5 .left)) refl) (λ e. omega arith)
+    c .next-record4 .ensures ∙ afterRecord-next _ _ noRecord (uncounted _ (at-if1 .if1 .left) (at-if3 .if3 .left) (c .before .if5 .left)) (λ e. omega arith)
 
 pub after-record-spec : {M : Type 1} → statement M
 after-record-spec =

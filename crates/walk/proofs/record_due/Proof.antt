@@ -1,7 +1,9 @@
-use Rattle.rows.specs.TypedSets.{sequence, typedSets}
+use Rattle.rows.specs.TypedSets.{sequence, typedSets, untyped}
+use Rattle.rows.specs.Tabled.{Differs}
+use Rattle.rows.specs.TabledLaws.{past}
 use Rattle.walk.specs.DueLaws.{recordDue-sequence, recordDue-kind-past}
 use mathlib.Core.Path.{refl, sym, _∙_}
-use native.Mathlib.Omega.{arith}
+use Prim.{tt}
 use borrow.Author.Needs.{needs}
 use Rattle.walk.proofs.record_due.Statement.{statement}
 use Rattle.walk.proofs.record_due.Tie as tie
@@ -76,7 +78,13 @@ returns-5 c = c .record-at5 .ensures ∙ recordDue-sequence _ _ 4 refl (c .befor
 
 -- src/lib.rt:136:1
 returns-6 : tie.Need-returns-6
-returns-6 c = sym (recordDue-kind-past _ (omega (arith, c .if5 .left)))
+unfolding Differs
+returns-6 c =
+    let at-if4 = c .before .before in
+    let at-if3 = at-if4 .before .before in
+    let at-if2 = at-if3 .before .before in
+    let at-if1 = at-if2 .before .before in
+    sym (recordDue-kind-past _ (past untyped _ (((((tt, at-if1 .if1 .left), at-if2 .if2 .left), at-if3 .if3 .left), at-if4 .if4 .left), c .if5 .left)))
 
 pub record-due-spec : {M : Type 1} → statement M
 record-due-spec =
