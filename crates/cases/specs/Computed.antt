@@ -19,12 +19,12 @@ use Rattle.line.specs.Line.{isAllowed, withoutReturn, columns, firstBad, lineFa
 use Rattle.kind.specs.Kind.{thenBlank, isDelimiter, datasetNumber}
 use Rattle.codes.specs.Rule.{keeps}
 use Rattle.layout.specs.Columns as C
-use Rattle.layout.specs.Layout.{layouts, layoutOf, fieldsOf, caseOf, numbersOf}
+use Rattle.layout.specs.Layout.{layouts, layoutOf, fieldsOf, caseFor, numbersOf}
 use Rattle.field.specs.Field.{mayBlank, fieldNumber}
 use Rattle.rows.specs.Row.{firstNotAbove, breach}
 use Rattle.rows.specs.Records.{records, recordOf, dataRow}
 use Rattle.rows.specs.TypedSets.{kindOf, isTyped, typedSets, sequence, following}
-use Rattle.record.specs.Check.{fieldsFault, firstByte, stray, itemsOf, conditionFault, fieldsRefusal, rowRefusal}
+use Rattle.record.specs.Check.{fieldsFault, firstNonBlank, stray, itemsOf, conditionFault, fieldsRefusal, rowRefusal}
 use Rattle.record.specs.Declared.{numberIn, caseIn, countIn, naturalAt, caseBy, countBy, storedBy}
 use Rattle.walk.specs.Due.{recordDue, listRow, mayClose, mayContinue, rowDue, settled, afterRecord, afterList, afterItems}
 use Rattle.walk.specs.Step.{opened, outsideStep, numberStep, plainStep, typedStep, stepOf}
@@ -41,12 +41,12 @@ use Rattle.header.specs.Header.{headerOf}
 use Rattle.writer.specs.Writer.{decimalsOf, widthAt, fitsAt, firstUnfit, dataText, writtenSet, laidReply, writeReply}
 
 unfoldable pub computed-judge : List ℕ → Reply
-unfolding judged judge over cut run allBlank trimmed isDigit I.push stepInteger endInteger integerOf R.push R.next R.onCoefficient R.onExponent R.onDigit R.onSign R.onPoint R.onLetter R.onBlank R.isLetter R.scanStep R.realEnd R.realOf isAllowed withoutReturn columns firstBad lineFault filled thenBlank isDelimiter datasetNumber keeps C.fieldStart layouts layoutOf caseOf numbersOf mayBlank fieldNumber firstNotAbove breach records recordOf dataRow kindOf isTyped typedSets sequence following fieldsFault firstByte stray itemsOf conditionFault fieldsRefusal rowRefusal recordDue listRow mayClose mayContinue rowDue settled naturalAt caseBy countBy storedBy numberIn caseIn countIn afterRecord afterList afterItems opened outsideStep numberStep plainStep typedStep stepOf lineStep
+unfolding judged judge over cut run allBlank trimmed isDigit I.push stepInteger endInteger integerOf R.push R.next R.onCoefficient R.onExponent R.onDigit R.onSign R.onPoint R.onLetter R.onBlank R.isLetter R.scanStep R.realEnd R.realOf isAllowed withoutReturn columns firstBad lineFault filled thenBlank isDelimiter datasetNumber keeps C.fieldStart layouts layoutOf caseFor numbersOf mayBlank fieldNumber firstNotAbove breach records recordOf dataRow kindOf isTyped typedSets sequence following fieldsFault firstNonBlank stray itemsOf conditionFault fieldsRefusal rowRefusal recordDue listRow mayClose mayContinue rowDue settled naturalAt caseBy countBy storedBy numberIn caseIn countIn afterRecord afterList afterItems opened outsideStep numberStep plainStep typedStep stepOf lineStep
 computed-judge file = judged file
 
 unfoldable pub computed-number : List ℕ → ℕ → ℕ → Said Shown
-unfolding computed-judge P.closes P.bytesIn P.partsFrom P.partsOf P.numberOf P.lineStart P.lineOf F.caseOf F.countOf F.storedOf F.dataLine F.firstByte F.pastByte fieldsOf C.lineOf C.fieldOf C.fieldPast Reader.readIn Reader.setsFrom Reader.numberOf
-computed-number file set index = Reader.numberOf file set index
+unfolding computed-judge P.closes P.bytesIn P.partsFrom P.partsOf P.datasetOf P.lineStart P.lineOf F.partCase F.countOf F.storedOf F.dataLine F.firstByte F.pastByte fieldsOf C.lineOf C.fieldOf C.fieldPast Reader.readIn Reader.setsFrom Reader.storedNumber
+computed-number file set index = Reader.storedNumber file set index
 
 unfoldable pub computed-list : List ℕ → ℕ → Reply
 unfolding computed-number F.dataStart P.pastOf P.throughOf entry rowsOf listReply listRows

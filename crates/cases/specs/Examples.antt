@@ -58,8 +58,8 @@ unfolding computed-rewrite
 untidy-rewritten = refl
 
 -- real, abscissa and real, complex pair, abscissa and complex pair, twice
-pub kinds : map Reader.kindOf (0 ◂ 1 ◂ 2 ◂ 3 ◂ 4 ◂ 5 ◂ 6 ◂ 7 ◂ L.[]) ≡ 1 ◂ 3 ◂ 2 ◂ 4 ◂ 1 ◂ 3 ◂ 2 ◂ 4 ◂ L.[]
-unfolding layouts layoutOf Reader.kindOf Reader.isComplex Reader.isUneven
+pub kinds : map Reader.valueKind (0 ◂ 1 ◂ 2 ◂ 3 ◂ 4 ◂ 5 ◂ 6 ◂ 7 ◂ L.[]) ≡ 1 ◂ 3 ◂ 2 ◂ 4 ◂ 1 ◂ 3 ◂ 2 ◂ 4 ◂ L.[]
+unfolding layouts layoutOf Reader.valueKind Reader.isComplex Reader.isUneven
 kinds = refl
 
 -- a header, by its line 7; with blanks at the end of a line

@@ -7,7 +7,7 @@ use Prim.Native.Nat.{ℕ}
 use lib.IntN.{ℤ, pos, negsuc, natAbs}
 use Rattle.real.specs.Real.{belowZero}
 use Rattle.judge.specs.Judge.{judged}
-use Rattle.reader.specs.Reader.{Said, said, Shown, shown, numberOf}
+use Rattle.reader.specs.Reader.{Said, said, Shown, shown, storedNumber}
 use Rattle.cases.specs.Files.{none, _⊕_, closing, plain, function, measured}
 use Rattle.cases.specs.Computed.{computed-number}
 
@@ -18,7 +18,7 @@ pub data Question : Type 0 where
 
 abbrev pub reply : Question → Said Shown
 reply (judges f) = said (judged f .number) (judged f .place) L.[]
-reply (asks f s j) = numberOf f s j
+reply (asks f s j) = storedNumber f s j
 
 pub record Case : Type 0 where
   pub question : Question

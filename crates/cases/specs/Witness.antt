@@ -3,9 +3,8 @@ use mathlib.Core.Path.{_≡_, refl}
 use mathlib.Core.List as L
 use mathlib.Core.List.{List}
 use Prim.Native.Nat.{ℕ}
-use Rattle.judge.specs.declared.Reply.{Reply}
 use Rattle.judge.specs.Judge.{reply, judged}
-use Rattle.cases.specs.Files.{none, _⊕_, closing, example}
+use Rattle.cases.specs.Files.{none, _⊕_, example}
 use Rattle.cases.specs.Computed.{computed-judge}
 
 -- an accepted file and the number of its lines

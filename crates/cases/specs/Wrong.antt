@@ -10,7 +10,7 @@ use lib.ListN.{drop}
 use Rattle.laws.specs.Choice.{pick}
 use Rattle.judge.specs.declared.Reply.{Reply}
 use Rattle.judge.specs.Judge.{judged}
-use Rattle.reader.specs.Reader.{Said, said, Shown, shown, numberOf}
+use Rattle.reader.specs.Reader.{Said, said, Shown, shown, storedNumber}
 use Rattle.cases.specs.Files.{none, _⊕_, closing, measured}
 use Rattle.cases.specs.Computed.{computed-number}
 
@@ -21,7 +21,7 @@ touching =
     (" -1.000000000000E-01-12.00000000000E-001" ⊕ closing)
 
 -- its second number
-touching-second : numberOf touching 1 1 ≡ said 0 0 (L._∷_ (shown 428 448 true 1200000000000 true 12) L.[])
+touching-second : storedNumber touching 1 1 ≡ said 0 0 (L._∷_ (shown 428 448 true 1200000000000 true 12) L.[])
 unfolding computed-number
 touching-second = refl
 
@@ -38,7 +38,7 @@ past s = firstPast (s .shown)
     firstPast L.[] = 0
     firstPast (L._∷_ x xs) = x .past
 
-pub by-blanks : past (numberOf touching 1 0) ≡ runEnd (drop 409 touching) 409 → ⊥
+pub by-blanks : past (storedNumber touching 1 0) ≡ runEnd (drop 409 touching) 409 → ⊥
 unfolding computed-number
 by-blanks e = let z : _≡_ {A = ℕ} 428 448 = e in omega arith
 

@@ -22,13 +22,13 @@ magnitudeOf c true k = div binary64 (ofInt binary64 (pos c)) (tenOf k)
 magnitudeOf c false k = mul binary64 (ofInt binary64 (pos c)) (tenOf k)
 
 -- the sign (true: minus) put on
-abbrev pub signed : Bool → Float → Float
-signed true x = neg x
-signed false x = x
+abbrev pub withSign : Bool → Float → Float
+withSign true x = neg x
+withSign false x = x
 
 -- of a sign (true: minus), a coefficient, whether the scale is below zero, and the scale's size
 unfoldable pub exactOf : Bool → ℕ → Bool → ℕ → Exact
-exactOf n c b k = pick (leb c 9007199254740992) (pick (leb k 22) (Value (signed n (magnitudeOf c b k))) Outside) Outside
+exactOf n c b k = pick (leb c 9007199254740992) (pick (leb k 22) (Value (withSign n (magnitudeOf c b k))) Outside) Outside
 
 -- the f64 is the number n
 abbrev pub Is : Float → ℕ → Type 0

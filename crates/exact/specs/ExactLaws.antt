@@ -17,7 +17,7 @@ use Rattle.laws.specs.Choice.{pick}
 use Rattle.laws.specs.RangesLaws.{in-range}
 use Rattle.laws.specs.TableLaws.{agree-below}
 use Rattle.exact.specs.declared.Exact.the-variants.{Value, Outside}
-use Rattle.exact.specs.Exact.{tenOf, magnitudeOf, signed, exactOf, Is}
+use Rattle.exact.specs.Exact.{tenOf, magnitudeOf, withSign, exactOf, Is}
 
 -- a number below 2^53 times a power of two is an f64
 ofInt-exact : (n q j : ℕ) → q < 2 ^ 53 → j ≤ 53 → n ≡ q * 2 ^ j → Is (ofInt binary64 (pos n)) n
@@ -100,7 +100,7 @@ round-number : (f : Format) (s : Bool) (n d : ℕ) → isNan (round f s n d) ≡
 unfolding round
 round-number f s n d = units-number f s _ _
 
-signed-number : (n : Bool) (x : Float) → isNan x ≡ false → isNan (signed n x) ≡ false
+signed-number : (n : Bool) (x : Float) → isNan x ≡ false → isNan (withSign n x) ≡ false
 unfolding neg isNan
 signed-number false x h = h
 signed-number true nan h = h
@@ -115,9 +115,9 @@ pub exactOf-number : (n : Bool) (c : ℕ) (b : Bool) (k : ℕ) (x : Float) → e
 unfolding exactOf
 exactOf-number n c b k x e = go (leb c 9007199254740992) (leb k 22) refl refl e
   where
-    go : (s t : Bool) → leb c 9007199254740992 ≡ s → leb k 22 ≡ t → pick s (pick t (Value (signed n (magnitudeOf c b k))) Outside) Outside ≡ Value x → isNan x ≡ false
+    go : (s t : Bool) → leb c 9007199254740992 ≡ s → leb k 22 ≡ t → pick s (pick t (Value (withSign n (magnitudeOf c b k))) Outside) Outside ≡ Value x → isNan x ≡ false
     go true true p q h =
-        let z : signed n (magnitudeOf c b k) ≡ x = cc in
+        let z : withSign n (magnitudeOf c b k) ≡ x = cc in
         rw (← z) (signed-number n (magnitudeOf c b k) (magnitudeOf-number c b k (leb-true _ _ p) (leb-true _ _ q)))
     go true false p q h = let z : _≡_ {A = ℕ} 0 1 = cc in absurd (omega arith)
     go false t p q h = let z : _≡_ {A = ℕ} 0 1 = cc in absurd (omega arith)

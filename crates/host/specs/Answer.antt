@@ -5,7 +5,7 @@ use Prim.Native.Nat.{ℕ, _-_, _%_}
 use lib.Dec.{ltb}
 use lib.Ieee.{Float}
 use lib.IntN.{ℤ, pos, negsuc}
-use lib.ListN.{length, take, drop}
+use lib.ListN.{length, drop}
 use Rattle.laws.specs.Choice.{pick}
 use Rattle.exact.specs.Bits.{bitsOf}
 use Rattle.output.specs.Output.{bytesOf}

@@ -13,7 +13,7 @@ ghost use Rattle.lister.specs.Lister.{listReply, listRows};
 ghost use Rattle.rewriter.specs.Rewriter.{rewriteReply, rewriteOut};
 ghost use Rattle.values.specs.Values.{allReply, allPlaces};
 ghost use Rattle.writer.specs.Writer.{writeReply, writeOut};
-ghost use Rattle.reader.specs.Reader.{said, shown, paper, paperNumber, numberOf, valueOf};
+ghost use Rattle.reader.specs.Reader.{said, shown, paper, paperNumber, storedNumber, valueOf};
 use exact::bits;
 use judge::Reply;
 use laws::wide;
@@ -122,7 +122,7 @@ fn answer_number(out: &mut [u8], a: NumberAnswer) -> u64
 // Document 01's reader: a stored number by its set, counted from 1, and its index, counted from 0.
 #[no_mangle]
 pub extern "C" fn uff_number(file: &[u8], set: u32, index: u32, out: &mut [u8]) -> u64
-    ensures { λ r. ⌜ (r ≡ replyFor (numberAnswer (numberOf (now (file .entry)) set index)) (length (now (out .entry)))) × (now (out .exit) ≡ bytesAfter (numberAnswer (numberOf (now (file .entry)) set index)) (now (out .entry))) ⌝ }
+    ensures { λ r. ⌜ (r ≡ replyFor (numberAnswer (storedNumber (now (file .entry)) set index)) (length (now (out .entry)))) × (now (out .exit) ≡ bytesAfter (numberAnswer (storedNumber (now (file .entry)) set index)) (now (out .entry))) ⌝ }
 {
     answer_number(out, reader::number(file, set, index))
 }

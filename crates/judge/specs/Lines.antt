@@ -8,7 +8,7 @@ use Rattle.laws.specs.Choice.{pick}
 use Rattle.laws.specs.Cut.{cut, over}
 use Rattle.walk.specs.declared.State.{State}
 use Rattle.judge.specs.declared.Lines.{Lines}
-use Rattle.judge.specs.Judge.{Run, going, refused, reply, runStep, runEnd}
+use Rattle.judge.specs.Judge.{Run, going, refused, reply, runStep}
 
 -- a run, from the fields of a record
 abbrev pub runOf : State → ℕ → ℕ → Run

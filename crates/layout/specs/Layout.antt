@@ -44,8 +44,8 @@ abbrev pub firstCase : ℕ → ℕ → ℕ → List Layout → ℕ
 firstCase t s k [] = 8
 firstCase t s k (l ∷ ls) = pick (eqb t (l .ordinate) && eqb s (l .spacing)) k (firstCase t s (suc k) ls)
 
-unfoldable pub caseOf : ℕ → ℕ → ℕ
-caseOf t s = firstCase t s 0 layouts
+unfoldable pub caseFor : ℕ → ℕ → ℕ
+caseFor t s = firstCase t s 0 layouts
 
 -- "A value stores its abscissa first where uneven, then its real part, then its imaginary part": the numbers in a value, by
 -- spacing and by ordinate type (5 and 6 are complex)

@@ -15,7 +15,7 @@ use Rattle.laws.specs.Table.{tabulate}
 use Rattle.laws.specs.TableLaws.{table-at}
 use Rattle.layout.specs.Columns.{fieldStart, fieldPast, total}
 use Rattle.layout.specs.ColumnsLaws.{fieldPast-total, fieldStart-total}
-use Rattle.layout.specs.Layout.{Layout, layouts, layoutOf, fieldsOf, valuesOf, numbersOf, printed, cellOf, layout, caseOf, shape, shape-printed}
+use Rattle.layout.specs.Layout.{Layout, layouts, layoutOf, fieldsOf, valuesOf, numbersOf, printed, cellOf, layout, caseFor, shape, shape-printed}
 
 pub layouts-printed : map shape layouts ≡ map shape-printed printed
 unfolding layouts printed
@@ -23,10 +23,10 @@ layouts-printed = refl
 
 -- a case is found by its ordinate type and its spacing
 abbrev found : ℕ → Bool
-found c = eqb (caseOf (layoutOf c .ordinate) (layoutOf c .spacing)) c
+found c = eqb (caseFor (layoutOf c .ordinate) (layoutOf c .spacing)) c
 
-pub caseOf-layout : (c : ℕ) → c < 8 → caseOf (layoutOf c .ordinate) (layoutOf c .spacing) ≡ c
-unfolding caseOf layoutOf layouts
+pub caseOf-layout : (c : ℕ) → c < 8 → caseFor (layoutOf c .ordinate) (layoutOf c .spacing) ≡ c
+unfolding caseFor layoutOf layouts
 caseOf-layout c h = eqb-true _ _ (in-range found true 0 8 c refl (omega arith) (omega arith))
 
 -- a case's fields fill no more than 80 columns, there is one at least, and they are the numbers of its values

@@ -3,7 +3,7 @@ ghost use mathlib.Core.Path.{_≡_};
 ghost use lib.ListN.{getD};
 ghost use Rattle.laws.specs.Table.{tabulate};
 ghost use Rattle.layout.specs.Columns.{fieldStart};
-ghost use Rattle.layout.specs.Layout.{layoutOf, fieldsOf, valuesOf, caseOf, numbersOf, cellOf};
+ghost use Rattle.layout.specs.Layout.{layoutOf, fieldsOf, valuesOf, caseFor, numbersOf, cellOf};
 use laws::index;
 
 // A row a case: the widths of a full line's fields (0 past the last), how many fields, how many values.
@@ -20,7 +20,7 @@ pub const LAYOUTS: [[u8; 8]; 8] = [
 
 // The case, counted from 0, of an ordinate type and a spacing (1 even, 0 uneven); 8 where there is none.
 pub fn case_of(ordinate_type: u32, spacing: u32) -> usize
-    ensures { λ r. ⌜ r ≡ caseOf «ordinate_type» spacing ⌝ }
+    ensures { λ r. ⌜ r ≡ caseFor «ordinate_type» spacing ⌝ }
 {
     if ordinate_type == 2 {
         if spacing == 1 {

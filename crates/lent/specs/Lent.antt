@@ -10,7 +10,6 @@ use Rattle.laws.specs.Choice.{pick}
 use Rattle.walk.specs.declared.Due.{Due}
 use Rattle.walk.specs.declared.Place.{Place}
 use Rattle.walk.specs.declared.Place.the-variants.{Outside, Number, Plain, Typed}
-use Rattle.walk.specs.declared.State.{State}
 use Rattle.walk.specs.Step.{state}
 use Rattle.judge.specs.declared.Reply.{Reply}
 use Rattle.judge.specs.Judge.{reply}

@@ -9,7 +9,7 @@ ghost use Prim.Native.Nat.{_≤_};
 ghost use lib.Dec.{ltb};
 ghost use lib.ListN.{length, drop};
 ghost use Rattle.laws.specs.Choice.{pick};
-ghost use Rattle.lent.specs.Lent.{numbersRoom, lineRoom, isShort, byteOf, dueOf, placeOf, streamOf, placeNumbers, unusedNumbers, unusedBytes, Fits, numbersAfter, lineAfter, startReply, startNumbers, startLine, endOf, endNumbers, same, Burst};
+ghost use Rattle.lent.specs.Lent.{numbersRoom, lineRoom, byteOf, dueOf, placeOf, streamOf, placeNumbers, unusedNumbers, unusedBytes, Fits, numbersAfter, lineAfter, startReply, startNumbers, startLine, endOf, endNumbers, same, Burst};
 ghost use Rattle.stream.specs.Stream.{paper};
 use judge::Reply;
 use output::put_text;

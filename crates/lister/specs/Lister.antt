@@ -8,13 +8,13 @@ use lib.ListN.{length, drop}
 use Rattle.laws.specs.Choice.{pick}
 use Rattle.judge.specs.declared.Reply.{Reply}
 use Rattle.judge.specs.Judge.{judged, reply}
-use Rattle.parts.specs.Parts.{Part, partsOf, numberOf, pastOf}
+use Rattle.parts.specs.Parts.{Part, partsOf, datasetOf, pastOf}
 use Rattle.parts.specs.Function.{countOf, dataStart}
 use Rattle.parts.specs.declared.Extent.{Extent}
 
 -- the six numbers of a set
 unfoldable pub entry : Part → List ℕ
-entry p = suc (p .lines) ∷ numberOf p ∷ countOf p ∷ p .bytes ∷ pastOf p ∷ dataStart p ∷ []
+entry p = suc (p .lines) ∷ datasetOf p ∷ countOf p ∷ p .bytes ∷ pastOf p ∷ dataStart p ∷ []
 
 unfoldable pub rowsOf : List Part → List ℕ
 rowsOf [] = []

@@ -15,7 +15,7 @@ use borrow.Author.Tests.{lt-ltb, le-ltb}
 use Rattle.judge.specs.declared.Reply.{Reply}
 use Rattle.judge.specs.Judge.{judged, reply}
 use Rattle.parts.specs.declared.Extent.{Extent}
-use Rattle.parts.specs.Parts.{Part, partsOf, numberOf, lineStart, closingStart, pastOf, throughOf, lineOf}
+use Rattle.parts.specs.Parts.{Part, partsOf, datasetOf, lineStart, closingStart, pastOf, throughOf, lineOf}
 use Rattle.parts.specs.Function.{countOf, dataStart}
 use Rattle.parts.specs.FunctionLaws.{lineFrom-own}
 use Rattle.parts.specs.Scan.{firstOf, skipTo, lineFrom}
@@ -55,7 +55,7 @@ six (x₀ ∷ x₁ ∷ x₂ ∷ x₃ ∷ x₄ ∷ []) a b c d e f h = absurd (om
 six (x₀ ∷ x₁ ∷ x₂ ∷ x₃ ∷ x₄ ∷ x₅ ∷ x₆ ∷ xs) a b c d e f h = absurd (omega arith)
 
 -- the numbers by where a set stands are its own
-entryAt-of : (file : List ℕ) (e : Extent) (p : Part) → e .lines ≡ p .lines → e .first ≡ p .bytes → e .number ≡ numberOf p → e .body ≡ lineStart p 0
+entryAt-of : (file : List ℕ) (e : Extent) (p : Part) → e .lines ≡ p .lines → e .first ≡ p .bytes → e .number ≡ datasetOf p → e .body ≡ lineStart p 0
     → e .closing ≡ closingStart p → e .past ≡ pastOf p → lineFrom (closingStart p) (lineStart p 0) file lineSeven ≡ lineOf p lineSeven
     → skipTo headerLines (closingStart p) (lineStart p 0) (cut (drop (lineStart p 0) file) .lines) ≡ lineStart p headerLines → entryAt file e ≡ entry p
 unfolding entryAt entry declaredAt dataAt countOf dataStart

@@ -9,8 +9,8 @@ use Rattle.record.specs.Declared.{caseIn, countIn}
 use Rattle.parts.specs.Parts.{Part, isFunction, lineStart, lineOf}
 
 -- its case, from its line 7, from 0
-unfoldable pub caseOf : Part → ℕ
-caseOf p = caseIn (lineOf p lineSeven)
+unfoldable pub partCase : Part → ℕ
+partCase p = caseIn (lineOf p lineSeven)
 
 -- "declared count", from its line 7; 0 unless it is a 58
 unfoldable pub countOf : Part → ℕ
@@ -18,7 +18,7 @@ countOf p = pick (isFunction p) (countIn (lineOf p lineSeven)) 0
 
 -- how many numbers it stores
 unfoldable pub storedOf : Part → ℕ
-storedOf p = countOf p * numbersOf (caseOf p)
+storedOf p = countOf p * numbersOf (partCase p)
 
 -- "first byte of the data lines", which eleven lines come before; 0 unless it is a 58
 unfoldable pub dataStart : Part → ℕ
@@ -26,11 +26,11 @@ dataStart p = pick (isFunction p) (lineStart p headerLines) 0
 
 -- the first byte of the data line of stored number j
 unfoldable pub dataLine : Part → ℕ → ℕ
-dataLine p j = lineStart p (headerLines + Columns.lineOf (fieldsOf (caseOf p)) j)
+dataLine p j = lineStart p (headerLines + Columns.lineOf (fieldsOf (partCase p)) j)
 
 -- the first and the past byte of its own columns
 unfoldable pub firstByte : Part → ℕ → ℕ
-firstByte p j = dataLine p j + Columns.fieldStart (layoutOf (caseOf p) .widths) (Columns.fieldOf (fieldsOf (caseOf p)) j)
+firstByte p j = dataLine p j + Columns.fieldStart (layoutOf (partCase p) .widths) (Columns.fieldOf (fieldsOf (partCase p)) j)
 
 unfoldable pub pastByte : Part → ℕ → ℕ
-pastByte p j = dataLine p j + Columns.fieldPast (layoutOf (caseOf p) .widths) (Columns.fieldOf (fieldsOf (caseOf p)) j)
+pastByte p j = dataLine p j + Columns.fieldPast (layoutOf (partCase p) .widths) (Columns.fieldOf (fieldsOf (partCase p)) j)

@@ -1,5 +1,5 @@
 -- The lines of a set, by where it stands, are its own.
-use mathlib.Core.Path.{_≡_, refl, _∙_}
+use mathlib.Core.Path.{_≡_}
 use mathlib.Core.List.{List}
 use Prim.Native.Nat.{ℕ}
 use Rattle.parts.specs.Scan.{lineFrom}

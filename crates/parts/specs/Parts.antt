@@ -37,25 +37,25 @@ abbrev pub part : ℕ → ℕ → List ℕ → List ℕ → List (List ℕ) → 
 part n at o v ls c = record { lines = n; bytes = at; opening = o; number = v; body = ls; closing = c }
 
 -- where a file stands between two lines: outside sets; after an opening delimiter; inside a set, with its lines so far
-pub data Stand : Type 0 where
-  outside : Stand
-  opened : ℕ → ℕ → List ℕ → Stand
-  inside : ℕ → ℕ → List ℕ → List ℕ → List (List ℕ) → Stand
+pub data PartState : Type 0 where
+  outside : PartState
+  opened : ℕ → ℕ → List ℕ → PartState
+  inside : ℕ → ℕ → List ℕ → List ℕ → List (List ℕ) → PartState
 
 -- after one line more, which n lines and at bytes come before
-abbrev pub next : Stand → ℕ → ℕ → List ℕ → Stand
+abbrev pub next : PartState → ℕ → ℕ → List ℕ → PartState
 next outside n at l = pick (closes l) (opened n at l) outside
 next (opened m b o) n at l = inside m b o l []
 next (inside m b o v ls) n at l = pick (closes l) outside (inside m b o v (ls ++ (l ∷ [])))
 
 -- the set that this line closes, if it closes one
-abbrev pub ended : Stand → List ℕ → List Part
+abbrev pub ended : PartState → List ℕ → List Part
 ended outside l = []
 ended (opened m b o) l = []
 ended (inside m b o v ls) l = pick (closes l) (part m b o v ls l ∷ []) []
 
 -- the sets of lines, which n lines and at bytes come before
-unfoldable pub partsFrom : Stand → ℕ → ℕ → List (List ℕ) → List Part
+unfoldable pub partsFrom : PartState → ℕ → ℕ → List (List ℕ) → List Part
 partsFrom s n at [] = []
 partsFrom s n at (l ∷ ls) = ended s l ++ partsFrom (next s n at l) (suc n) (at + suc (length l)) ls
 
@@ -64,8 +64,8 @@ unfoldable pub partsOf : List ℕ → List Part
 partsOf file = partsFrom outside 0 0 (cut file .lines)
 
 -- its dataset number
-unfoldable pub numberOf : Part → ℕ
-numberOf p = datasetNumber (columnsIn (p .number))
+unfoldable pub datasetOf : Part → ℕ
+datasetOf p = datasetNumber (columnsIn (p .number))
 
 -- the first byte of its line k, from 0
 unfoldable pub lineStart : Part → ℕ → ℕ
@@ -88,7 +88,7 @@ throughOf p = p .lines + length (p .opening ∷ p .number ∷ (p .body ++ (p .cl
 
 -- whether it is a 58
 abbrev pub isFunction : Part → Bool
-isFunction p = eqb (numberOf p) 58
+isFunction p = eqb (datasetOf p) 58
 
 -- the lines of a file from the byte at on, past those given
 pub record Past (f : List ℕ) (at : ℕ) (pre post : List (List ℕ)) : Type 0 where

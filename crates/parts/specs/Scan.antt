@@ -11,7 +11,7 @@ use Rattle.laws.specs.Choice.{pick}
 use Rattle.kind.specs.Kind.{datasetNumber}
 use Rattle.parts.specs.declared.Seen.{Seen}
 use Rattle.parts.specs.declared.Extent.{Extent}
-use Rattle.parts.specs.Parts.{columnsIn, closes, Part, numberOf, lineStart, closingStart, pastOf, throughOf, bytesIn, Stand, outside, opened, inside}
+use Rattle.parts.specs.Parts.{columnsIn, closes, Part, datasetOf, lineStart, closingStart, pastOf, throughOf, bytesIn, PartState, outside, opened, inside}
 
 abbrev pub seen : ℕ → ℕ → ℕ → ℕ → ℕ → Seen
 seen p n at v b = record { place = p; lines = n; first = at; number = v; body = b }
@@ -26,7 +26,7 @@ nowhere = record { found = false; lines = 0; first = 0; number = 0; body = 0; cl
 -- where the first of these sets stands
 unfoldable pub firstOf : List Part → Extent
 firstOf [] = nowhere
-firstOf (p ∷ ps) = extent (p .lines) (p .bytes) (numberOf p) (lineStart p 0) (closingStart p) (pastOf p) (throughOf p)
+firstOf (p ∷ ps) = extent (p .lines) (p .bytes) (datasetOf p) (lineStart p 0) (closingStart p) (pastOf p) (throughOf p)
 
 -- one line more that closes no set
 unfoldable pub seenStep : Seen → ℕ → ℕ → List ℕ → Seen
@@ -56,13 +56,13 @@ unfoldable pub lineFrom : ℕ → ℕ → List ℕ → ℕ → List ℕ
 lineFrom stop from file k = columnsAt stop (skipTo k stop from (cut (drop from file) .lines)) file
 
 -- what the code keeps of where a file stands
-abbrev pub image : Stand → Seen
+abbrev pub image : PartState → Seen
 image outside = seen 0 0 0 0 0
 image (opened n at o) = seen 1 n at 0 0
 image (inside n at o v ls) = seen 2 n at (datasetNumber (columnsIn v)) (at + bytesIn (o ∷ v ∷ []))
 
 -- as many lines and bytes have come as a set's lines so far are
-abbrev pub Fitting : Stand → ℕ → ℕ → Type 0
+abbrev pub Fitting : PartState → ℕ → ℕ → Type 0
 Fitting outside n at = Unit {0}
 Fitting (opened m b o) n at = (n ≡ suc m) × (at ≡ b + suc (length o))
 Fitting (inside m b o v ls) n at = (n ≡ m + suc (suc (length ls))) × (at ≡ (b + bytesIn (o ∷ v ∷ [])) + bytesIn ls)
@@ -74,7 +74,7 @@ pub record First (ps : List Part) (e : Extent) : Type 0 where
   pub sets : ps ≡ set ∷ others
   pub lines : e .lines ≡ set .lines
   pub first : e .first ≡ set .bytes
-  pub number : e .number ≡ numberOf set
+  pub number : e .number ≡ datasetOf set
   pub body : e .body ≡ lineStart set 0
   pub closing : e .closing ≡ closingStart set
   pub past : e .past ≡ pastOf set

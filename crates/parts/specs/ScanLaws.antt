@@ -14,7 +14,7 @@ use Rattle.laws.specs.ChoiceLaws.{false-not-true}
 use Rattle.kind.specs.Kind.{datasetNumber}
 use Rattle.parts.specs.declared.Seen.{Seen}
 use Rattle.parts.specs.declared.Extent.{Extent}
-use Rattle.parts.specs.Parts.{columnsIn, closes, bytesIn, Part, part, Stand, outside, opened, inside, partsFrom, numberOf, lineStart, closingStart, pastOf, throughOf}
+use Rattle.parts.specs.Parts.{columnsIn, closes, bytesIn, Part, part, PartState, outside, opened, inside, partsFrom, datasetOf, lineStart, closingStart, pastOf, throughOf}
 use Rattle.parts.specs.PartsLaws.{bytesIn-append, lines-at, line-length, lines-end}
 use Rattle.parts.specs.Scan.{seen, extent, nowhere, firstOf, seenStep, scanFrom, image, Fitting, First}
 
@@ -32,7 +32,7 @@ fitting-line m b o v ls n at l (p, q) = (rw length-append (omega arith), rw (byt
 -- the set that a line closes, by numbers
 closing : (m b : ℕ) (o v : List ℕ) (ls : List (List ℕ)) (n at : ℕ) (l : List ℕ) → Fitting (inside m b o v ls) n at → (ps : List Part)
     → extent m b (datasetNumber (columnsIn v)) (b + bytesIn (o ∷ v ∷ [])) at (at + suc (length l)) (suc n) ≡ firstOf (part m b o v ls l ∷ ps)
-unfolding firstOf numberOf lineStart closingStart pastOf throughOf bytesIn
+unfolding firstOf datasetOf lineStart closingStart pastOf throughOf bytesIn
 closing m b o v ls n at l (p, q) ps =
     let t : suc n ≡ m + suc (suc (length (ls ++ (l ∷ [])))) = rw length-append (omega arith) in
     let e : at + suc (length l) ≡ b + (suc (length o) + (suc (length v) + bytesIn (ls ++ (l ∷ [])))) = rw (bytesIn-append ls (l ∷ [])) (omega arith) in
@@ -40,10 +40,10 @@ closing m b o v ls n at l (p, q) ps =
     rw (t, e) (cc)
 
 -- the two accounts agree, by the first line's test
-abbrev Found : List (List ℕ) → ℕ → ℕ → Stand → Type 0
+abbrev Found : List (List ℕ) → ℕ → ℕ → PartState → Type 0
 Found ls n at s = scanFrom (image s) n at ls ≡ firstOf (partsFrom s n at ls)
 
-found-by : (ls : List (List ℕ)) (n at : ℕ) (t : Bool) (s u : Stand) → Found ls n at s → Found ls n at u
+found-by : (ls : List (List ℕ)) (n at : ℕ) (t : Bool) (s u : PartState) → Found ls n at s → Found ls n at u
     → scanFrom (pick t (image s) (image u)) n at ls ≡ firstOf (partsFrom (pick t s u) n at ls)
 found-by ls n at true s u p q = p
 found-by ls n at false s u p q = q
@@ -62,7 +62,7 @@ inside-by : (m b : ℕ) (o v : List ℕ) (bs : List (List ℕ)) (l : List ℕ) (
 inside-by m b o v bs l ls n at true f h = closing m b o v bs n at l f _
 inside-by m b o v bs l ls n at false f h = h
 
-pub scan-parts : (s : Stand) (n at : ℕ) (ls : List (List ℕ)) → Fitting s n at → Found ls n at s
+pub scan-parts : (s : PartState) (n at : ℕ) (ls : List (List ℕ)) → Fitting s n at → Found ls n at s
 unfolding scanFrom partsFrom seenStep firstOf
 scan-parts s n at [] f = refl
 scan-parts outside n at (l ∷ ls) f =

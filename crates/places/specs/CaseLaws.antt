@@ -2,19 +2,18 @@
 -- values.
 use mathlib.Core.Path.{_≡_, refl, sym, ap, subst, _∙_}
 use mathlib.Core.Logic.{_⊎_, inl, inr, ⊎-elim}
-use mathlib.Core.Bool.{Bool, true, false, _&&_, _||_}
-use mathlib.Core.List.{List, [], _∷_, _++_}
+use mathlib.Core.Bool.{Bool, true, false, _||_}
+use mathlib.Core.List.{List, [], _∷_}
 use Prim.Native.Nat.{ℕ, zero, suc, _<_, _≤_}
 use native.Mathlib.Omega.{arith}
 use borrow.Author.Tests.{eqb-true, leb-true}
 use lib.Dec.{eqb, leb}
 use lib.IntN.{ℤ, pos, negsuc}
 use lib.ListN.{length, getD}
-use Rattle.laws.specs.Choice.{pick}
 use Rattle.laws.specs.ChoiceLaws.{and-left, and-right, false-not-true}
 use Rattle.text.specs.Parts.{signed}
-use Rattle.codes.specs.Rule.{Rule, keeps, oneOf, codes, span}
-use Rattle.codes.specs.Form.{Form, Optional, skip, text, identification, real, integer, never, within, ordinateType, count, spacing}
+use Rattle.codes.specs.Rule.{Rule, keeps, oneOf}
+use Rattle.codes.specs.Form.{Form, skip, text, identification, real, integer, never, within, ordinateType, count, spacing}
 use Rattle.layout.specs.Layout as Layout
 use Rattle.line.specs.Line.{filled}
 use Rattle.field.specs.Item.{Item, natural}
@@ -25,7 +24,7 @@ use Rattle.record.specs.Written.{Stands, a-text, a-identification, an-integer, 
 use Rattle.record.specs.Declared.{naturalAt, caseBy, countBy}
 use Rattle.theory.specs.Sets.{Set}
 use Rattle.theory.specs.Proper.{SetLines}
-use Rattle.places.specs.Declared.{declared, caseOf}
+use Rattle.places.specs.Declared.{declared, setCase}
 use Rattle.places.specs.DeclaredLaws.{seventh, typed-58}
 
 -- 1 for an integer that may not be blank, 0 for any other form
@@ -84,16 +83,16 @@ or-cases : (a b : Bool) → a || b ≡ true → (a ≡ true) ⊎ (b ≡ true)
 or-cases true b h = inl refl
 or-cases false b h = inr h
 
-spacing-case : (t u : ℕ) → Layout.caseOf t 0 < 8 → Layout.caseOf t 1 < 8 → u ≤ 1 → Layout.caseOf t u < 8
+spacing-case : (t u : ℕ) → Layout.caseFor t 0 < 8 → Layout.caseFor t 1 < 8 → u ≤ 1 → Layout.caseFor t u < 8
 spacing-case t zero p q h = p
 spacing-case t (suc zero) p q h = q
 spacing-case t (suc (suc u)) p q h = absurd (omega arith)
 
-one-case : (t c u : ℕ) → eqb t c ≡ true → Layout.caseOf c 0 < 8 → Layout.caseOf c 1 < 8 → u ≤ 1 → Layout.caseOf t u < 8
+one-case : (t c u : ℕ) → eqb t c ≡ true → Layout.caseFor c 0 < 8 → Layout.caseFor c 1 < 8 → u ≤ 1 → Layout.caseFor t u < 8
 one-case t c u e p q h = rw (eqb-true t c e) (spacing-case c u p q h)
 
-eight : (t u : ℕ) → oneOf (2 ∷ 4 ∷ 5 ∷ 6 ∷ []) t ≡ true → u ≤ 1 → Layout.caseOf t u < 8
-unfolding Layout.caseOf Layout.layouts
+eight : (t u : ℕ) → oneOf (2 ∷ 4 ∷ 5 ∷ 6 ∷ []) t ≡ true → u ≤ 1 → Layout.caseFor t u < 8
+unfolding Layout.caseFor Layout.layouts
 eight t u h l =
     ⊎-elim (λ e. one-case t 2 u e (omega arith) (omega arith) l)
     (λ g. ⊎-elim (λ e. one-case t 4 u e (omega arith) (omega arith) l)
@@ -102,7 +101,7 @@ eight t u h l =
     (or-cases (eqb t 5) _ g)) (or-cases (eqb t 4) _ g)) (or-cases (eqb t 2) _ h)
 
 -- the numbers of two such items
-items-case : (a b : ℤ) → keeps ordinateType a ≡ true → keeps spacing b ≡ true → Layout.caseOf (natural (Item.integer a)) (natural (Item.integer b)) < 8
+items-case : (a b : ℤ) → keeps ordinateType a ≡ true → keeps spacing b ≡ true → Layout.caseFor (natural (Item.integer a)) (natural (Item.integer b)) < 8
 unfolding keeps
 items-case (pos t) (pos u) p q = eight t u p (leb-true u 1 (and-right (leb 0 u) (leb u 1) q))
 items-case (pos t) (negsuc u) p q = false-not-true q
@@ -116,8 +115,8 @@ record-case is line w =
     let z = first-item line spacing 10 _ (y .after) refl in
     rw (x .items, y .items, z .items, x .keeps-rule .item, z .keeps-rule .item) (items-case (x .keeps-rule .value) (z .keeps-rule .value) (x .keeps-rule .kept) (z .keeps-rule .kept))
 
-pub case-eight : {s : Set} {css : List (List ℕ)} → SetLines s css → s .number ≡ 58 → caseOf s < 8
-unfolding caseOf
+pub case-eight : {s : Set} {css : List (List ℕ)} → SetLines s css → s .number ≡ 58 → setCase s < 8
+unfolding setCase
 case-eight (SetLines.typed {n} {iss} {css} t l) e = record-case (getD iss lineSeven []) (filled (getD css lineSeven [])) (seventh iss css (rw e at l))
 case-eight (SetLines.plain {n} t l) e = false-not-true (sym (rw e at t) ∙ typed-58)
 

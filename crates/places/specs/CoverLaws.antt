@@ -11,7 +11,7 @@ use Rattle.text.specs.Blank.{Blanks, none, one}
 use Rattle.layout.specs.Columns.{fieldStart, fieldPast}
 use Rattle.layout.specs.Layout.{layoutOf}
 use Rattle.field.specs.Item.{Item}
-use Rattle.rows.specs.Row.{Field, cut}
+use Rattle.rows.specs.Row.{Field, firstFields}
 use Rattle.rows.specs.Records.{E, dataRow}
 use Rattle.record.specs.Written.{FieldsIn, rest, skipped, stands, Written}
 use Rattle.places.specs.FieldLaws.{not-real}
@@ -48,7 +48,7 @@ covered line (w ∷ ws) (stands {form = form} {w = v} {fs = fs} own cols l s r) 
     (below-or-not a w)
 
 -- of the first m fields of a data line
-pub data-covered : (line : List ℕ) (c m : ℕ) (is : List Item) → Written (cut m (dataRow c)) is line → (a : ℕ) → (getD line a 32 ≡ 32 → ⊥)
+pub data-covered : (line : List ℕ) (c m : ℕ) (is : List Item) → Written (firstFields m (dataRow c)) is line → (a : ℕ) → (getD line a 32 ≡ 32 → ⊥)
     → (k : Covers (layoutOf c .widths) a) × (k .field < m)
 unfolding dataRow fieldPast
 data-covered line c m is w a n =

@@ -21,8 +21,8 @@ unfoldable pub declared : Set → ℕ
 declared s = pick (eqb (s .number) 58) (countBy (seventhOf s)) 0
 
 -- the case, from 0
-unfoldable pub caseOf : Set → ℕ
-caseOf s = caseBy (seventhOf s)
+unfoldable pub setCase : Set → ℕ
+setCase s = caseBy (seventhOf s)
 
 -- of one set, by its place
 pub record Found (ps : List Part) (k : ℕ) (s : Set) : Type 0 where

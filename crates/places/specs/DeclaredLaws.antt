@@ -15,19 +15,19 @@ use Rattle.kind.specs.KindLaws.{datasetNumber-complete}
 use Rattle.field.specs.Item.{Item}
 use Rattle.rows.specs.Row.{Row}
 use Rattle.rows.specs.TypedSets.{kindOf, isTyped, sequence, typedSets, lineSeven}
-use Rattle.rows.specs.Records.{plain, records, recordOf, dataForm}
+use Rattle.rows.specs.Records.{plain, recordOf, dataForm}
 use Rattle.record.specs.Check.{itemsOf}
 use Rattle.record.specs.Written.{Written}
 use Rattle.reading.specs.LineReadingLaws.{written-complete}
-use Rattle.theory.specs.Sets.{Set, set}
-use Rattle.theory.specs.Due.{rowsOf}
+use Rattle.theory.specs.Sets.{Set}
+use Rattle.theory.specs.Due.{setRows}
 use Rattle.theory.specs.Proper.{TypedLines, SetLines}
-use Rattle.parts.specs.Parts.{Part, numberOf, lineOf}
+use Rattle.parts.specs.Parts.{Part, datasetOf, lineOf}
 use Rattle.parts.specs.Function as Function
 use Rattle.record.specs.Declared.{countBy, countIn}
 use Rattle.record.specs.DeclaredLaws.{Declares, declares-items}
-use Rattle.places.specs.Holds.{columnsOf, Holds, Stand}
-use Rattle.places.specs.Declared.{seventhOf, declared, caseOf, Found}
+use Rattle.places.specs.Holds.{columnsOf, Holds, AtPlaces}
+use Rattle.places.specs.Declared.{seventhOf, declared, setCase, Found}
 
 -- line k of a typed set is written by its row
 pub typed-line : {rs : List Row} {iss : List (List Item)} {css : List (List ℕ)} (k : ℕ) → TypedLines rs iss css → k < length rs
@@ -46,13 +46,13 @@ unfolding lineOf columns withoutReturn
 lineOf-columns p k = ap filled (sym (List·getD-map (columns true) (p .body) k []))
 
 -- the dataset number
-pub number-held : {s : Set} {p : Part} → Holds s p → numberOf p ≡ s .number
-unfolding numberOf
+pub number-held : {s : Set} {p : Part} → Holds s p → datasetOf p ≡ s .number
+unfolding datasetOf
 number-held h = datasetNumber-complete (h .number)
 
 -- line 7 of a 58
-pub seventh : (iss : List (List Item)) (css : List (List ℕ)) → TypedLines (rowsOf 58 iss) iss css → Written (recordOf dataForm) (getD iss lineSeven []) (filled (getD css lineSeven []))
-unfolding rowsOf kindOf sequence typedSets
+pub seventh : (iss : List (List Item)) (css : List (List ℕ)) → TypedLines (setRows 58 iss) iss css → Written (recordOf dataForm) (getD iss lineSeven []) (filled (getD css lineSeven []))
+unfolding setRows kindOf sequence typedSets
 seventh iss css l = typed-line lineSeven l (omega arith)
 
 pub typed-58 : isTyped 58 ≡ true
@@ -76,8 +76,8 @@ module _ {s : Set} {p : Part} (h : Holds s p) (e : s .number ≡ 58) where
   pub count-held : countIn (lineOf p lineSeven) ≡ countBy (seventhOf s)
   count-held = seventh-held .count
 
-  pub case-held : Function.caseOf p ≡ caseOf s
-  unfolding Function.caseOf caseOf
+  pub case-held : Function.partCase p ≡ setCase s
+  unfolding Function.partCase setCase
   case-held = seventh-held .case
 
 -- the declared count
@@ -91,20 +91,20 @@ declared-held {s} {p} h = rw (number-held h) (by (eqb (s .number) 58) refl)
 
 -- of all sets, in order
 module _ {A : Type 0} (f : Set → A) (g : Part → A) (same : (s : Set) (p : Part) → Holds s p → g p ≡ f s) where
-  pub all-held : {n at : ℕ} {ss : List Set} {ps : List Part} {ls : List (List ℕ)} → Stand n at ss ps ls → map g ps ≡ map f ss
-  all-held (Stand.end b) = refl
-  all-held (Stand.more {s = s} {p = p} before after b l c h r) = rw (same s p h, all-held r) refl
+  pub all-held : {n at : ℕ} {ss : List Set} {ps : List Part} {ls : List (List ℕ)} → AtPlaces n at ss ps ls → map g ps ≡ map f ss
+  all-held (AtPlaces.end b) = refl
+  all-held (AtPlaces.more {s = s} {p = p} before after b l c h r) = rw (same s p h, all-held r) refl
 
-pub as-many : {n at : ℕ} {ss : List Set} {ps : List Part} {ls : List (List ℕ)} → Stand n at ss ps ls → length ps ≡ length ss
-as-many (Stand.end b) = refl
-as-many (Stand.more before after b l c h r) = ap suc (as-many r)
+pub as-many : {n at : ℕ} {ss : List Set} {ps : List Part} {ls : List (List ℕ)} → AtPlaces n at ss ps ls → length ps ≡ length ss
+as-many (AtPlaces.end b) = refl
+as-many (AtPlaces.more before after b l c h r) = ap suc (as-many r)
 
-pub stand-at : {n at : ℕ} {ss : List Set} {ps : List Part} {ls : List (List ℕ)} (k : ℕ) (s : Set) (rest : List Set) → Stand n at ss ps ls → drop k ss ≡ s ∷ rest → Found ps k s
-stand-at zero s rest (Stand.end b) e = let z : 0 ≡ suc (length rest) = ap length e in absurd (omega arith)
-stand-at (suc k) s rest (Stand.end b) e = let z : 0 ≡ suc (length rest) = ap length e in absurd (omega arith)
-stand-at zero s rest (Stand.more {s = t} {p = p} {ps = ps} before after b l c h r) e =
+pub stand-at : {n at : ℕ} {ss : List Set} {ps : List Part} {ls : List (List ℕ)} (k : ℕ) (s : Set) (rest : List Set) → AtPlaces n at ss ps ls → drop k ss ≡ s ∷ rest → Found ps k s
+stand-at zero s rest (AtPlaces.end b) e = let z : 0 ≡ suc (length rest) = ap length e in absurd (omega arith)
+stand-at (suc k) s rest (AtPlaces.end b) e = let z : 0 ≡ suc (length rest) = ap length e in absurd (omega arith)
+stand-at zero s rest (AtPlaces.more {s = t} {p = p} {ps = ps} before after b l c h r) e =
     let q : t ≡ s = cc in
     record { part = p; others = ps; sets = refl; holds = subst (λ (x : Set). Holds x p) q h }
-stand-at (suc k) s rest (Stand.more {ps = ps} before after b l c h r) e =
+stand-at (suc k) s rest (AtPlaces.more {ps = ps} before after b l c h r) e =
     let f = stand-at k s rest r e in
     record { part = f .part; others = f .others; sets = f .sets; holds = f .holds }

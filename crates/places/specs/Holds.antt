@@ -25,11 +25,11 @@ pub record Holds (s : Set) (p : Part) : Type 0 where
 
 -- sets in order, each the part of a text at its place: lines that n lines and at bytes come before are blank lines, the part's own,
 -- and so on; after the last only blank lines
-pub data Stand : ℕ → ℕ → List Set → List Part → List (List ℕ) → Type 0 where
-  end : {n at : ℕ} {ls : List (List ℕ)} → BlankLines (columnsOf ls) → Stand n at [] [] ls
+pub data AtPlaces : ℕ → ℕ → List Set → List Part → List (List ℕ) → Type 0 where
+  end : {n at : ℕ} {ls : List (List ℕ)} → BlankLines (columnsOf ls) → AtPlaces n at [] [] ls
   more : {n at : ℕ} {s : Set} {ss : List Set} {p : Part} {ps : List Part} (before after : List (List ℕ)) → BlankLines (columnsOf before)
-      → p .lines ≡ n + length before → p .bytes ≡ at + bytesIn before → Holds s p → Stand (throughOf p) (pastOf p) ss ps after
-      → Stand n at (s ∷ ss) (p ∷ ps) (before ++ (p .opening ∷ p .number ∷ (p .body ++ (p .closing ∷ after))))
+      → p .lines ≡ n + length before → p .bytes ≡ at + bytesIn before → Holds s p → AtPlaces (throughOf p) (pastOf p) ss ps after
+      → AtPlaces n at (s ∷ ss) (p ∷ ps) (before ++ (p .opening ∷ p .number ∷ (p .body ++ (p .closing ∷ after))))
 
 -- no line is a delimiter
 pub data Open : List (List ℕ) → Type 0 where

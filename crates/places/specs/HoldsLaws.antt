@@ -18,7 +18,7 @@ use Rattle.ends.specs.Short.{Short}
 use Rattle.ends.specs.ShortLaws.{short-left, short-right}
 use Rattle.parts.specs.Parts.{closes, bytesIn, Part, part, outside, inside, partsFrom, pastOf, throughOf}
 use Rattle.parts.specs.PartsLaws.{bytesIn-append}
-use Rattle.places.specs.Holds.{columnsOf, Stand, Open, none, more}
+use Rattle.places.specs.Holds.{columnsOf, AtPlaces, Open, none, more}
 
 line-open : (l : List ℕ) → Inside (columns true l) → closes l ≡ false
 unfolding closes
@@ -145,8 +145,8 @@ no-part n at ls o = ap (partsFrom outside n at) (sym (append-nil ls)) ∙ skip-o
 
 -- the parts of lines that write a list of sets are its sets, at their places
 pub lines-stand : {ss : List Set} {css : List (List ℕ)} → Lines ss css → Short css → (n at : ℕ) (ls : List (List ℕ)) → columnsOf ls ≡ css
-    → Stand n at ss (partsFrom outside n at ls) ls
-lines-stand (Lines.end b) sh n at ls e = rw (no-part n at ls (blank-open ls (subst BlankLines (sym e) b))) (Stand.end (subst BlankLines (sym e) b))
+    → AtPlaces n at ss (partsFrom outside n at ls) ls
+lines-stand (Lines.end b) sh n at ls e = rw (no-part n at ls (blank-open ls (subst BlankLines (sym e) b))) (AtPlaces.end (subst BlankLines (sym e) b))
 lines-stand (Lines.more {s} {ss} first numbered last before body later b d v l c w) sh n at ls e =
     let a = around ls before body later first numbered last e in
     let inner : Short (body ++ (last ∷ later)) = short-right (first ∷ numbered ∷ []) (body ++ (last ∷ later)) (short-right before (first ∷ numbered ∷ (body ++ (last ∷ later))) sh) in
@@ -160,6 +160,6 @@ lines-stand (Lines.more {s} {ss} first numbered last before body later b d v l c
     let cc′ : Delimiter (filled (columns true (a .closing))) = subst (λ (x : List ℕ). Delimiter (filled x)) (sym (a .of-closing)) c in
     let f : partsFrom outside n at (a .blanks ++ (a .opening ∷ a .numbered ∷ (a .own ++ (a .closing ∷ a .later)))) ≡ p ∷ partsFrom outside (throughOf p) (pastOf p) (a .later)
     = first-part n at (a .blanks) (a .opening) (a .numbered) (a .own) (a .closing) (a .later) p (blank-open (a .blanks) bb) (line-closes (a .opening) dd) (inside-open (a .own) (set-none ll)) (line-closes (a .closing) cc′) refl in
-    let t : Stand n at (s ∷ ss) (p ∷ partsFrom outside (throughOf p) (pastOf p) (a .later)) (a .blanks ++ (a .opening ∷ a .numbered ∷ (a .own ++ (a .closing ∷ a .later))))
-    = Stand.more (a .blanks) (a .later) bb refl refl (record { opening = dd; number = vv; lines = ll; closing = cc′; short = own }) (lines-stand w past (throughOf p) (pastOf p) (a .later) (a .of-later)) in
-    subst (λ (x : List (List ℕ)). Stand n at (s ∷ ss) (partsFrom outside n at x) x) (sym (a .whole)) (subst (λ (x : List Part). Stand n at (s ∷ ss) x (a .blanks ++ (a .opening ∷ a .numbered ∷ (a .own ++ (a .closing ∷ a .later))))) (sym f) t)
+    let t : AtPlaces n at (s ∷ ss) (p ∷ partsFrom outside (throughOf p) (pastOf p) (a .later)) (a .blanks ++ (a .opening ∷ a .numbered ∷ (a .own ++ (a .closing ∷ a .later))))
+    = AtPlaces.more (a .blanks) (a .later) bb refl refl (record { opening = dd; number = vv; lines = ll; closing = cc′; short = own }) (lines-stand w past (throughOf p) (pastOf p) (a .later) (a .of-later)) in
+    subst (λ (x : List (List ℕ)). AtPlaces n at (s ∷ ss) (partsFrom outside n at x) x) (sym (a .whole)) (subst (λ (x : List Part). AtPlaces n at (s ∷ ss) x (a .blanks ++ (a .opening ∷ a .numbered ∷ (a .own ++ (a .closing ∷ a .later))))) (sym f) t)

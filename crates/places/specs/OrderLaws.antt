@@ -1,28 +1,26 @@
 -- The own columns of the stored numbers of a 58: inside the set's lines, in order, and apart.
-use mathlib.Core.Path.{_≡_, refl, sym, ap, subst, _∙_}
+use mathlib.Core.Path.{_≡_, refl, sym, subst, _∙_}
 use mathlib.Core.Logic.{⊎-elim}
 use mathlib.Core.Bool.{true}
 use mathlib.Core.List.{List, [], _∷_}
-use Prim.Native.Nat.{ℕ, zero, suc, _+_, _-_, _*_, _<_, _≤_}
+use Prim.Native.Nat.{ℕ, zero, suc, _+_, _<_, _≤_}
 use native.Mathlib.Nat.{zero-div, zero-mod}
 use native.Mathlib.Omega.{arith}
-use lib.ListN.{length, getD, take, drop, length-map}
+use lib.ListN.{length, getD, take, length-map}
 use Rattle.line.specs.Line.{columns}
 use Rattle.line.specs.LineLaws.{columns-within}
-use Rattle.real.specs.Real.{numberOf}
 use Rattle.real.specs.RealLaws.{realOf-complete}
 use Rattle.layout.specs.Columns.{fieldStart, fieldPast, lineOf, fieldOf}
 use Rattle.layout.specs.ColumnsLaws.{stored-apart}
 use Rattle.layout.specs.Layout.{layoutOf, fieldsOf}
 use Rattle.layout.specs.LayoutLaws.{fieldPast-inside, fieldsOf-some}
-use Rattle.field.specs.Item.{Item}
 use Rattle.rows.specs.TypedSets.{headerLines}
 use Rattle.theory.specs.Sets.{Set}
 use Rattle.theory.specs.Due.{linesFor}
 use Rattle.parts.specs.Parts as Parts
 use Rattle.parts.specs.Function as Function
-use Rattle.places.specs.Holds.{columnsOf, Holds}
-use Rattle.places.specs.Declared.{caseOf}
+use Rattle.places.specs.Holds.{Holds}
+use Rattle.places.specs.Declared.{setCase}
 use Rattle.places.specs.DeclaredLaws.{case-held}
 use Rattle.places.specs.Stored.{storedCount, storedItem, ownColumns}
 use Rattle.places.specs.StoredLaws.{stored-spelled, stored-case, set-data, line-enough}
@@ -69,11 +67,11 @@ module _ (p : Parts.Part) where
 -- a stored number of a 58 in a text: its line is there, and its columns are columns of that line
 module _ {s : Set} {p : Parts.Part} (h : Holds s p) (e : s .number ≡ 58) where
   pub record Seated (j : ℕ) : Type 0 where
-    pub line : headerLines + lineOf (fieldsOf (Function.caseOf p)) j < length (p .body)
-    pub past : fieldPast (layoutOf (Function.caseOf p) .widths) (fieldOf (fieldsOf (Function.caseOf p)) j) ≤ length (getD (p .body) (headerLines + lineOf (fieldsOf (Function.caseOf p)) j) [])
-    pub some : fieldStart (layoutOf (Function.caseOf p) .widths) (fieldOf (fieldsOf (Function.caseOf p)) j) < fieldPast (layoutOf (Function.caseOf p) .widths) (fieldOf (fieldsOf (Function.caseOf p)) j)
+    pub line : headerLines + lineOf (fieldsOf (Function.partCase p)) j < length (p .body)
+    pub past : fieldPast (layoutOf (Function.partCase p) .widths) (fieldOf (fieldsOf (Function.partCase p)) j) ≤ length (getD (p .body) (headerLines + lineOf (fieldsOf (Function.partCase p)) j) [])
+    pub some : fieldStart (layoutOf (Function.partCase p) .widths) (fieldOf (fieldsOf (Function.partCase p)) j) < fieldPast (layoutOf (Function.partCase p) .widths) (fieldOf (fieldsOf (Function.partCase p)) j)
 
-  pub body-length : length (p .body) ≡ headerLines + linesFor (fieldsOf (caseOf s)) (storedCount s)
+  pub body-length : length (p .body) ≡ headerLines + linesFor (fieldsOf (setCase s)) (storedCount s)
   body-length = sym (length-map (p .body) (columns true)) ∙ set-data (h .lines) e .count
 
   start-rise : (k : ℕ) → Parts.lineStart p headerLines ≤ Parts.lineStart p (headerLines + k)
@@ -83,17 +81,17 @@ module _ {s : Set} {p : Parts.Part} (h : Holds s p) (e : s .number ≡ 58) where
   pub seated : (j : ℕ) → j < storedCount s → Seated j
   unfolding ownColumns Parts.lineOf fieldPast
   seated j l =
-      let q : Function.caseOf p ≡ caseOf s = case-held h e in
-      let b : 0 < fieldsOf (caseOf s) = fieldsOf-some (caseOf s) (stored-case s j l) in
-      let m : lineOf (fieldsOf (caseOf s)) j < linesFor (fieldsOf (caseOf s)) (storedCount s) = line-enough (fieldsOf (caseOf s)) (storedCount s) j b l in
-      let n : lineOf (fieldsOf (Function.caseOf p)) j ≡ lineOf (fieldsOf (caseOf s)) j = rw q refl in
-      let x : Spelled (storedItem s j) (ownColumns (Function.caseOf p) p j) = subst (λ (y : ℕ). Spelled (storedItem s j) (ownColumns y p j)) (sym q) (stored-spelled h e j l) in
+      let q : Function.partCase p ≡ setCase s = case-held h e in
+      let b : 0 < fieldsOf (setCase s) = fieldsOf-some (setCase s) (stored-case s j l) in
+      let m : lineOf (fieldsOf (setCase s)) j < linesFor (fieldsOf (setCase s)) (storedCount s) = line-enough (fieldsOf (setCase s)) (storedCount s) j b l in
+      let n : lineOf (fieldsOf (Function.partCase p)) j ≡ lineOf (fieldsOf (setCase s)) j = rw q refl in
+      let x : Spelled (storedItem s j) (ownColumns (Function.partCase p) p j) = subst (λ (y : ℕ). Spelled (storedItem s j) (ownColumns y p j)) (sym q) (stored-spelled h e j l) in
       let v = realOf-complete (x .spelling) in
-      let w : 0 < getD (layoutOf (Function.caseOf p) .widths) (fieldOf (fieldsOf (Function.caseOf p)) j) 0 = value-some _ _ _ v in
-      let r = reaches (columns true (getD (p .body) (headerLines + lineOf (fieldsOf (Function.caseOf p)) j) [])) (fieldStart (layoutOf (Function.caseOf p) .widths) (fieldOf (fieldsOf (Function.caseOf p)) j)) (getD (layoutOf (Function.caseOf p) .widths) (fieldOf (fieldsOf (Function.caseOf p)) j) 0) _ (fieldPast-inside (Function.caseOf p) (fieldOf (fieldsOf (Function.caseOf p)) j)) v in
+      let w : 0 < getD (layoutOf (Function.partCase p) .widths) (fieldOf (fieldsOf (Function.partCase p)) j) 0 = value-some _ _ _ v in
+      let r = reaches (columns true (getD (p .body) (headerLines + lineOf (fieldsOf (Function.partCase p)) j) [])) (fieldStart (layoutOf (Function.partCase p) .widths) (fieldOf (fieldsOf (Function.partCase p)) j)) (getD (layoutOf (Function.partCase p) .widths) (fieldOf (fieldsOf (Function.partCase p)) j) 0) _ (fieldPast-inside (Function.partCase p) (fieldOf (fieldsOf (Function.partCase p)) j)) v in
       record {
         line = omega (arith, body-length);
-        past = omega (arith, r, columns-within true (getD (p .body) (headerLines + lineOf (fieldsOf (Function.caseOf p)) j) []));
+        past = omega (arith, r, columns-within true (getD (p .body) (headerLines + lineOf (fieldsOf (Function.partCase p)) j) []));
         some = omega arith;
       }
 
@@ -103,21 +101,21 @@ module _ {s : Set} {p : Parts.Part} (h : Holds s p) (e : s .number ≡ 58) where
   unfolding Function.firstByte Function.pastByte Function.dataLine
   columns-inside j l =
       let t = seated j l in
-      let c : Parts.lineStart p headerLines ≤ Parts.lineStart p (headerLines + lineOf (fieldsOf (Function.caseOf p)) j) = start-rise (lineOf (fieldsOf (Function.caseOf p)) j) in
-      (omega arith, (omega (arith, t .some), omega (arith, t .past, line-closing p (headerLines + lineOf (fieldsOf (Function.caseOf p)) j) (t .line))))
+      let c : Parts.lineStart p headerLines ≤ Parts.lineStart p (headerLines + lineOf (fieldsOf (Function.partCase p)) j) = start-rise (lineOf (fieldsOf (Function.partCase p)) j) in
+      (omega arith, (omega (arith, t .some), omega (arith, t .past, line-closing p (headerLines + lineOf (fieldsOf (Function.partCase p)) j) (t .line))))
 
   -- in order, and apart
   pub columns-apart : (i j : ℕ) → i < j → j < storedCount s → Function.pastByte p i ≤ Function.firstByte p j
   unfolding Function.firstByte Function.pastByte Function.dataLine fieldsOf
   columns-apart i j o l =
-      let b : 0 < length (layoutOf (Function.caseOf p) .widths) = subst (λ (y : ℕ). 0 < length (layoutOf y .widths)) (sym (case-held h e)) (fieldsOf-some (caseOf s) (stored-case s j l)) in
+      let b : 0 < length (layoutOf (Function.partCase p) .widths) = subst (λ (y : ℕ). 0 < length (layoutOf y .widths)) (sym (case-held h e)) (fieldsOf-some (setCase s) (stored-case s j l)) in
       let t = seated i (omega arith) in
       ⊎-elim
-      (λ q. omega (arith, t .past, lines-apart p (headerLines + lineOf (length (layoutOf (Function.caseOf p) .widths)) i) (headerLines + lineOf (length (layoutOf (Function.caseOf p) .widths)) j) (t .line) (omega arith)))
+      (λ q. omega (arith, t .past, lines-apart p (headerLines + lineOf (length (layoutOf (Function.partCase p) .widths)) i) (headerLines + lineOf (length (layoutOf (Function.partCase p) .widths)) j) (t .line) (omega arith)))
       (λ q. rw (q .0) (omega (arith, q .1)))
-      (stored-apart (layoutOf (Function.caseOf p) .widths) i j b o)
+      (stored-apart (layoutOf (Function.partCase p) .widths) i j b o)
 
 -- the first stored number begins the data lines
 pub first-column : (p : Parts.Part) → Function.firstByte p 0 ≡ Parts.lineStart p headerLines
 unfolding Function.firstByte Function.dataLine lineOf fieldOf fieldStart
-first-column p = rw (zero-div (fieldsOf (Function.caseOf p)), zero-mod (fieldsOf (Function.caseOf p))) (omega arith)
+first-column p = rw (zero-div (fieldsOf (Function.partCase p)), zero-mod (fieldsOf (Function.partCase p))) (omega arith)

@@ -1,26 +1,22 @@
 -- A stored number of the list is what the bytes of its own columns mean.
-use mathlib.Core.Path.{_≡_, refl, sym, ap, subst, _∙_}
-use mathlib.Core.Bool.{true}
+use mathlib.Core.Path.{_≡_, refl, sym, subst}
 use mathlib.Core.List.{List, []}
-use Prim.Native.Nat.{ℕ, _+_, _-_, _<_, _≤_}
+use Prim.Native.Nat.{ℕ, _+_, _-_, _<_}
 use native.Mathlib.Omega.{arith}
-use lib.ListN.{length, getD, take, drop}
-use Rattle.line.specs.Line.{columns, filled}
-use Rattle.real.specs.declared.Real.the-variants.{Value}
-use Rattle.real.specs.Real.{numberOf, realOf}
+use lib.ListN.{getD, take, drop}
+use Rattle.real.specs.Real.{numberOf}
 use Rattle.real.specs.RealLaws.{realOf-complete}
 use Rattle.layout.specs.Columns.{fieldStart, fieldPast, lineOf, fieldOf}
-use Rattle.layout.specs.Layout.{layoutOf, fieldsOf, numbersOf}
+use Rattle.layout.specs.Layout.{layoutOf, fieldsOf}
 use Rattle.layout.specs.LayoutLaws.{field-inside}
 use Rattle.field.specs.Item.{Item}
 use Rattle.rows.specs.TypedSets.{headerLines}
 use Rattle.theory.specs.Sets.{Set}
 use Rattle.parts.specs.Parts as Parts
 use Rattle.parts.specs.Function as Function
-use Rattle.parts.specs.Set.{Standing, Somewhere}
+use Rattle.parts.specs.Set.{Somewhere}
 use Rattle.parts.specs.SetLaws.{line-bytes}
 use Rattle.places.specs.Holds.{Holds}
-use Rattle.places.specs.Declared.{declared, caseOf}
 use Rattle.places.specs.DeclaredLaws.{declared-held, case-held}
 use Rattle.places.specs.Stored.{storedCount, storedItem, ownColumns}
 use Rattle.places.specs.StoredLaws.{stored-spelled}
@@ -33,14 +29,14 @@ unfolding Function.storedOf storedCount
 stored-held h e = rw (declared-held h, case-held h e) refl
 
 -- the width of a stored number's columns
-span : (p : Parts.Part) (j : ℕ) → Function.pastByte p j - Function.firstByte p j ≡ getD (layoutOf (Function.caseOf p) .widths) (fieldOf (fieldsOf (Function.caseOf p)) j) 0
+span : (p : Parts.Part) (j : ℕ) → Function.pastByte p j - Function.firstByte p j ≡ getD (layoutOf (Function.partCase p) .widths) (fieldOf (fieldsOf (Function.partCase p)) j) 0
 unfolding Function.pastByte Function.firstByte fieldPast
 span p j = omega arith
 
 -- the own columns are bytes of the text
 module _ (file : List ℕ) (p : Parts.Part) (ps : List Parts.Part) (w : Somewhere file p ps) (j : ℕ) where
   abbrev c : ℕ
-  c = Function.caseOf p
+  c = Function.partCase p
 
   abbrev k : ℕ
   k = fieldOf (fieldsOf c) j
@@ -59,5 +55,5 @@ module _ (file : List ℕ) (p : Parts.Part) (ps : List Parts.Part) (w : Somewher
 pub stored-shown : {s : Set} {p : Parts.Part} (file : List ℕ) (ps : List Parts.Part) → Somewhere file p ps → Holds s p → s .number ≡ 58 → (j : ℕ) → j < storedCount s
     → Spelled (storedItem s j) (take (Function.pastByte p j - Function.firstByte p j) (drop (Function.firstByte p j) file))
 stored-shown {s} {p} file ps w h e j l =
-    let x : Spelled (storedItem s j) (ownColumns (Function.caseOf p) p j) = subst (λ (y : ℕ). Spelled (storedItem s j) (ownColumns y p j)) (sym (case-held h e)) (stored-spelled h e j l) in
+    let x : Spelled (storedItem s j) (ownColumns (Function.partCase p) p j) = subst (λ (y : ℕ). Spelled (storedItem s j) (ownColumns y p j)) (sym (case-held h e)) (stored-spelled h e j l) in
     subst (Spelled (storedItem s j)) (own-bytes file p ps w j (storedItem s j) x) x

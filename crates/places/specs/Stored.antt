@@ -8,22 +8,22 @@ use Rattle.line.specs.Line.{filled}
 use Rattle.layout.specs.Columns.{lineOf, fieldOf, fieldStart}
 use Rattle.layout.specs.Layout.{fieldsOf, numbersOf, layoutOf}
 use Rattle.field.specs.Item.{Item, blank}
-use Rattle.rows.specs.Row.{cut}
+use Rattle.rows.specs.Row.{firstFields}
 use Rattle.rows.specs.Records.{dataRow}
 use Rattle.rows.specs.TypedSets.{headerLines}
 use Rattle.record.specs.Written.{Written}
 use Rattle.theory.specs.Sets.{Set}
 use Rattle.theory.specs.Due.{linesFor}
-use Rattle.places.specs.Declared.{declared, caseOf}
+use Rattle.places.specs.Declared.{declared, setCase}
 use Rattle.parts.specs.Parts as Parts
 
 -- how many there are
 unfoldable pub storedCount : Set → ℕ
-storedCount s = declared s * numbersOf (caseOf s)
+storedCount s = declared s * numbersOf (setCase s)
 
 -- number j
 unfoldable pub storedItem : Set → ℕ → Item
-storedItem s j = getD (getD (s .lines) (headerLines + lineOf (fieldsOf (caseOf s)) j) []) (fieldOf (fieldsOf (caseOf s)) j) blank
+storedItem s j = getD (getD (s .lines) (headerLines + lineOf (fieldsOf (setCase s)) j) []) (fieldOf (fieldsOf (setCase s)) j) blank
 
 -- the own columns of a stored number in a text, by its case
 unfoldable pub ownColumns : ℕ → Parts.Part → ℕ → List ℕ
@@ -33,6 +33,6 @@ ownColumns c p j =
 
 -- the same of a set of a list
 pub record DataLines (s : Set) (css : List (List ℕ)) : Type 0 where
-  pub written : (k : ℕ) → k < linesFor (fieldsOf (caseOf s)) (storedCount s)
-      → Written (cut (storedCount s - k * fieldsOf (caseOf s)) (dataRow (caseOf s))) (getD (s .lines) (headerLines + k) []) (filled (getD css (headerLines + k) []))
-  pub count : length css ≡ headerLines + linesFor (fieldsOf (caseOf s)) (storedCount s)
+  pub written : (k : ℕ) → k < linesFor (fieldsOf (setCase s)) (storedCount s)
+      → Written (firstFields (storedCount s - k * fieldsOf (setCase s)) (dataRow (setCase s))) (getD (s .lines) (headerLines + k) []) (filled (getD css (headerLines + k) []))
+  pub count : length css ≡ headerLines + linesFor (fieldsOf (setCase s)) (storedCount s)

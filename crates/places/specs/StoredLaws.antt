@@ -15,25 +15,25 @@ use Rattle.layout.specs.ColumnsLaws.{fieldOf-inside, stored-at}
 use Rattle.layout.specs.Layout.{layoutOf, fieldsOf, numbersOf}
 use Rattle.layout.specs.LayoutLaws.{fieldsOf-some}
 use Rattle.field.specs.Item.{Item}
-use Rattle.rows.specs.Row.{Row, cut}
-use Rattle.rows.specs.TypedSets.{kindOf, isTyped, sequence, typedSets, headerLines, kind58, following}
+use Rattle.rows.specs.Row.{Row, firstFields}
+use Rattle.rows.specs.TypedSets.{kindOf, sequence, typedSets, headerLines, kind58, following}
 use Rattle.rows.specs.Records.{E, plain, recordOf, dataRow}
 use Rattle.record.specs.Written.{Written}
 use Rattle.record.specs.Declared.{storedBy}
 use Rattle.walk.specs.DueLaws.{dataRow-length}
 use Rattle.theory.specs.Sets.{Set}
-use Rattle.theory.specs.Due.{linesFor, numberRows, listRows, listsOf, rowsOf}
+use Rattle.theory.specs.Due.{linesFor, numberRows, rowsHolding, listsOf, setRows}
 use Rattle.theory.specs.Proper.{TypedLines, SetLines}
 use Rattle.parts.specs.Parts as Parts
 use Rattle.places.specs.Holds.{columnsOf, Holds}
-use Rattle.places.specs.Declared.{declared, caseOf}
+use Rattle.places.specs.Declared.{declared, setCase}
 use Rattle.places.specs.DeclaredLaws.{typed-line, typed-length, typed-58, lineOf-columns}
 use Rattle.places.specs.Stored.{storedCount, storedItem, ownColumns, DataLines}
 use Rattle.places.specs.Field.{Spelled}
 use Rattle.places.specs.FieldLaws.{field-at}
 
 -- row k of the lines that hold what is left
-numberRows-at : (r : Row) (m left k : ℕ) → k < m → getD (numberRows r m left) k (plain []) ≡ cut (left - k * length (r .fields)) r
+numberRows-at : (r : Row) (m left k : ℕ) → k < m → getD (numberRows r m left) k (plain []) ≡ firstFields (left - k * length (r .fields)) r
 unfolding numberRows
 numberRows-at r zero left k h = absurd (omega arith)
 numberRows-at r (suc m) left zero h = let z : left - 0 * length (r .fields) ≡ left = rw zero-mul (omega arith) in rw z refl
@@ -55,15 +55,15 @@ line-enough n total j p h =
     le-div-iff-mul-le p .1 m
 
 -- the rows of a 58: its eleven records, then its data lines
-module _ (iss : List (List Item)) (c total : ℕ) (e : listsOf kind58 iss ≡ listRows (dataRow c) total) where
-  data-row : (k : ℕ) → k < linesFor (length (dataRow c .fields)) total → getD (rowsOf 58 iss) (headerLines + k) (plain []) ≡ cut (total - k * length (dataRow c .fields)) (dataRow c)
-  unfolding rowsOf kindOf sequence typedSets
+module _ (iss : List (List Item)) (c total : ℕ) (e : listsOf kind58 iss ≡ rowsHolding (dataRow c) total) where
+  data-row : (k : ℕ) → k < linesFor (length (dataRow c .fields)) total → getD (setRows 58 iss) (headerLines + k) (plain []) ≡ firstFields (total - k * length (dataRow c .fields)) (dataRow c)
+  unfolding setRows kindOf sequence typedSets
   data-row k h =
       getD-append-add (map recordOf (sequence kind58)) (listsOf kind58 iss) k (plain [])
       ∙ rw e (numberRows-at (dataRow c) (linesFor (length (dataRow c .fields)) total) total k h)
 
-  data-rows : (k : ℕ) → k < linesFor (length (dataRow c .fields)) total → headerLines + k < length (rowsOf 58 iss)
-  unfolding rowsOf kindOf sequence typedSets
+  data-rows : (k : ℕ) → k < linesFor (length (dataRow c .fields)) total → headerLines + k < length (setRows 58 iss)
+  unfolding setRows kindOf sequence typedSets
   data-rows k h = rw (length-append (map recordOf (sequence kind58)) (listsOf kind58 iss), e, numberRows-length) (omega arith)
 
 -- the first fields of a line of reals
@@ -85,7 +85,7 @@ unfolding numbersOf
 case-below c n j h = ⊎-elim (λ l. l) (λ l. let z : j < n * 0 = rw (le-ltb c 8 l) at h in absurd (omega (arith, mul-zero n))) (below-or-not c 8)
 
 -- a field of a data line
-data-field : (line : List ℕ) (c m k : ℕ) (is : List Item) → Written (cut m (dataRow c)) is line → k < m → k < fieldsOf c
+data-field : (line : List ℕ) (c m k : ℕ) (is : List Item) → Written (firstFields m (dataRow c)) is line → k < m → k < fieldsOf c
     → Spelled (getD is k Item.blank) (take (getD (layoutOf c .widths) k 0) (drop (fieldStart (layoutOf c .widths) k) line))
 unfolding dataRow fieldsOf
 data-field line c m k is w h l =
@@ -94,41 +94,41 @@ data-field line c m k is w h l =
     rw (getD-take m ws k 0 h, fieldStart-take m k ws (omega arith)) at (field-at line (take m ws) k (w .in-columns) (map-take m ws) b)
 
 -- the lists of a 58
-lists-58 : (s : Set) → s .number ≡ 58 → listsOf kind58 (s .lines) ≡ listRows (dataRow (caseOf s)) (storedCount s)
-unfolding listsOf following typedSets storedCount declared caseOf storedBy
+lists-58 : (s : Set) → s .number ≡ 58 → listsOf kind58 (s .lines) ≡ rowsHolding (dataRow (setCase s)) (storedCount s)
+unfolding listsOf following typedSets storedCount declared setCase storedBy
 lists-58 s e = rw e refl
 
-pub stored-case : (s : Set) (j : ℕ) → j < storedCount s → caseOf s < 8
+pub stored-case : (s : Set) (j : ℕ) → j < storedCount s → setCase s < 8
 unfolding storedCount
-stored-case s j h = case-below (caseOf s) (declared s) j h
+stored-case s j h = case-below (setCase s) (declared s) j h
 
 -- the data lines of a 58: the rows that write them, and how many they are
-module _ (iss : List (List Item)) (css : List (List ℕ)) (c total : ℕ) (e : listsOf kind58 iss ≡ listRows (dataRow c) total) (l : TypedLines (rowsOf 58 iss) iss css) where
-  typed-data : (k : ℕ) → k < linesFor (fieldsOf c) total → Written (cut (total - k * fieldsOf c) (dataRow c)) (getD iss (headerLines + k) []) (filled (getD css (headerLines + k) []))
+module _ (iss : List (List Item)) (css : List (List ℕ)) (c total : ℕ) (e : listsOf kind58 iss ≡ rowsHolding (dataRow c) total) (l : TypedLines (setRows 58 iss) iss css) where
+  typed-data : (k : ℕ) → k < linesFor (fieldsOf c) total → Written (firstFields (total - k * fieldsOf c) (dataRow c)) (getD iss (headerLines + k) []) (filled (getD css (headerLines + k) []))
   typed-data k h =
       let m : k < linesFor (length (dataRow c .fields)) total = rw (dataRow-length c) h in
       rw (dataRow-length c) at (subst (λ (r : Row). Written r (getD iss (headerLines + k) []) (filled (getD css (headerLines + k) []))) (data-row iss c total e k m) (typed-line (headerLines + k) l (data-rows iss c total e k m)))
 
   typed-count : length css ≡ headerLines + linesFor (fieldsOf c) total
-  unfolding rowsOf kindOf sequence typedSets
+  unfolding setRows kindOf sequence typedSets
   typed-count =
       typed-length l ∙ length-append (map recordOf (sequence kind58)) (listsOf kind58 iss)
       ∙ rw (e, numberRows-length (dataRow c) (linesFor (length (dataRow c .fields)) total) total, dataRow-length c) refl
 
 pub set-data : {s : Set} {css : List (List ℕ)} → SetLines s css → s .number ≡ 58 → DataLines s css
 set-data {s} (SetLines.typed {n} {iss} {css} t l) e =
-    record { written = typed-data iss css (caseOf s) (storedCount s) (lists-58 s e) (rw e at l); count = typed-count iss css (caseOf s) (storedCount s) (lists-58 s e) (rw e at l) }
+    record { written = typed-data iss css (setCase s) (storedCount s) (lists-58 s e) (rw e at l); count = typed-count iss css (setCase s) (storedCount s) (lists-58 s e) (rw e at l) }
 set-data (SetLines.plain {n} t l) e = false-not-true (sym (rw e at t) ∙ typed-58)
 
 -- a stored number is a real, spelled in its own columns
-pub stored-spelled : {s : Set} {p : Parts.Part} → Holds s p → s .number ≡ 58 → (j : ℕ) → j < storedCount s → Spelled (storedItem s j) (ownColumns (caseOf s) p j)
+pub stored-spelled : {s : Set} {p : Parts.Part} → Holds s p → s .number ≡ 58 → (j : ℕ) → j < storedCount s → Spelled (storedItem s j) (ownColumns (setCase s) p j)
 unfolding ownColumns storedItem
 stored-spelled {s} {p} h e j l =
-    let n : ℕ = fieldsOf (caseOf s) in
-    let b : 0 < fieldsOf (caseOf s) = fieldsOf-some (caseOf s) (stored-case s j l) in
-    let k : ℕ = lineOf (fieldsOf (caseOf s)) j in
+    let n : ℕ = fieldsOf (setCase s) in
+    let b : 0 < fieldsOf (setCase s) = fieldsOf-some (setCase s) (stored-case s j l) in
+    let k : ℕ = lineOf (fieldsOf (setCase s)) j in
     let d = set-data (h .lines) e in
-    let q : lineOf (fieldsOf (caseOf s)) j * fieldsOf (caseOf s) + fieldOf (fieldsOf (caseOf s)) j ≡ j = stored-at (fieldsOf (caseOf s)) j in
-    rw (lineOf-columns p (headerLines + lineOf (fieldsOf (caseOf s)) j))
-    (data-field (filled (getD (columnsOf (p .body)) (headerLines + lineOf (fieldsOf (caseOf s)) j) [])) (caseOf s) (storedCount s - lineOf (fieldsOf (caseOf s)) j * fieldsOf (caseOf s)) (fieldOf (fieldsOf (caseOf s)) j) (getD (s .lines) (headerLines + lineOf (fieldsOf (caseOf s)) j) [])
-    (d .written (lineOf (fieldsOf (caseOf s)) j) (line-enough (fieldsOf (caseOf s)) (storedCount s) j b l)) (omega arith) (fieldOf-inside (fieldsOf (caseOf s)) j b))
+    let q : lineOf (fieldsOf (setCase s)) j * fieldsOf (setCase s) + fieldOf (fieldsOf (setCase s)) j ≡ j = stored-at (fieldsOf (setCase s)) j in
+    rw (lineOf-columns p (headerLines + lineOf (fieldsOf (setCase s)) j))
+    (data-field (filled (getD (columnsOf (p .body)) (headerLines + lineOf (fieldsOf (setCase s)) j) [])) (setCase s) (storedCount s - lineOf (fieldsOf (setCase s)) j * fieldsOf (setCase s)) (fieldOf (fieldsOf (setCase s)) j) (getD (s .lines) (headerLines + lineOf (fieldsOf (setCase s)) j) [])
+    (d .written (lineOf (fieldsOf (setCase s)) j) (line-enough (fieldsOf (setCase s)) (storedCount s) j b l)) (omega arith) (fieldOf-inside (fieldsOf (setCase s)) j b))

@@ -11,7 +11,7 @@ use Rattle.ends.specs.Ends.{joined}
 use Rattle.ends.specs.EndsLaws.{cut-joined}
 use Rattle.parts.specs.Parts.{Part, bytesIn, pastOf, throughOf}
 use Rattle.parts.specs.PartsLaws.{bytesIn-append}
-use Rattle.places.specs.Holds.{Stand}
+use Rattle.places.specs.Holds.{AtPlaces}
 use Rattle.places.specs.Text.{linesOf}
 
 joined-append : (a b : List (List ℕ)) (r : List ℕ) → joined (a ++ b) r ≡ joined a [] ++ joined b r
@@ -55,16 +55,16 @@ later-cut n at q p before after l b c =
       lines = rw (length-append before (linesOf q ++ c .before), length-append (linesOf q) (c .before)) (omega (arith, c .lines));
     }
 
-stand-cut : {n at : ℕ} {ss : List Set} {ps : List Part} {ls : List (List ℕ)} (k : ℕ) (p : Part) (qs : List Part) → Stand n at ss ps ls → drop k ps ≡ p ∷ qs → Cut n at p ls
-stand-cut zero p qs (Stand.end b) e = let z : 0 ≡ suc (length qs) = ap length e in absurd (omega arith)
-stand-cut (suc k) p qs (Stand.end b) e = let z : 0 ≡ suc (length qs) = ap length e in absurd (omega arith)
-stand-cut {n} {at} zero p qs (Stand.more {p = q} before after b l c h r) e =
+stand-cut : {n at : ℕ} {ss : List Set} {ps : List Part} {ls : List (List ℕ)} (k : ℕ) (p : Part) (qs : List Part) → AtPlaces n at ss ps ls → drop k ps ≡ p ∷ qs → Cut n at p ls
+stand-cut zero p qs (AtPlaces.end b) e = let z : 0 ≡ suc (length qs) = ap length e in absurd (omega arith)
+stand-cut (suc k) p qs (AtPlaces.end b) e = let z : 0 ≡ suc (length qs) = ap length e in absurd (omega arith)
+stand-cut {n} {at} zero p qs (AtPlaces.more {p = q} before after b l c h r) e =
     let z : q ≡ p = cc in
     subst (λ (x : Part). Cut n at x (before ++ (q .opening ∷ q .number ∷ (q .body ++ (q .closing ∷ after))))) z (first-cut n at q before after l c)
-stand-cut {n} {at} (suc k) p qs (Stand.more {p = q} before after b l c h r) e = later-cut n at q p before after l c (stand-cut k p qs r e)
+stand-cut {n} {at} (suc k) p qs (AtPlaces.more {p = q} before after b l c h r) e = later-cut n at q p before after l c (stand-cut k p qs r e)
 
 -- the bytes of set k
-pub part-bytes : {ss : List Set} (bytes : List ℕ) {ps : List Part} (k : ℕ) (p : Part) (qs : List Part) → Stand 0 0 ss ps (cut bytes .lines) → drop k ps ≡ p ∷ qs
+pub part-bytes : {ss : List Set} (bytes : List ℕ) {ps : List Part} (k : ℕ) (p : Part) (qs : List Part) → AtPlaces 0 0 ss ps (cut bytes .lines) → drop k ps ≡ p ∷ qs
     → take (pastOf p - p .bytes) (drop (p .bytes) bytes) ≡ joined (linesOf p) []
 unfolding pastOf
 part-bytes bytes k p qs s e =

@@ -15,7 +15,6 @@ use Rattle.line.specs.Line.{columns, withoutReturn, filled}
 use Rattle.line.specs.LineLaws.{columns-take, columns-lf, columns-return, filled-short}
 use Rattle.layout.specs.Columns.{lineOf, fieldOf}
 use Rattle.layout.specs.Layout.{layoutOf, fieldsOf}
-use Rattle.field.specs.Item.{Item}
 use Rattle.rows.specs.TypedSets.{headerLines}
 use Rattle.theory.specs.Sets.{Set}
 use Rattle.ends.specs.ShortLaws.{short-at}
@@ -25,7 +24,7 @@ use Rattle.parts.specs.Function as Function
 use Rattle.parts.specs.Set.{Somewhere}
 use Rattle.parts.specs.SetLaws.{line-bytes, line-end}
 use Rattle.places.specs.Holds.{columnsOf, Holds}
-use Rattle.places.specs.Declared.{caseOf}
+use Rattle.places.specs.Declared.{setCase}
 use Rattle.places.specs.DeclaredLaws.{case-held}
 use Rattle.places.specs.Stored.{storedCount}
 use Rattle.places.specs.StoredLaws.{set-data}
@@ -96,15 +95,15 @@ module _ {s : Set} {p : Parts.Part} (file : List ℕ) (ps : List Parts.Part) (w 
   owned-column : (k a : ℕ) → headerLines + k < length (p .body) → (getD (filled (columns true (getD (p .body) (headerLines + k) []))) a 32 ≡ 32 → ⊥) → Owned p (storedCount s) (Parts.lineStart p (headerLines + k) + a)
   unfolding Function.firstByte Function.pastByte Function.dataLine fieldsOf
   owned-column k a l n =
-      let q : Function.caseOf p ≡ caseOf s = case-held h e in
+      let q : Function.partCase p ≡ setCase s = case-held h e in
       let d = set-data (h .lines) e in
       let y = d .written k (omega (arith, body-length h e)) in
-      let c = data-covered (filled (getD (columnsOf (p .body)) (headerLines + k) [])) (caseOf s) (storedCount s - k * fieldsOf (caseOf s)) (getD (s .lines) (headerLines + k) []) y a (λ z. n (rw (columns-at (headerLines + k)) at z)) in
+      let c = data-covered (filled (getD (columnsOf (p .body)) (headerLines + k) [])) (setCase s) (storedCount s - k * fieldsOf (setCase s)) (getD (s .lines) (headerLines + k) []) y a (λ z. n (rw (columns-at (headerLines + k)) at z)) in
       let f : ℕ = c .0 .field in
-      let g = stored-place (length (layoutOf (caseOf s) .widths)) k (c .0 .field) (c .0 .some) in
-      let j : ℕ = c .0 .field + k * length (layoutOf (caseOf s) .widths) in
+      let g = stored-place (length (layoutOf (setCase s) .widths)) k (c .0 .field) (c .0 .some) in
+      let j : ℕ = c .0 .field + k * length (layoutOf (setCase s) .widths) in
       record {
-        index = c .0 .field + k * length (layoutOf (caseOf s) .widths);
+        index = c .0 .field + k * length (layoutOf (setCase s) .widths);
         some = omega (arith, c .1);
         from = rw (q, g .0, g .1) (omega (arith, c .0 .from));
         past = rw (q, g .0, g .1) (omega (arith, c .0 .past));

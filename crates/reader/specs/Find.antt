@@ -13,7 +13,7 @@ use Rattle.layout.specs.Layout.{layoutOf, fieldsOf, numbersOf}
 use Rattle.rows.specs.TypedSets.{headerLines}
 use Rattle.parts.specs.Parts.{Part, isFunction, lineStart, closingStart}
 use Rattle.parts.specs.Scan.{skipTo}
-use Rattle.parts.specs.Function.{caseOf, countOf}
+use Rattle.parts.specs.Function.{partCase, countOf}
 use Rattle.reader.specs.declared.Read.{Read}
 use Rattle.reader.specs.declared.Data.{Data}
 use Rattle.reader.specs.declared.Span.{Span}
@@ -29,7 +29,7 @@ nothing = data58 0 0 0 0
 -- where the first of these sets has its numbers, if it is a 58 of one of the eight cases
 unfoldable pub dataOf : List Part → Data
 dataOf [] = nothing
-dataOf (p ∷ ps) = pick (isFunction p && ltb (caseOf p) 8) (data58 (lineStart p 0) (closingStart p) (caseOf p) (countOf p)) nothing
+dataOf (p ∷ ps) = pick (isFunction p && ltb (partCase p) 8) (data58 (lineStart p 0) (closingStart p) (partCase p) (countOf p)) nothing
 
 -- the first byte of the data line of stored number j
 unfoldable pub lineAt : List ℕ → Data → ℕ → ℕ

@@ -10,14 +10,14 @@ use lib.Seq.{drop-drop, drop-nil}
 use Rattle.rows.specs.TypedSets.{lineSeven}
 use Rattle.record.specs.Declared.{caseIn, countIn}
 use Rattle.parts.specs.declared.Extent.{Extent}
-use Rattle.parts.specs.Parts.{Part, partsOf, numberOf, isFunction, lineOf, closingStart}
+use Rattle.parts.specs.Parts.{Part, partsOf, datasetOf, isFunction, lineOf, closingStart}
 use Rattle.parts.specs.Scan.{lineFrom, firstOf, First}
 use Rattle.parts.specs.ScanLaws.{found-first, found-none}
 use Rattle.parts.specs.Set.{remaining, Somewhere}
 use Rattle.parts.specs.SetLaws.{somewhere}
 use Rattle.parts.specs.Turn.{Between}
 use Rattle.parts.specs.TurnLaws.{turn, between-none}
-use Rattle.parts.specs.Function.{caseOf, countOf}
+use Rattle.parts.specs.Function.{partCase, countOf}
 use Rattle.parts.specs.FunctionLaws.{lineFrom-own}
 use Rattle.reader.specs.Reader.{setsFrom}
 use Rattle.reader.specs.Find.{data58, nothing, dataOf}
@@ -89,15 +89,15 @@ module _ (file : List ℕ) (set : ℕ) (e : Extent) (some : set ≡ 0 → ⊥) (
     -- no 58
     pub data-other : (e .number ≡ 58 → ⊥) → nothing ≡ dataOf (setsFrom file set)
     unfolding dataOf
-    data-other h = rw (w .sets, ne-eqb (numberOf (w .set)) 58 (λ z. h (w .number ∙ z))) refl
+    data-other h = rw (w .sets, ne-eqb (datasetOf (w .set)) 58 (λ z. h (w .number ∙ z))) refl
 
     module _ (h : e .number ≡ 58) (c : ℕ) (f : c ≡ caseIn (lineFrom (e .closing) (e .body) file lineSeven)) where
-      case-own : c ≡ caseOf (w .set)
-      unfolding caseOf
+      case-own : c ≡ partCase (w .set)
+      unfolding partCase
       case-own = f ∙ ap caseIn line-seven
 
       a58 : isFunction (w .set) ≡ true
-      a58 = eq-eqb (numberOf (w .set)) 58 (sym (w .number) ∙ h)
+      a58 = eq-eqb (datasetOf (w .set)) 58 (sym (w .number) ∙ h)
 
       -- no case
       pub data-no-case : 8 ≤ c → nothing ≡ dataOf (setsFrom file set)

@@ -1,7 +1,7 @@
 -- The reader's answers (01, "Reader": "Of a 58 only. By set (from 1) and stored number (from 0): first and past byte of its columns, and
 -- the sign, coefficient and scale. By set and value (from 0) an answer of one of four kinds: a real, a complex pair, or either with its
 -- abscissa, in f64").
-use mathlib.Core.Bool.{Bool, true, false, _||_}
+use mathlib.Core.Bool.{Bool, _||_}
 use mathlib.Core.List.{List, [], _∷_, _++_}
 use Prim.Native.Nat.{ℕ, zero, suc, _+_, _-_, _*_}
 use lib.Dec.{leb, ltb, eqb}
@@ -18,7 +18,7 @@ use Rattle.exact.specs.declared.Exact.the-variants as ex
 use Rattle.exact.specs.Exact.{exactOf}
 use Rattle.layout.specs.Layout.{layoutOf, numbersOf}
 use Rattle.parts.specs.Parts.{Part, partsOf}
-use Rattle.parts.specs.Function.{caseOf, countOf, storedOf, firstByte, pastByte}
+use Rattle.parts.specs.Function.{partCase, countOf, storedOf, firstByte, pastByte}
 use Rattle.judge.specs.declared.Reply.{Reply}
 use Rattle.judge.specs.Judge.{judged, reply}
 use Rattle.reader.specs.declared.Read.{Read}
@@ -103,8 +103,8 @@ numberFrom file (p ∷ ps) j =
     pick (ltb j (storedOf p)) (shownOf (firstByte p j) (pastByte p j) (realIn file p j)) (refused 18 0)
 
 -- a stored number by its set and index
-unfoldable pub numberOf : List ℕ → ℕ → ℕ → Said Shown
-numberOf file set j = judgedFirst (judged file) (numberFrom file (setsFrom file set) j)
+unfoldable pub storedNumber : List ℕ → ℕ → ℕ → Said Shown
+storedNumber file set j = judgedFirst (judged file) (numberFrom file (setsFrom file set) j)
 
 -- a number's f64, or the number of its refusal: 21 "number outside the exact path", and 18, as above, where there is none
 abbrev pub onExact : Exact → Read
@@ -135,23 +135,23 @@ isUneven c = eqb (layoutOf c .spacing) 0
 unfoldable pub isComplex : ℕ → Bool
 isComplex c = eqb (layoutOf c .ordinate) 5 || eqb (layoutOf c .ordinate) 6
 
-unfoldable pub kindOf : ℕ → ℕ
-kindOf c = (1 + pick (isComplex c) 1 0) + pick (isUneven c) 2 0
+unfoldable pub valueKind : ℕ → ℕ
+valueKind c = (1 + pick (isComplex c) 1 0) + pick (isUneven c) 2 0
 
 -- "A value stores its abscissa first where uneven, then its real part, then its imaginary part", and "value i has the numbers ik to
 -- ik + k − 1": value i in case c
 unfoldable pub valueWith : (ℕ → Real) → ℕ → ℕ → Said Float
-valueWith g c i = whole (kindOf c) [] (reads g (i * numbersOf c) (numbersOf c))
+valueWith g c i = whole (valueKind c) [] (reads g (i * numbersOf c) (numbersOf c))
 
 -- how many values a set has: its declared count, which is 0 unless it is a 58; none where its line 7 names no case, as in no accepted file
 unfoldable pub valuesIn : Part → ℕ
-valuesIn p = pick (ltb (caseOf p) 8) (countOf p) 0
+valuesIn p = pick (ltb (partCase p) 8) (countOf p) 0
 
 -- 18 "no such set, .., or not a 58": no set, or an index not below its values
 abbrev pub valueFrom : List ℕ → List Part → ℕ → Said Float
 valueFrom file [] i = refused 18 0
 valueFrom file (p ∷ ps) i =
-    pick (ltb i (valuesIn p)) (valueWith (realIn file p) (caseOf p) i) (refused 18 0)
+    pick (ltb i (valuesIn p)) (valueWith (realIn file p) (partCase p) i) (refused 18 0)
 
 -- a value by its set and index
 unfoldable pub valueOf : List ℕ → ℕ → ℕ → Said Float

@@ -12,7 +12,7 @@ use Rattle.parts.specs.Parts.{Part, lineStart, closingStart}
 use Rattle.parts.specs.Scan.{skipTo}
 use Rattle.parts.specs.Set.{Standing}
 use Rattle.parts.specs.SetLaws.{line-at}
-use Rattle.parts.specs.Function.{caseOf, dataLine, firstByte, pastByte}
+use Rattle.parts.specs.Function.{partCase, dataLine, firstByte, pastByte}
 use Rattle.reader.specs.declared.Data.{Data}
 use Rattle.reader.specs.declared.Span.{Span}
 use Rattle.reader.specs.Find.{data58, lineAt, spanOf}
@@ -33,14 +33,14 @@ span-ordered file d j = omega arith
 
 -- of a set that stands in the file
 module _ (file : List ℕ) (n at : ℕ) (p : Part) (ps : List Part) (s : Standing file n at p ps) (count j : ℕ) where
-  pub line-own : lineAt file (data58 (lineStart p 0) (closingStart p) (caseOf p) count) j ≡ dataLine p j
+  pub line-own : lineAt file (data58 (lineStart p 0) (closingStart p) (partCase p) count) j ≡ dataLine p j
   unfolding lineAt dataLine
   line-own = line-at file n at p ps s _
 
-  pub first-own : spanOf file (data58 (lineStart p 0) (closingStart p) (caseOf p) count) j .first ≡ firstByte p j
+  pub first-own : spanOf file (data58 (lineStart p 0) (closingStart p) (partCase p) count) j .first ≡ firstByte p j
   unfolding spanOf firstByte
   first-own = rw line-own refl
 
-  pub past-own : spanOf file (data58 (lineStart p 0) (closingStart p) (caseOf p) count) j .past ≡ pastByte p j
+  pub past-own : spanOf file (data58 (lineStart p 0) (closingStart p) (partCase p) count) j .past ≡ pastByte p j
   unfolding spanOf pastByte
   past-own = rw line-own refl

@@ -6,7 +6,7 @@ ghost use Rattle.laws.specs.Choice.{pick};
 ghost use mathlib.Core.List.{[], _∷_};
 ghost use Rattle.parts.specs.Parts.{partsOf};
 ghost use Rattle.parts.specs.Scan.{firstOf};
-ghost use Rattle.reader.specs.Reader.{readIn, readOf, whole, paper, paperNumber, numberOf, valueOf, setsFrom, numberFrom, valueFrom, refused};
+ghost use Rattle.reader.specs.Reader.{readIn, readOf, whole, paper, paperNumber, storedNumber, valueOf, setsFrom, numberFrom, valueFrom, refused};
 ghost use Rattle.reader.specs.Find.{dataOf, spanOf, readAt, valueAt};
 use exact::Exact;
 use exact::exact_f64;
@@ -190,7 +190,7 @@ fn number_from(file: &[u8], set: u32, index: u32) -> NumberAnswer
 
 // A stored number by its set, counted from 1, and its index, counted from 0.
 pub fn number(file: &[u8], set: u32, index: u32) -> NumberAnswer
-    ensures { λ r. ⌜ paperNumber r ≡ numberOf (now (file .entry)) set index ⌝ }
+    ensures { λ r. ⌜ paperNumber r ≡ storedNumber (now (file .entry)) set index ⌝ }
 {
     let r = judge(file);
     if 0 < r.number {

@@ -27,24 +27,24 @@ use Rattle.codes.specs.Rule.{Rule, keeps}
 use Rattle.codes.specs.Form.{Form, Optional, skip, identification, real, integer, never, within}
 use Rattle.field.specs.Item.{Item}
 use Rattle.field.specs.Field.{columnsOf, blankIn, mayBlank, integerNumber, realNumber, fieldNumber, integerItem, realItem, withItem}
-use Rattle.record.specs.Check.{firstByte, strayIn}
+use Rattle.record.specs.Check.{firstNonBlank, strayIn}
 use Rattle.record.specs.Written.{Stands, a-text, a-identification, an-integer, a-blank, a-real}
 
 -- Skipped columns.
 
 -- in blanks no other byte is found
-pub firstByte-complete : (k : ℕ) {cols : List ℕ} → Blanks cols → firstByte k cols ≡ 0
-unfolding firstByte
+pub firstByte-complete : (k : ℕ) {cols : List ℕ} → Blanks cols → firstNonBlank k cols ≡ 0
+unfolding firstNonBlank
 firstByte-complete k none = refl
 firstByte-complete k (one b) = firstByte-complete (k + 1) b
 
 -- columns in which none is found are blanks; a column found is counted from 1, so 0 says none
-pub firstByte-sound : (k : ℕ) (cols : List ℕ) → 0 < k → firstByte k cols ≡ 0 → Blanks cols
-unfolding firstByte
+pub firstByte-sound : (k : ℕ) (cols : List ℕ) → 0 < k → firstNonBlank k cols ≡ 0 → Blanks cols
+unfolding firstNonBlank
 firstByte-sound k [] p h = none
 firstByte-sound k (b ∷ cols) p h = first (eqb b 32) refl h (firstByte-sound (k + 1) cols (omega arith))
   where
-    first : (t : Bool) → eqb b 32 ≡ t → pick t (firstByte (k + 1) cols) k ≡ 0 → (firstByte (k + 1) cols ≡ 0 → Blanks cols) → Blanks (b ∷ cols)
+    first : (t : Bool) → eqb b 32 ≡ t → pick t (firstNonBlank (k + 1) cols) k ≡ 0 → (firstNonBlank (k + 1) cols ≡ 0 → Blanks cols) → Blanks (b ∷ cols)
     first true e z rest = rw (eqb-true b 32 e) (one (rest z))
     first false e z rest = absurd (omega arith)
 

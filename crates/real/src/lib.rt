@@ -2,7 +2,7 @@
 ghost use mathlib.Core.Path.{_≡_};
 ghost use mathlib.Core.Logic.{_⊎_};
 ghost use Prim.Native.Nat.{_^_, _<_};
-ghost use Rattle.real.specs.Real.{start, malformed, push, next, onCoefficient, exponentDigit, onExponent, onDigit};
+ghost use Rattle.real.specs.Real.{malformed, push, next, onCoefficient, exponentDigit, onExponent, onDigit};
 ghost use Rattle.real.specs.Real.{afterCoefficient, onSign, onPoint, onLetter, onBlank, isLetter, scanStep, scaled, realEnd, realOf};
 ghost use Rattle.real.specs.Plain.{isPlain, Few};
 use laws::wide;

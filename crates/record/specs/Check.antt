@@ -26,9 +26,9 @@ fieldsFault (f ∷ fs) at line =
     orElse (fieldNumber (f .form) (mayBlank (f .form) line) (take (f .width) (drop at line))) (at + 1) (fieldsFault fs (at + f .width) line)
 
 -- the column, counted from the one given, of the first byte that is no blank; 0 where all are
-unfoldable pub firstByte : ℕ → List ℕ → ℕ
-firstByte k [] = 0
-firstByte k (b ∷ bs) = pick (eqb b 32) (firstByte (k + 1) bs) k
+unfoldable pub firstNonBlank : ℕ → List ℕ → ℕ
+firstNonBlank k [] = 0
+firstNonBlank k (b ∷ bs) = pick (eqb b 32) (firstNonBlank (k + 1) bs) k
 
 -- the column given, where it is not 0, otherwise what follows
 abbrev pub orColumn : ℕ → ℕ → ℕ
@@ -37,7 +37,7 @@ orColumn (suc c) rest = suc c
 
 -- the same in the columns of a field: only skipped columns lie outside the fields
 abbrev pub strayIn : Form → ℕ → List ℕ → ℕ
-strayIn skip k cols = firstByte k cols
+strayIn skip k cols = firstNonBlank k cols
 strayIn text k cols = 0
 strayIn identification k cols = 0
 strayIn real k cols = 0
@@ -45,7 +45,7 @@ strayIn (integer r o) k cols = 0
 
 -- the column of the first "non-blank byte outside the fields due on this line", 0 where there is none
 unfoldable pub stray : List Field → ℕ → List ℕ → ℕ
-stray [] at line = firstByte (at + 1) (columnsOf at 80 line)
+stray [] at line = firstNonBlank (at + 1) (columnsOf at 80 line)
 stray (f ∷ fs) at line = orColumn (strayIn (f .form) (at + 1) (take (f .width) (drop at line))) (stray fs (at + f .width) line)
 
 unfoldable pub itemsOf : List Field → ℕ → List ℕ → List Item

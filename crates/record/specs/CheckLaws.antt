@@ -22,7 +22,7 @@ use Rattle.layout.specs.Columns.{total}
 use Rattle.field.specs.Field.{columnsOf, mayBlank, fieldNumber}
 use Rattle.rows.specs.Row.{Field, Row}
 use Rattle.rows.specs.Records.{fieldList}
-use Rattle.record.specs.Check.{orElse, orColumn, otherwise, strayIn, strayFault, fieldsFault, firstByte, stray, fieldsRefusal, conditionFault, rowRefusal}
+use Rattle.record.specs.Check.{orElse, orColumn, otherwise, strayIn, strayFault, fieldsFault, firstNonBlank, stray, fieldsRefusal, conditionFault, rowRefusal}
 
 -- a number above 0 is the refusal; 0 is none
 pub orElse-here : (n c : ℕ) (rest : Refusal) → 0 < n → orElse n c rest ≡ refusal n c
@@ -124,16 +124,16 @@ columns-next l i past h b =
 
 module _ (l : List ℕ) (i past : ℕ) where
   pub firstByte-next : i < past → past ≤ length l → getD l i 0 ≡ 32
-      → firstByte (i + 1) (take (past - i) (drop i l)) ≡ firstByte (i + 1 + 1) (take (past - (i + 1)) (drop (i + 1) l))
-  unfolding firstByte
+      → firstNonBlank (i + 1) (take (past - i) (drop i l)) ≡ firstNonBlank (i + 1 + 1) (take (past - (i + 1)) (drop (i + 1) l))
+  unfolding firstNonBlank
   firstByte-next h b e = rw (columns-next l i past h b) (simp (eq-eqb _ _ e))
 
-  pub firstByte-here : i < past → past ≤ length l → (getD l i 0 ≡ 32 → ⊥) → firstByte (i + 1) (take (past - i) (drop i l)) ≡ i + 1
-  unfolding firstByte
+  pub firstByte-here : i < past → past ≤ length l → (getD l i 0 ≡ 32 → ⊥) → firstNonBlank (i + 1) (take (past - i) (drop i l)) ≡ i + 1
+  unfolding firstNonBlank
   firstByte-here h b n = rw (columns-next l i past h b) (simp (ne-eqb _ _ n))
 
-  pub firstByte-end : past ≤ i → firstByte (i + 1) (take (past - i) (drop i l)) ≡ 0
-  unfolding firstByte
+  pub firstByte-end : past ≤ i → firstNonBlank (i + 1) (take (past - i) (drop i l)) ≡ 0
+  unfolding firstNonBlank
   firstByte-end h = let z : past - i ≡ 0 = omega arith in rw z refl
 
 -- the width of a field, from its first column and the one past it
@@ -142,7 +142,7 @@ past-width a w = omega arith
 
 -- no byte of a field lies outside the fields
 module _ (k c : ℕ) (cols : List ℕ) where
-  pub strayIn-past : lastForm < k → strayIn (formOf k) c cols ≡ firstByte c cols
+  pub strayIn-past : lastForm < k → strayIn (formOf k) c cols ≡ firstNonBlank c cols
   strayIn-past h = rw (formOf-past k h) refl
 
   pub strayIn-field : (k ≡ 0 → ⊥) → k ≤ lastForm → strayIn (formOf k) c cols ≡ 0
@@ -160,7 +160,7 @@ module _ (ks ws line : List ℕ) (k at w : ℕ) (h : k < length ws) (l : length 
   unfolding fieldsFault
   fieldsFault-stop e = rw (fieldList-stop ks ws k h l (sym q ∙ e)) refl
 
-  pub stray-stop : w ≡ 0 → stray (fieldList (drop k ks) (drop k ws)) at line ≡ firstByte (at + 1) (columnsOf at 80 line)
+  pub stray-stop : w ≡ 0 → stray (fieldList (drop k ks) (drop k ws)) at line ≡ firstNonBlank (at + 1) (columnsOf at 80 line)
   unfolding stray
   stray-stop e = rw (fieldList-stop ks ws k h l (sym q ∙ e)) refl
 
@@ -200,7 +200,7 @@ module _ (ks ws line : List ℕ) (k at : ℕ) (h : length ws ≤ k) where
   unfolding fieldsFault
   fieldsFault-end = rw (fieldList-end ks ws k h) refl
 
-  pub stray-end : stray (fieldList (drop k ks) (drop k ws)) at line ≡ firstByte (at + 1) (columnsOf at 80 line)
+  pub stray-end : stray (fieldList (drop k ks) (drop k ws)) at line ≡ firstNonBlank (at + 1) (columnsOf at 80 line)
   unfolding stray
   stray-end = rw (fieldList-end ks ws k h) refl
 
@@ -246,7 +246,7 @@ module _ (r : Row) (line : List ℕ) (f : Refusal) (e : f ≡ fieldsRefusal (r .
   rowRefusal-condition p = rw (← e) (otherwise-on f _ p)
 
 -- blank columns hold no byte that is none
-pub firstByte-blank : (k : ℕ) (cols : List ℕ) → allBlank cols ≡ true → firstByte k cols ≡ 0
-unfolding allBlank firstByte
+pub firstByte-blank : (k : ℕ) (cols : List ℕ) → allBlank cols ≡ true → firstNonBlank k cols ≡ 0
+unfolding allBlank firstNonBlank
 firstByte-blank k [] h = refl
 firstByte-blank k (b ∷ cols) h = rw (and-left (eqb b 32) (allBlank cols) h) (firstByte-blank (k + 1) cols (and-right (eqb b 32) (allBlank cols) h))

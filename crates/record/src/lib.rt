@@ -6,7 +6,7 @@ ghost use Rattle.codes.specs.Form.{formOf};
 ghost use Rattle.layout.specs.Columns.{total};
 ghost use Rattle.field.specs.Field.{mayBlank, fieldNumber};
 ghost use Rattle.rows.specs.Records.{recordOf, dataRow, fieldList};
-ghost use Rattle.record.specs.Check.{fieldsFault, firstByte, strayIn, stray, fieldsRefusal, conditionFault, rowRefusal};
+ghost use Rattle.record.specs.Check.{fieldsFault, firstNonBlank, strayIn, stray, fieldsRefusal, conditionFault, rowRefusal};
 use codes::LAST_FORM;
 use codes::REAL;
 use codes::SKIP;
@@ -60,7 +60,7 @@ fn check_fields(line: &[u8; 80], forms: &[u8], widths: &[u8]) -> Refusal
 // The column, from 1, of the first byte of the columns from `at` to before `past` that is no blank; 0 where all are.
 fn first_byte(line: &[u8; 80], at: usize, past: usize) -> usize
     requires { ⌜ (at ≤ past) × (past ≤ 80) ⌝ }
-    ensures { λ r. ⌜ r ≡ firstByte (at + 1) (take (past - at) (drop at (now (line .entry)))) ⌝ }
+    ensures { λ r. ⌜ r ≡ firstNonBlank (at + 1) (take (past - at) (drop at (now (line .entry)))) ⌝ }
 {
     let columns: &[u8] = line;
     if text::is_blank(&columns[at..past]) {

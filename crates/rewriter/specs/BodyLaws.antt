@@ -1,15 +1,13 @@
 -- What is kept of the lines of a set, line by line.
 use mathlib.Core.Path.{_≡_, refl, sym, ap, _∙_}
 use mathlib.Core.Bool.{Bool, true, false}
-use mathlib.Core.List.{List, [], _∷_, _++_, append-assoc, append-nil}
+use mathlib.Core.List.{List, [], _∷_, _++_, append-nil}
 use Prim.Native.Nat.{ℕ, suc, _+_, _-_, _≤_, _<_}
-use native.Mathlib.Numerals.{add-one}
-use native.Mathlib.Nat.{add-zero}
 use native.Mathlib.Omega.{arith}
 use borrow.Author.Tests.{le-leb, lt-leb}
 use lib.Dec.{leb}
-use lib.ListN.{length, getD, take, drop, set, length-append, length-take, length-drop, take-append-drop}
-use lib.Seq.{length-take-le, take-suc, take-all, take-at, drop-at, take-take, drop-drop, set-split}
+use lib.ListN.{length, take, drop, length-append, length-take}
+use lib.Seq.{take-take}
 use Rattle.laws.specs.Choice.{pick}
 use Rattle.laws.specs.Cut.{cut, lineLen}
 use Rattle.text.specs.Text.{trimmed}

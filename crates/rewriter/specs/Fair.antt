@@ -6,7 +6,7 @@ use Prim.{Unit}
 use Prim.Native.Nat.{ℕ, _≤_}
 use lib.ListN.{length}
 use Rattle.line.specs.Line.{Allowed, columns}
-use Rattle.parts.specs.Parts.{closes, Part, Stand, outside, opened, inside, numberOf}
+use Rattle.parts.specs.Parts.{closes, Part, PartState, outside, opened, inside, datasetOf}
 use Rattle.rewriter.specs.Rewriter.{plainNumber, keptOf}
 
 -- a line that keeps the rules on bytes and columns
@@ -28,16 +28,16 @@ pub data FairSets : List Part → Type 0 where
   more : {p : Part} {ps : List Part} → Inner (p .body) → FairSets ps → FairSets (p ∷ ps)
 
 -- what is kept of a set that is still open
-abbrev pub FairStand : Stand → Type 0
+abbrev pub FairStand : PartState → Type 0
 FairStand outside = Unit {0}
 FairStand (opened m b o) = Unit {0}
 FairStand (inside m b o v ls) = Inner ls
 
--- a delimiter spelled plainly, without its LF
+-- "delimiters .. spelled plainly": four blanks, `-1`, and no more; without its LF
 abbrev pub plainDelimiter : List ℕ
 plainDelimiter = 32 ∷ 32 ∷ 32 ∷ 32 ∷ 45 ∷ 49 ∷ []
 
 -- the lines that sets are laid out in
 unfoldable pub laid : List Part → List (List ℕ)
 laid [] = []
-laid (p ∷ ps) = plainDelimiter ∷ plainNumber (numberOf p) ∷ (map keptOf (p .body) ++ (plainDelimiter ∷ laid ps))
+laid (p ∷ ps) = plainDelimiter ∷ plainNumber (datasetOf p) ∷ (map keptOf (p .body) ++ (plainDelimiter ∷ laid ps))

@@ -1,6 +1,6 @@
 -- A dataset number spelled plainly, the length of a file rewritten, and its sets one by one.
-use mathlib.Core.Path.{_≡_, refl, sym, ap, subst, _∙_}
-use mathlib.Core.Bool.{true, false}
+use mathlib.Core.Path.{_≡_, refl, sym, ap, _∙_}
+use mathlib.Core.Bool.{false}
 use mathlib.Core.List.{List, [], _∷_, _++_, append-assoc, append-nil}
 use Prim.Native.Nat.{ℕ, zero, suc, _+_, _-_, _*_, _/_, _≤_, _<_}
 use native.Mathlib.Numerals.{add-one}
@@ -8,7 +8,7 @@ use native.Mathlib.Omega.{arith}
 use borrow.Author.Tests.{lt-ltb, le-ltb, ne-eqb}
 use lib.ListN.{length, drop, set, length-append, length-set}
 use lib.Seq.{drop-cons, drop-set-lt, getD-set-same, drop-length}
-use Rattle.parts.specs.Parts.{bytesIn, Part, partsOf, numberOf, lineStart, closingStart, pastOf, throughOf}
+use Rattle.parts.specs.Parts.{bytesIn, Part, partsOf, datasetOf, lineStart, closingStart, pastOf, throughOf}
 use Rattle.parts.specs.PartsLaws.{bytesIn-append}
 use Rattle.parts.specs.declared.Extent.{Extent}
 use Rattle.parts.specs.Set.{remaining, Standing}
@@ -124,7 +124,7 @@ pastOf-most p = rw (bytesIn-append (p .body) (p .closing ∷ [])) (omega arith)
 -- sets rewritten are at most seven times as long
 set-most : (p : Part) → length (rewrittenSet p) ≤ bytesIn (p .body) + 21
 unfolding rewrittenSet
-set-most p = omega (arith, setText-length (numberOf p) (p .body), linesText-most (p .body))
+set-most p = omega (arith, setText-length (datasetOf p) (p .body), linesText-most (p .body))
 
 pub rewritten-most : (file : List ℕ) (n at : ℕ) (ps : List Part) → at ≤ length file → remaining file n at ≡ ps → length (rewritten ps) ≤ 7 * (length file - at)
 unfolding rewritten
@@ -147,7 +147,7 @@ file-most file = omega (arith, rewritten-most file 0 0 (partsOf file) (omega ari
 -- one turn of the loop over sets: from the byte at on, the set that stands where e says
 module _ (file : List ℕ) (n at : ℕ) (e : Extent) where
   text-of : (p : Part) (ps : List Part) → remaining file n at ≡ p ∷ ps → Standing file n at p ps → ps ≡ remaining file (e .through) (e .past)
-      → e .number ≡ numberOf p → e .body ≡ lineStart p 0 → e .closing ≡ closingStart p
+      → e .number ≡ datasetOf p → e .body ≡ lineStart p 0 → e .closing ≡ closingStart p
       → rewritten (remaining file n at) ≡ setText (e .number) (linesIn (e .closing) (e .body) file) ++ rewritten (remaining file (e .through) (e .past))
   unfolding rewritten rewrittenSet
   text-of p ps sets s rest number body closing = rw (sets, ← rest, number, body, closing, lines-own file n at p ps s) refl

@@ -8,7 +8,7 @@ use lib.ListN.{length, drop}
 use Rattle.laws.specs.Choice.{pick}
 use Rattle.text.specs.Text.{trimmed}
 use Rattle.line.specs.Line.{columns}
-use Rattle.parts.specs.Parts.{Part, partsOf, numberOf}
+use Rattle.parts.specs.Parts.{Part, partsOf, datasetOf}
 use Rattle.output.specs.Output.{ended}
 use Rattle.judge.specs.Judge.{judged, reply}
 use Rattle.judge.specs.declared.Reply.{Reply}
@@ -49,7 +49,7 @@ unfoldable pub setText : ℕ → List (List ℕ) → List ℕ
 setText v ls = headText v ++ (linesText ls ++ delimiterLine)
 
 unfoldable pub rewrittenSet : Part → List ℕ
-rewrittenSet p = setText (numberOf p) (p .body)
+rewrittenSet p = setText (datasetOf p) (p .body)
 
 -- sets one after the other: "no lines outside sets"
 unfoldable pub rewritten : List Part → List ℕ

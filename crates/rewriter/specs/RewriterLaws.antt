@@ -15,7 +15,7 @@ use Rattle.text.specs.TextLaws.{trimmed-take}
 use Rattle.line.specs.Line.{Allowed, Allowed.none as no-byte, Allowed.more as byte, columns, withoutReturn, filled, lineFault, passed}
 use Rattle.line.specs.LineLaws.{filled-short, lineFault-sound}
 use Rattle.kind.specs.Kind.{isDelimiter, thenBlank}
-use Rattle.parts.specs.Parts.{closes, part, Stand, outside, opened, inside, partsFrom, partsOf}
+use Rattle.parts.specs.Parts.{closes, part, PartState, outside, opened, inside, partsFrom, partsOf}
 use Rattle.output.specs.Output.{ended}
 use Rattle.rewriter.specs.Rewriter.{keptOf, linesText}
 use Rattle.rewriter.specs.Fair.{Fair, FairLines, FairLines.none as no-line, FairLines.more as line, Inner, Inner.none as empty, Inner.more as inner, FairSets, FairSets.none as no-set, FairSets.more as set, FairStand, plainDelimiter}
@@ -70,12 +70,12 @@ fair-outside l n at true = tt
 fair-outside l n at false = tt
 
 fair-inside : (m b : ℕ) (o v : List ℕ) (bs : List (List ℕ)) (l : List ℕ) (n at : ℕ) (ls : List (List ℕ)) (t : Bool) → closes l ≡ t → Fair l → Inner bs
-    → ((s : Stand) → FairStand s → FairSets (partsFrom s (suc n) (at + suc (length l)) ls))
+    → ((s : PartState) → FairStand s → FairSets (partsFrom s (suc n) (at + suc (length l)) ls))
     → FairSets (pick t (part m b o v bs l ∷ []) [] ++ partsFrom (pick t outside (inside m b o v (bs ++ (l ∷ [])))) (suc n) (at + suc (length l)) ls)
 fair-inside m b o v bs l n at ls true e f i h = set i (h outside tt)
 fair-inside m b o v bs l n at ls false e f i h = h (inside m b o v (bs ++ (l ∷ []))) (inner-append i (inner f e empty))
 
-sets-fair : {ls : List (List ℕ)} → FairLines ls → (s : Stand) (n at : ℕ) → FairStand s → FairSets (partsFrom s n at ls)
+sets-fair : {ls : List (List ℕ)} → FairLines ls → (s : PartState) (n at : ℕ) → FairStand s → FairSets (partsFrom s n at ls)
 unfolding partsFrom
 sets-fair no-line s n at g = no-set
 sets-fair (line {l} {ls} f r) outside n at g = sets-fair r (pick (closes l) (opened n at l) outside) (suc n) (at + suc (length l)) (fair-outside l n at (closes l))

@@ -11,14 +11,11 @@ use Rattle.text.specs.Parts.{Digits}
 use Rattle.line.specs.Line.{Allowed, filled}
 use Rattle.kind.specs.Kind.{Delimiter}
 use Rattle.theory.specs.Sets.{Set}
+use Rattle.rewriter.specs.Fair.{plainDelimiter}
 use Rattle.ends.specs.NoDelimiter.{NoDelimiter}
 use Rattle.theory.specs.Proper.{BlankLines, Ended}
 
 -- The rewritten form.
-
--- "delimiters .. spelled plainly": four blanks, `-1`, and no more
-abbrev pub plainDelimiter : List ℕ
-plainDelimiter = 32 ∷ 32 ∷ 32 ∷ 32 ∷ 45 ∷ 49 ∷ []
 
 -- "dataset numbers spelled plainly": blanks, and then digits that mean the number, the first of them not 0, and no sign
 pub data Plainly : ℕ → List ℕ → Type 0 where

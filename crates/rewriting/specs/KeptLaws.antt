@@ -5,7 +5,6 @@ use mathlib.Core.List.{List, [], _∷_, map, append-nil}
 use Prim.Native.Nat.{ℕ, _≤_}
 use native.Mathlib.Omega.{arith}
 use lib.ListN.{length}
-use Rattle.text.specs.Blank.{Blanks.none as no-blank}
 use Rattle.text.specs.Text.{Unpadded, TextIn, text-in, trimmed}
 use Rattle.text.specs.TextLaws.{trimmed-complete, trimmed-sound}
 use Rattle.line.specs.Line.{columns, filled}
@@ -20,7 +19,6 @@ use Rattle.rewriter.specs.Rewriter.{keptOf}
 use Rattle.rewriter.specs.BodyLaws.{trimmed-most}
 use Rattle.rewriter.specs.RewriterLaws.{filled-text}
 use Rattle.rewriting.specs.Form.{Trimmed, SameLines}
-use Rattle.ends.specs.NoDelimiter.{NoDelimiter}
 
 -- One line.
 

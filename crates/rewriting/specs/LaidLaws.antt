@@ -13,16 +13,16 @@ use Rattle.kind.specs.KindLaws.{datasetNumber-complete}
 use Rattle.theory.specs.Sets.{Set}
 use Rattle.theory.specs.Proper.{BlankLines, Lines, Ended}
 use Rattle.ends.specs.Ends.{joined}
-use Rattle.parts.specs.Parts.{bytesIn, Part, numberOf}
+use Rattle.parts.specs.Parts.{bytesIn, Part, datasetOf}
 use Rattle.parts.specs.PartsLaws.{bytesIn-append}
-use Rattle.places.specs.Holds.{columnsOf, Holds, Stand}
+use Rattle.places.specs.Holds.{columnsOf, Holds, AtPlaces}
 use Rattle.rewriter.specs.Rewriter.{plainNumber, keptOf, linesText, headText, setText, rewrittenSet, rewritten}
 use Rattle.rewriter.specs.BodyLaws.{linesText-most}
 use Rattle.rewriter.specs.PutLaws.{plainNumber-length, setText-length}
 use Rattle.rewriter.specs.PlainLaws.{plainNumber-allowed}
-use Rattle.rewriter.specs.Fair.{Inner, FairSets, laid}
+use Rattle.rewriter.specs.Fair.{Inner, FairSets, laid, plainDelimiter}
 use Rattle.rewriter.specs.RewriterLaws.{kept-allowed}
-use Rattle.rewriting.specs.Form.{plainDelimiter, Plainly, PlainSets, LfEnded, Own, SameSets}
+use Rattle.rewriting.specs.Form.{Plainly, PlainSets, LfEnded, Own, SameSets}
 use Rattle.ends.specs.NoDelimiter.{NoDelimiter}
 use Rattle.ends.specs.NoDelimiterLaws.{set-none}
 use Rattle.rewriting.specs.NumberLaws.{plainNumber-plainly, plainNumber-line, plainNumber-only, delimiter-six, number-six}
@@ -68,7 +68,7 @@ unfolding laid joined
 laid-ended FairSets.none = LfEnded.none
 laid-ended (FairSets.more {p} i s) =
     LfEnded.more plainDelimiter _ delimiter-allowed (omega arith)
-    (LfEnded.more (plainNumber (numberOf p)) _ (plainNumber-allowed (numberOf p)) (omega (arith, plainNumber-length (numberOf p)))
+    (LfEnded.more (plainNumber (datasetOf p)) _ (plainNumber-allowed (datasetOf p)) (omega (arith, plainNumber-length (datasetOf p)))
     (body-ended i (LfEnded.more plainDelimiter _ delimiter-allowed (omega arith) (laid-ended s))))
 
 -- One set.
@@ -85,14 +85,14 @@ columns-six l h = omega (arith, columns-within true l)
 
 module _ {s : Set} {p : Part} (h : Holds s p) where
   -- its number
-  held-number : numberOf p ≡ s .number
-  unfolding numberOf
+  held-number : datasetOf p ≡ s .number
+  unfolding datasetOf
   held-number = datasetNumber-complete (h .number)
 
-  held-line : NumberLine (s .number) (filled (plainNumber (numberOf p)))
+  held-line : NumberLine (s .number) (filled (plainNumber (datasetOf p)))
   held-line = let b = number-bounds (h .number) in rw held-number (plainNumber-line (s .number) (b .0) (b .1))
 
-  held-plainly : Plainly (s .number) (plainNumber (numberOf p))
+  held-plainly : Plainly (s .number) (plainNumber (datasetOf p))
   held-plainly = let b = number-bounds (h .number) in rw held-number (plainNumber-plainly (s .number) (b .0) (b .1))
 
   -- its lines
@@ -117,34 +117,34 @@ own-columns before o v body c after =
     ∙ ap (λ (x : List (List ℕ)). columnsOf before ++ (columns true o ∷ columns true v ∷ x)) (map-append (columns true) body (c ∷ after))
 
 -- their own lines in the text
-pub stand-own : {n at : ℕ} {ss : List Set} {ps : List Part} {ls : List (List ℕ)} → Stand n at ss ps ls → Own (map bodyOf ps) (columnsOf ls)
-stand-own (Stand.end b) = Own.end b
-stand-own (Stand.more {p = p} {ps = ps} before after b i j h w) =
+pub stand-own : {n at : ℕ} {ss : List Set} {ps : List Part} {ls : List (List ℕ)} → AtPlaces n at ss ps ls → Own (map bodyOf ps) (columnsOf ls)
+stand-own (AtPlaces.end b) = Own.end b
+stand-own (AtPlaces.more {p = p} {ps = ps} before after b i j h w) =
     subst (Own (bodyOf p ∷ map bodyOf ps)) (sym (own-columns before (p .opening) (p .number) (p .body) (p .closing) after))
     (Own.more (columns true (p .opening)) (columns true (p .number)) (columns true (p .closing)) (columnsOf before) (bodyOf p) (columnsOf after)
     b (h .opening) (set-none (h .lines)) (h .closing) (stand-own w))
 
 -- what they are laid out as: lines of the same list
-pub laid-lines : {n at : ℕ} {ss : List Set} {ps : List Part} {ls : List (List ℕ)} → Stand n at ss ps ls → Lines ss (laid ps)
+pub laid-lines : {n at : ℕ} {ss : List Set} {ps : List Part} {ls : List (List ℕ)} → AtPlaces n at ss ps ls → Lines ss (laid ps)
 unfolding laid
-laid-lines (Stand.end b) = Lines.end BlankLines.none
-laid-lines (Stand.more {p = p} {ps = ps} before after b i j h w) =
-    Lines.more plainDelimiter (plainNumber (numberOf p)) plainDelimiter [] (keptIn p) (laid ps)
+laid-lines (AtPlaces.end b) = Lines.end BlankLines.none
+laid-lines (AtPlaces.more {p = p} {ps = ps} before after b i j h w) =
+    Lines.more plainDelimiter (plainNumber (datasetOf p)) plainDelimiter [] (keptIn p) (laid ps)
     BlankLines.none delimiter-filled (held-line h) (set-kept (p .body) (h .lines) (h .short)) delimiter-filled (laid-lines w)
 
 -- in rewritten form
-pub laid-plain : {n at : ℕ} {ss : List Set} {ps : List Part} {ls : List (List ℕ)} → Stand n at ss ps ls → PlainSets ss (laid ps)
+pub laid-plain : {n at : ℕ} {ss : List Set} {ps : List Part} {ls : List (List ℕ)} → AtPlaces n at ss ps ls → PlainSets ss (laid ps)
 unfolding laid
-laid-plain (Stand.end b) = PlainSets.none
-laid-plain (Stand.more {p = p} {ps = ps} before after b i j h w) =
-    PlainSets.more (plainNumber (numberOf p)) (keptIn p) (laid ps) (held-plainly h) (plainNumber-length (numberOf p)) (held-none h) (body-trimmed (p .body)) (laid-plain w)
+laid-plain (AtPlaces.end b) = PlainSets.none
+laid-plain (AtPlaces.more {p = p} {ps = ps} before after b i j h w) =
+    PlainSets.more (plainNumber (datasetOf p)) (keptIn p) (laid ps) (held-plainly h) (plainNumber-length (datasetOf p)) (held-none h) (body-trimmed (p .body)) (laid-plain w)
 
 -- with these own lines
-pub laid-own : {n at : ℕ} {ss : List Set} {ps : List Part} {ls : List (List ℕ)} → Stand n at ss ps ls → Own (map keptIn ps) (laid ps)
+pub laid-own : {n at : ℕ} {ss : List Set} {ps : List Part} {ls : List (List ℕ)} → AtPlaces n at ss ps ls → Own (map keptIn ps) (laid ps)
 unfolding laid
-laid-own (Stand.end b) = Own.end BlankLines.none
-laid-own (Stand.more {p = p} {ps = ps} before after b i j h w) =
-    Own.more plainDelimiter (plainNumber (numberOf p)) plainDelimiter [] (keptIn p) (laid ps) BlankLines.none delimiter-filled (held-none h) delimiter-filled (laid-own w)
+laid-own (AtPlaces.end b) = Own.end BlankLines.none
+laid-own (AtPlaces.more {p = p} {ps = ps} before after b i j h w) =
+    Own.more plainDelimiter (plainNumber (datasetOf p)) plainDelimiter [] (keptIn p) (laid ps) BlankLines.none delimiter-filled (held-none h) delimiter-filled (laid-own w)
 
 -- spelled the same
 pub kept-same : (ps : List Part) → SameSets (map bodyOf ps) (map keptIn ps)
@@ -152,10 +152,10 @@ kept-same [] = SameSets.none
 kept-same (p ∷ ps) = SameSets.more (body-same (p .body)) (kept-same ps)
 
 -- no longer than the text
-pub laid-short : {n at : ℕ} {ss : List Set} {ps : List Part} {ls : List (List ℕ)} → Stand n at ss ps ls → length (rewritten ps) ≤ bytesIn ls
+pub laid-short : {n at : ℕ} {ss : List Set} {ps : List Part} {ls : List (List ℕ)} → AtPlaces n at ss ps ls → length (rewritten ps) ≤ bytesIn ls
 unfolding rewritten bytesIn
-laid-short (Stand.end b) = omega arith
-laid-short (Stand.more {p = p} {ps = ps} before after b i j h w) =
+laid-short (AtPlaces.end b) = omega arith
+laid-short (AtPlaces.more {p = p} {ps = ps} before after b i j h w) =
     rw (length-append, bytesIn-append before _, bytesIn-append (p .body) _) (omega (arith, rw (bytesIn-append (p .body) (p .closing ∷ [])) at (held-short h), laid-short w))
 
 -- Lines in rewritten form of the same list, spelled the same, are the lines laid out.
@@ -170,12 +170,12 @@ plain-own PlainSets.none = Own.end BlankLines.none
 plain-own (PlainSets.more number body after p n d t w) = Own.more plainDelimiter number plainDelimiter [] body after BlankLines.none delimiter-filled d delimiter-filled (plain-own w)
 
 -- set by set
-pub plain-only : {n at : ℕ} {ss : List Set} {ps : List Part} {ls css : List (List ℕ)} → Stand n at ss ps ls → (w : PlainSets ss css)
+pub plain-only : {n at : ℕ} {ss : List Set} {ps : List Part} {ls css : List (List ℕ)} → AtPlaces n at ss ps ls → (w : PlainSets ss css)
     → SameSets (map bodyOf ps) (bodiesOf w) → css ≡ laid ps
 unfolding laid
-plain-only (Stand.end b) PlainSets.none SameSets.none = refl
-plain-only (Stand.more {p = p} {ps = ps} before after b i j h w) (PlainSets.more number body later k n d t v) (SameSets.more x y) =
-    let e : number ≡ plainNumber (numberOf p) = plainNumber-only k n ∙ ap plainNumber (sym (held-number h)) in
+plain-only (AtPlaces.end b) PlainSets.none SameSets.none = refl
+plain-only (AtPlaces.more {p = p} {ps = ps} before after b i j h w) (PlainSets.more number body later k n d t v) (SameSets.more x y) =
+    let e : number ≡ plainNumber (datasetOf p) = plainNumber-only k n ∙ ap plainNumber (sym (held-number h)) in
     let f : body ≡ map keptOf (p .body) = body-only (p .body) x t in
     let g : later ≡ laid ps = plain-only w v y in
     rw (e, f, g) refl

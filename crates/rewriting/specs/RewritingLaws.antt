@@ -12,7 +12,7 @@ use Rattle.ends.specs.EndsLaws.{ended-complete}
 use Rattle.ends.specs.ShortLaws.{ended-short}
 use Rattle.parts.specs.Parts.{bytesIn, partsOf}
 use Rattle.parts.specs.PartsLaws.{lines-past}
-use Rattle.places.specs.Holds.{Stand}
+use Rattle.places.specs.Holds.{AtPlaces}
 use Rattle.places.specs.HoldsLaws.{lines-stand}
 use Rattle.rewriter.specs.Rewriter.{rewrittenFile}
 use Rattle.rewriter.specs.Fair.{FairLines, laid}
@@ -33,7 +33,7 @@ bytes-most file = omega (arith, lines-past file 0 (cut file .lines) [] (omega ar
 
 module _ {sets : List Set} {bytes : List ℕ} (p : Proper sets bytes) where
   -- the sets of a proper writing as they stand in it
-  proper-stand : Stand 0 0 sets (partsOf bytes) (cut bytes .lines)
+  proper-stand : AtPlaces 0 0 sets (partsOf bytes) (cut bytes .lines)
   unfolding partsOf
   proper-stand = lines-stand (p .lines) (ended-short (p .ends)) 0 0 (cut bytes .lines) (ended-complete (p .ends) .same)
 

@@ -23,8 +23,8 @@ pub record Row : Type 0 where
   pub condition : Condition
 
 -- "the last line holding what is left": only the first fields of a row
-abbrev pub cut : ℕ → Row → Row
-cut n r = record { fields = take n (r .fields); condition = r .condition }
+abbrev pub firstFields : ℕ → Row → Row
+firstFields n r = record { fields = take n (r .fields); condition = r .condition }
 
 -- the first item, counted from k, that is not above zero; 0 where all are
 unfoldable pub firstNotAbove : ℕ → List Item → ℕ

@@ -1,6 +1,6 @@
 -- A typed set's lines as the walk follows them.
 use mathlib.Core.Path.{_≡_}
-use mathlib.Core.Bool.{true, false}
+use mathlib.Core.Bool.{true}
 use mathlib.Core.List.{List, [], _∷_}
 use Rattle.field.specs.Item.{Item}
 use Rattle.rows.specs.Row.{Row}

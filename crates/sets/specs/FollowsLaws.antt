@@ -10,7 +10,7 @@ use Rattle.laws.specs.ChoiceLaws.{false-not-true}
 use Rattle.field.specs.Item.{Item}
 use Rattle.rows.specs.Row.{Row}
 use Rattle.rows.specs.TypedSets.{kindOf, isTyped, untyped}
-use Rattle.theory.specs.Due.{rowsOf}
+use Rattle.theory.specs.Due.{setRows}
 use Rattle.walk.specs.Due.{opening, mayClose, mayContinue, rowDue, afterItems}
 use Rattle.walk.specs.declared.Due.{Due}
 use Rattle.walk.specs.DueLaws.{open-continues}
@@ -61,14 +61,14 @@ owed-follows (is ∷ iss) d rs t true c g w e =
 
 module _ (n : ℕ) (iss : List (List Item)) where
   -- an opened set owes the rows that document 01 gives
-  opening-owes : isTyped n ≡ true → Owes (opening (kindOf n)) iss (rowsOf n iss)
-  unfolding rowsOf isTyped
+  opening-owes : isTyped n ≡ true → Owes (opening (kindOf n)) iss (setRows n iss)
+  unfolding setRows isTyped
   opening-owes t = records-opening (kindOf n) iss (ltb-true (kindOf n) untyped t)
 
   -- the rows of a set's lines, as the walk follows them, are document 01's
-  pub follows-rows : (rs : List Row) → isTyped n ≡ true → Follows (opening (kindOf n)) iss rs → rs ≡ rowsOf n iss
+  pub follows-rows : (rs : List Row) → isTyped n ≡ true → Follows (opening (kindOf n)) iss rs → rs ≡ setRows n iss
   follows-rows rs t f = follows-owed f (opening-owes t)
 
   -- the walk follows lines that are as many as document 01's rows
-  pub rows-follow : isTyped n ≡ true → length iss ≡ length (rowsOf n iss) → Follows (opening (kindOf n)) iss (rowsOf n iss)
-  rows-follow t e = owed-follows iss (opening (kindOf n)) (rowsOf n iss) _ _ refl refl (opening-owes t) e
+  pub rows-follow : isTyped n ≡ true → length iss ≡ length (setRows n iss) → Follows (opening (kindOf n)) iss (setRows n iss)
+  rows-follow t e = owed-follows iss (opening (kindOf n)) (setRows n iss) _ _ refl refl (opening-owes t) e

@@ -8,8 +8,8 @@ use native.Mathlib.Numerals.{add-one}
 use native.Mathlib.Omega.{arith}
 use lib.ListN.{length}
 use Rattle.laws.specs.ChoiceLaws.{below-or-not}
-use Rattle.rows.specs.Row.{Row, cut}
-use Rattle.theory.specs.Due.{linesFor, numberRows, listRows}
+use Rattle.rows.specs.Row.{Row, firstFields}
+use Rattle.theory.specs.Due.{linesFor, numberRows, rowsHolding}
 
 -- no numbers take no line
 linesFor-none : (n : ℕ) → linesFor n 0 ≡ 0
@@ -31,12 +31,12 @@ unfolding linesFor
 linesFor-more n left p q = rw (div-eq-sub-div {m = n} {n = left + (n - 1)} p (omega arith), add-one) (ap suc (linesFor-left n left p q))
 
 -- a list of no numbers has no rows
-pub listRows-none : (r : Row) → listRows r 0 ≡ []
+pub listRows-none : (r : Row) → rowsHolding r 0 ≡ []
 unfolding numberRows
 listRows-none r = rw (linesFor-none (length (r .fields))) refl
 
 -- any other has a line with as much of the row as is left, then the rows of what is left after a full line
 pub listRows-more : (r : Row) (left : ℕ) → 0 < length (r .fields) → 0 < left
-    → listRows r left ≡ cut left r ∷ listRows r (left - length (r .fields))
+    → rowsHolding r left ≡ firstFields left r ∷ rowsHolding r (left - length (r .fields))
 unfolding numberRows
 listRows-more r left p q = rw (linesFor-more (length (r .fields)) left p q) refl

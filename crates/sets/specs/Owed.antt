@@ -9,13 +9,13 @@ use Rattle.field.specs.Item.{Item}
 use Rattle.rows.specs.Row.{Row}
 use Rattle.rows.specs.Records.{recordOf, noRecord}
 use Rattle.rows.specs.TypedSets.{sequence, untyped, following}
-use Rattle.theory.specs.Due.{listRows, listsOf}
+use Rattle.theory.specs.Due.{rowsHolding, listsOf}
 use Rattle.walk.specs.Due.{due, recordDue, listRow, rowDue, countPlace, counted, afterItems}
 use Rattle.walk.specs.declared.Due.{Due}
 
 -- a state of this kind, with this many lines of its records taken
-abbrev pub Stands : ℕ → ℕ → Due → Type 0
-Stands k a d = d ≡ due k a (d .case) (d .left) (d .second)
+abbrev pub DueAt : ℕ → ℕ → Due → Type 0
+DueAt k a d = d ≡ due k a (d .case) (d .left) (d .second)
 
 -- the state of a set with these lines when this many records have come: past the one that counts, the numbers are known
 unfoldable pub reached : ℕ → List (List Item) → ℕ → Due
@@ -24,7 +24,7 @@ reached k ls a =
 
 -- the rows of the lists still to come
 unfoldable pub rowsLeft : Due → List Row
-rowsLeft d = listRows (listRow d) (d .left) ++ listRows (listRow d) (d .second)
+rowsLeft d = rowsHolding (listRow d) (d .left) ++ rowsHolding (listRow d) (d .second)
 
 -- a state in the lists: the records are done, the first list is done only where the second is, and a full line holds some number
 pub record Listing (d : Due) : Type 0 where

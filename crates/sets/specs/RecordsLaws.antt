@@ -25,13 +25,13 @@ use Rattle.theory.specs.Due.{rowsAfter, listsOf}
 use Rattle.walk.specs.Due.{due, opening, recordDue, listRow, mayClose, rowDue, settled, countPlace, counted, next, afterRecord, afterItems}
 use Rattle.walk.specs.DueLaws.{afterRecord-next}
 use Rattle.walk.specs.declared.Due.{Due}
-use Rattle.sets.specs.Owed.{Stands, reached, rowsLeft, Listing, Owes, Next}
+use Rattle.sets.specs.Owed.{DueAt, reached, rowsLeft, Listing, Owes, Next}
 use Rattle.sets.specs.LinesForLaws.{listRows-none}
 use Rattle.sets.specs.ListLaws.{settled-cases, rowsLeft-settled, listing-settled}
 
 -- settling a state keeps its kind and its place, and moving the place does not meet it
-settled-stands : (d : Due) → Stands (d .kind) (d .at) (settled d)
-settled-stands d = settled-cases (Stands (d .kind) (d .at)) d (λ z. refl) (λ n. refl)
+settled-stands : (d : Due) → DueAt (d .kind) (d .at) (settled d)
+settled-stands d = settled-cases (DueAt (d .kind) (d .at)) d (λ z. refl) (λ n. refl)
 
 settled-next : (k a c l s : ℕ) → next (settled (due k a c l s)) ≡ settled (next (due k a c l s))
 unfolding settled
@@ -42,7 +42,7 @@ settled-next k a c l s = by (eqb l 0)
     by false = refl
 
 -- nor does counting
-counted-stands : (f : Following) (is : List Item) (d : Due) → Stands (d .kind) (d .at) (counted f is d)
+counted-stands : (f : Following) (is : List Item) (d : Due) → DueAt (d .kind) (d .at) (counted f is d)
 counted-stands nothing is d = refl
 counted-stands (list r p i) is d = refl
 counted-stands (lists r p i j) is d = settled-stands (due (d .kind) (d .at) 0 (naturalAt is i) (naturalAt is j))
@@ -108,7 +108,7 @@ module _ (k : ℕ) (ls : List (List Item)) where
   reached-late a h = rw (lt-leb a place h) refl
 
   -- it stands at its place
-  reached-stands : (a : ℕ) → Stands k a (reached k ls a)
+  reached-stands : (a : ℕ) → DueAt k a (reached k ls a)
   reached-stands a =
       ⊎-elim
       (λ (h : place < a). rw (reached-late a h) (counted-stands (following k) counting (due k a 0 0 0)))

@@ -1,11 +1,10 @@
 -- What a host is told that lends the record: after the start, however the file is cut into bursts, the end's reply is the judge's for the whole of
 -- it, asked again too; each burst is answered by the bytes so far; a burst after the end is 23 and touches nothing.
 use mathlib.Core.Path.{_≡_, refl, sym, ap, subst, _∙_}
-use mathlib.Core.Bool.{true, false, _||_}
+use mathlib.Core.Bool.{false}
 use mathlib.Core.List.{List, [], _∷_, _++_}
-use Prim.Native.Nat.{ℕ, _≤_}
+use Prim.Native.Nat.{ℕ}
 use native.Mathlib.Omega.{arith}
-use lib.Dec.{ltb}
 use lib.ListN.{length, drop, set, length-append, length-drop, length-set, length-replicate}
 use lib.Seq.{set-set}
 use Rattle.judge.specs.declared.Reply.{Reply}

@@ -6,7 +6,7 @@ use lib.ListN.{length}
 use Rattle.laws.specs.Choice.{pick}
 use Rattle.laws.specs.Cut.{cut, over}
 use Rattle.walk.specs.Step.{start}
-use Rattle.judge.specs.Judge.{Run, going, refused, reply, runStep, runEnd}
+use Rattle.judge.specs.Judge.{Run, going, refused, reply, runStep}
 use Rattle.stream.specs.declared.Stream.{Stream}
 use Rattle.stream.specs.declared.Answer.{Answer}
 use Rattle.stream.specs.declared.Answer.the-variants.{SoFar, Refused}

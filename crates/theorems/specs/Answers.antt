@@ -14,9 +14,9 @@ use Rattle.real.specs.Real as Real
 use Rattle.field.specs.Item.{Item}
 use Rattle.parts.specs.Parts.{Part}
 use Rattle.parts.specs.Function.{firstByte, pastByte}
-use Rattle.reader.specs.Reader.{Said, said, shown, reads, whole, valueWith, numberOf}
+use Rattle.reader.specs.Reader.{Said, said, shown, reads, whole, valueWith, storedNumber}
 use Rattle.theory.specs.Sets.{Set}
-use Rattle.places.specs.Declared.{caseOf}
+use Rattle.places.specs.Declared.{setCase}
 use Rattle.places.specs.Stored.{storedCount, storedItem}
 
 -- an item that is a real, as a number; no stored number is any other item
@@ -28,7 +28,7 @@ realOfItem (Item.real n c s) = Value (Real.numberOf n c s)
 
 -- value i of a 58 of the list: what the reader's rule makes of its stored numbers
 unfoldable pub valueSaid : Set → ℕ → Said Float
-valueSaid s i = valueWith (λ (j : ℕ). realOfItem (storedItem s j)) (caseOf s) i
+valueSaid s i = valueWith (λ (j : ℕ). realOfItem (storedItem s j)) (setCase s) i
 
 -- all values of a 58 of the list: the f64 of its stored numbers, in order
 unfoldable pub allSaid : Set → Said Float
@@ -44,6 +44,6 @@ pub record Answered (bytes : List ℕ) (k j : ℕ) (s : Set) (p : Part) : Type 0
   pub sign : Bool
   pub coefficient : ℕ
   pub scale : ℤ
-  pub answer : numberOf bytes k j ≡ said 0 0 (shown (firstByte p j) (pastByte p j) sign coefficient (belowZero scale) (natAbs scale) ∷ [])
+  pub answer : storedNumber bytes k j ≡ said 0 0 (shown (firstByte p j) (pastByte p j) sign coefficient (belowZero scale) (natAbs scale) ∷ [])
   pub item : storedItem s j ≡ Item.real sign coefficient scale
   pub spelled : RealSpelling sign coefficient scale (ownBytes bytes p j)

@@ -1,6 +1,5 @@
 -- The reader answers from the list.
-use mathlib.Core.Path.{_≡_, refl, sym, ap, subst, _∙_}
-use mathlib.Core.Bool.{Bool, true, false}
+use mathlib.Core.Path.{_≡_, refl, sym, ap, _∙_}
 use mathlib.Core.List.{List, [], _∷_}
 use Prim.Native.Nat.{ℕ, suc, _+_, _-_, _*_, _<_, _≤_}
 use native.Mathlib.Nat.{suc-mul, zero-mul, mul-le-mul-right}
@@ -9,9 +8,8 @@ use borrow.Author.Tests.{lt-ltb, le-ltb, le-leb, ne-eqb}
 use lib.Dec.{ltb}
 use lib.Ieee.{Float}
 use lib.ListN.{length, take, drop}
-use Rattle.laws.specs.Choice.{pick}
 use Rattle.laws.specs.ChoiceLaws.{pick-same}
-use Rattle.real.specs.declared.Real.the-variants.{Blank, Malformed, Value}
+use Rattle.real.specs.declared.Real.the-variants.{Value}
 use Rattle.real.specs.declared.Real.{Real}
 use Rattle.real.specs.Real as Real
 use Rattle.real.specs.RealLaws.{realOf-complete}
@@ -20,18 +18,17 @@ use Rattle.real.specs.declared.Number.{Number}
 use Rattle.text.specs.Parts.{signed}
 use Rattle.field.specs.Item.{Item}
 use Rattle.layout.specs.Layout.{numbersOf}
-use Rattle.judge.specs.Judge.{judged, reply}
+use Rattle.judge.specs.Judge.{judged}
 use Rattle.parts.specs.Parts as Parts
 use Rattle.parts.specs.Function as Function
 use Rattle.parts.specs.Set.{Somewhere}
-use Rattle.reader.specs.Reader.{Said, said, refused, readIn, realIn, shownOf, numberFrom, setsFrom, numberOf, readOf, reads, whole, kindOf, valueWith, valuesIn, valueFrom, valueOf}
+use Rattle.reader.specs.Reader.{said, refused, readIn, realIn, shownOf, numberFrom, setsFrom, storedNumber, whole, valueKind, valueWith, valuesIn, valueFrom, valueOf}
 use Rattle.reader.specs.ReaderLaws.{reads-same}
 use Rattle.theory.specs.Sets.{Set}
 use Rattle.places.specs.Holds.{Holds}
-use Rattle.places.specs.Declared.{declared, caseOf}
+use Rattle.places.specs.Declared.{declared, setCase}
 use Rattle.places.specs.DeclaredLaws.{declared-held, case-held}
 use Rattle.places.specs.Stored.{storedCount, storedItem}
-use Rattle.places.specs.StoredLaws.{stored-case}
 use Rattle.places.specs.CaseLaws.{case-eight, declared-some}
 use Rattle.places.specs.Field.{Spelled}
 use Rattle.places.specs.ShownLaws.{stored-held, stored-shown}
@@ -65,14 +62,14 @@ module _ {s : Set} {p : Parts.Part} (bytes : List ℕ) (ps : List Parts.Part) (w
   -- as many values as the list declares
   pub values-held : valuesIn p ≡ declared s
   unfolding valuesIn
-  values-held = rw (case-held h e, lt-ltb (caseOf s) 8 (case-eight (h .lines) e)) (declared-held h)
+  values-held = rw (case-held h e, lt-ltb (setCase s) 8 (case-eight (h .lines) e)) (declared-held h)
 
   -- the numbers of a value are stored numbers
-  pub value-stored : (i r : ℕ) → i < declared s → r < numbersOf (caseOf s) → i * numbersOf (caseOf s) + r < storedCount s
+  pub value-stored : (i r : ℕ) → i < declared s → r < numbersOf (setCase s) → i * numbersOf (setCase s) + r < storedCount s
   unfolding storedCount
   value-stored i r l m =
-      let a : suc i * numbersOf (caseOf s) ≤ declared s * numbersOf (caseOf s) = mul-le-mul-right (numbersOf (caseOf s)) l in
-      let b : suc i * numbersOf (caseOf s) ≡ i * numbersOf (caseOf s) + numbersOf (caseOf s) = suc-mul i (numbersOf (caseOf s)) in
+      let a : suc i * numbersOf (setCase s) ≤ declared s * numbersOf (setCase s) = mul-le-mul-right (numbersOf (setCase s)) l in
+      let b : suc i * numbersOf (setCase s) ≡ i * numbersOf (setCase s) + numbersOf (setCase s) = suc-mul i (numbersOf (setCase s)) in
       omega arith
 
   -- a value's answer, by index
@@ -81,7 +78,7 @@ module _ {s : Set} {p : Parts.Part} (bytes : List ℕ) (ps : List Parts.Part) (w
   value-answered i l =
       let m : i < valuesIn p = rw values-held l in
       rw (lt-ltb i (valuesIn p) m, case-held h e)
-      (ap (whole (kindOf (caseOf s)) []) (reads-same (realIn bytes p) (λ (j : ℕ). realOfItem (storedItem s j)) (i * numbersOf (caseOf s)) (i * numbersOf (caseOf s)) (numbersOf (caseOf s)) (λ r q. realIn-held (i * numbersOf (caseOf s) + r) (value-stored i r l q))))
+      (ap (whole (valueKind (setCase s)) []) (reads-same (realIn bytes p) (λ (j : ℕ). realOfItem (storedItem s j)) (i * numbersOf (setCase s)) (i * numbersOf (setCase s)) (numbersOf (setCase s)) (λ r q. realIn-held (i * numbersOf (setCase s) + r) (value-stored i r l q))))
 
   pub value-past : (i : ℕ) → declared s ≤ i → valueFrom bytes (p ∷ ps) i ≡ refused 18 0
   value-past i l = let m : valuesIn p ≤ i = rw values-held l in rw (le-ltb i (valuesIn p) m) refl
@@ -95,8 +92,8 @@ module _ {s : Set} {p : Parts.Part} (bytes : List ℕ) (ps : List Parts.Part) (w
       (ap (whole (storedCount s) []) (reads-same (realIn bytes p) (λ (j : ℕ). realOfItem (storedItem s j)) 0 0 (storedCount s) (λ r q. realIn-held (0 + r) (omega arith))))
 
 -- an accepted file's questions go to its sets
-pub number-asked : (bytes : List ℕ) (k j : ℕ) → judged bytes .number ≡ 0 → numberOf bytes k j ≡ numberFrom bytes (setsFrom bytes k) j
-unfolding numberOf
+pub number-asked : (bytes : List ℕ) (k j : ℕ) → judged bytes .number ≡ 0 → storedNumber bytes k j ≡ numberFrom bytes (setsFrom bytes k) j
+unfolding storedNumber
 number-asked bytes k j h = rw (le-ltb 0 (judged bytes .number) (omega arith)) refl
 
 pub value-asked : (bytes : List ℕ) (k i : ℕ) → judged bytes .number ≡ 0 → valueOf bytes k i ≡ valueFrom bytes (setsFrom bytes k) i
@@ -124,7 +121,7 @@ module _ {s : Set} {p : Parts.Part} (bytes : List ℕ) (ps : List Parts.Part) (h
 
   no-values : valuesIn p ≡ 0
   unfolding valuesIn
-  no-values = rw no-count (pick-same (ltb (Function.caseOf p) 8) 0)
+  no-values = rw no-count (pick-same (ltb (Function.partCase p) 8) 0)
 
   pub number-other : (j : ℕ) → numberFrom bytes (p ∷ ps) j ≡ refused 18 0
   number-other j = rw (le-ltb j (Function.storedOf p) (omega (arith, no-stored))) refl
@@ -137,18 +134,18 @@ module _ {s : Set} {p : Parts.Part} (bytes : List ℕ) (ps : List Parts.Part) (h
 
 -- a value's answer, by the bytes of its own columns
 pub value-own : {s : Set} {p : Parts.Part} (bytes : List ℕ) (ps : List Parts.Part) → Somewhere bytes p ps → Holds s p → s .number ≡ 58 → (i : ℕ) → i < declared s
-    → valueFrom bytes (p ∷ ps) i ≡ valueWith (λ (j : ℕ). Real.realOf (ownBytes bytes p j)) (caseOf s) i
+    → valueFrom bytes (p ∷ ps) i ≡ valueWith (λ (j : ℕ). Real.realOf (ownBytes bytes p j)) (setCase s) i
 unfolding valueWith
 value-own {s} {p} bytes ps w h e i l =
     let m : i < valuesIn p = rw (values-held bytes ps w h e) l in
     rw (lt-ltb i (valuesIn p) m, case-held h e)
-    (ap (whole (kindOf (caseOf s)) []) (reads-same (realIn bytes p) (λ (j : ℕ). Real.realOf (ownBytes bytes p j)) (i * numbersOf (caseOf s)) (i * numbersOf (caseOf s)) (numbersOf (caseOf s))
-    (λ r q. realIn-own bytes p (i * numbersOf (caseOf s) + r) (past-within bytes ps w h e (i * numbersOf (caseOf s) + r) (value-stored bytes ps w h e i r l q)))))
+    (ap (whole (valueKind (setCase s)) []) (reads-same (realIn bytes p) (λ (j : ℕ). Real.realOf (ownBytes bytes p j)) (i * numbersOf (setCase s)) (i * numbersOf (setCase s)) (numbersOf (setCase s))
+    (λ r q. realIn-own bytes p (i * numbersOf (setCase s) + r) (past-within bytes ps w h e (i * numbersOf (setCase s) + r) (value-stored bytes ps w h e i r l q)))))
 
 -- values by two accounts that agree on their numbers
 pub valueWith-same : (g f : ℕ → Real) (c i j : ℕ) → ((r : ℕ) → r < numbersOf c → g (i * numbersOf c + r) ≡ f (j * numbersOf c + r)) → valueWith g c i ≡ valueWith f c j
 unfolding valueWith
-valueWith-same g f c i j h = ap (whole (kindOf c) []) (reads-same g f (i * numbersOf c) (j * numbersOf c) (numbersOf c) h)
+valueWith-same g f c i j h = ap (whole (valueKind c) []) (reads-same g f (i * numbersOf c) (j * numbersOf c) (numbersOf c) h)
 
 -- a number's item, by the bytes of its own columns
 pub item-own : {s : Set} {p : Parts.Part} (bytes : List ℕ) (ps : List Parts.Part) → Somewhere bytes p ps → Holds s p → s .number ≡ 58 → (j : ℕ) → j < storedCount s
@@ -171,10 +168,10 @@ module _ (s : Set) where
   abbrev number : ℕ → Real
   number j = realOfItem (storedItem s j)
 
-  pub said-each : (n : ℕ) (xs : List Float) → allSaid s ≡ said 0 n xs → Each number (caseOf s) (declared s) n xs
+  pub said-each : (n : ℕ) (xs : List Float) → allSaid s ≡ said 0 n xs → Each number (setCase s) (declared s) n xs
   unfolding allSaid storedCount
-  said-each n xs e = all-each number (caseOf s) (declared s) n xs e
+  said-each n xs e = all-each number (setCase s) (declared s) n xs e
 
   pub said-refused : (m p : ℕ) → 0 < m → allSaid s ≡ refused m p → (i : ℕ) × ((i < declared s) × (valueSaid s i ≡ refused m p))
   unfolding allSaid storedCount valueSaid
-  said-refused m p h e = all-refused number (caseOf s) (declared s) m p h e
+  said-refused m p h e = all-refused number (setCase s) (declared s) m p h e

@@ -8,7 +8,7 @@ use Rattle.layout.specs.Layout.{numbersOf}
 use Rattle.theory.specs.Sets.{Set}
 use Rattle.parts.specs.Parts.{Part, partsOf, closingStart}
 use Rattle.parts.specs.Function.{dataStart, firstByte, pastByte}
-use Rattle.places.specs.Declared.{declared, caseOf}
+use Rattle.places.specs.Declared.{declared, setCase}
 use Rattle.places.specs.Stored.{storedCount}
 
 -- byte x lies in the own columns of stored number j
@@ -22,7 +22,7 @@ pub record Columns (bytes : List ℕ) (k : ℕ) (s : Set) : Type 0 where
   pub others : List Part
   pub place : drop k (partsOf bytes) ≡ part ∷ others
   -- one of the eight cases, and a value at least
-  pub case : caseOf s < 8
+  pub case : setCase s < 8
   pub some : 1 ≤ declared s
   -- some columns each, in the data lines, which the first number's columns begin, between the delimiters
   pub begins : firstByte part 0 ≡ dataStart part
@@ -40,5 +40,5 @@ pub record OfValue (s : Set) (p : Part) (x : ℕ) : Type 0 where
   pub value : ℕ
   pub some : value < declared s
   pub number : ℕ
-  pub few : number < numbersOf (caseOf s)
-  pub within : Within p (value * numbersOf (caseOf s) + number) x
+  pub few : number < numbersOf (setCase s)
+  pub within : Within p (value * numbersOf (setCase s) + number) x

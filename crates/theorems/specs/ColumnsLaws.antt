@@ -1,5 +1,5 @@
 -- The columns of a 58's numbers, as the page of theorems states them.
-use mathlib.Core.Path.{_≡_, refl, _∙_}
+use mathlib.Core.Path.{_≡_, refl}
 use mathlib.Core.Logic.{⊎-elim}
 use Prim.Native.Nat.{ℕ, _+_, _*_, _<_, _≤_}
 use native.Mathlib.Nat.{div-lt-iff-lt-mul}
@@ -15,7 +15,7 @@ use Rattle.parts.specs.Parts.{Part, lineStart}
 use Rattle.parts.specs.Function.{dataStart, firstByte, pastByte}
 use Rattle.places.specs.Holds.{Holds}
 use Rattle.places.specs.DeclaredLaws.{number-held}
-use Rattle.places.specs.Declared.{declared, caseOf}
+use Rattle.places.specs.Declared.{declared, setCase}
 use Rattle.places.specs.Stored.{storedCount}
 use Rattle.places.specs.Whole.{Owned}
 use Rattle.theorems.specs.Columns.{Within, OfValue}
@@ -51,15 +51,15 @@ numbersOf-some : (c : ℕ) → c < 8 → 0 < numbersOf c
 unfolding numbersOf
 numbersOf-some c h = rw (lt-ltb c 8 h) (omega arith)
 
-pub of-value : (s : Set) (p : Part) (x j : ℕ) → caseOf s < 8 → j < storedCount s → Within p j x → OfValue s p x
+pub of-value : (s : Set) (p : Part) (x j : ℕ) → setCase s < 8 → j < storedCount s → Within p j x → OfValue s p x
 unfolding storedCount
 of-value s p x j c l w =
-    let n : 0 < numbersOf (caseOf s) = numbersOf-some (caseOf s) c in
-    let q : lineOf (numbersOf (caseOf s)) j * numbersOf (caseOf s) + fieldOf (numbersOf (caseOf s)) j ≡ j = stored-at (numbersOf (caseOf s)) j in
+    let n : 0 < numbersOf (setCase s) = numbersOf-some (setCase s) c in
+    let q : lineOf (numbersOf (setCase s)) j * numbersOf (setCase s) + fieldOf (numbersOf (setCase s)) j ≡ j = stored-at (numbersOf (setCase s)) j in
     record {
-      value = lineOf (numbersOf (caseOf s)) j;
-      some = value-below (numbersOf (caseOf s)) (declared s) j n l;
-      number = fieldOf (numbersOf (caseOf s)) j;
-      few = fieldOf-inside (numbersOf (caseOf s)) j n;
+      value = lineOf (numbersOf (setCase s)) j;
+      some = value-below (numbersOf (setCase s)) (declared s) j n l;
+      number = fieldOf (numbersOf (setCase s)) j;
+      few = fieldOf-inside (numbersOf (setCase s)) j n;
       within = rw q w;
     }

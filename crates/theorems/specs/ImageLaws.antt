@@ -22,7 +22,7 @@ use Rattle.walk.specs.declared.Outcome.the-variants.{Next, Refused}
 use Rattle.walk.specs.Due.{mayClose, mayContinue, rowDue}
 use Rattle.walk.specs.Step as Step
 use Rattle.theory.specs.Sets.{Set, set}
-use Rattle.theorems.specs.Reader.{Reading, outside, number, plain, typed, bad, closed, typedOn, readLine}
+use Rattle.theorems.specs.ListReader.{Reading, outside, number, plain, typed, bad, closed, typedOn, readLine}
 use Rattle.theorems.specs.Image.{Standing, image, Agrees, stands, refused}
 
 -- a refusal of some number

@@ -9,11 +9,10 @@ use Rattle.rows.specs.Records.{recordOf, noRecord}
 use Rattle.rows.specs.TypedSets.{sequence, headerLines, kind58}
 use Rattle.record.specs.Written.{Written}
 use Rattle.parts.specs.Parts.{columnsIn}
-use Rattle.header.specs.declared.Header.{Header}
 use Rattle.header.specs.Header.{headerOf}
 use Rattle.real.specs.Real.{belowZero}
 use Rattle.decimal.specs.Decimal.{SameNumber}
-use Rattle.reader.specs.Reader.{said, shown, numberOf}
+use Rattle.reader.specs.Reader.{said, shown, storedNumber}
 use Rattle.rewriter.specs.Rewriter.{rewrittenFile}
 use Rattle.rewriting.specs.Form.{InForm}
 use Rattle.writer.specs.Writer.{writtenSet}
@@ -21,7 +20,7 @@ use Rattle.writing.specs.DataLines.{lentFile}
 use Rattle.writing.specs.Back.{Back}
 use Rattle.theory.specs.Sets.{Set}
 use Rattle.theory.specs.Proper.{Proper}
-use Rattle.places.specs.Declared.{caseOf}
+use Rattle.places.specs.Declared.{setCase}
 use Rattle.places.specs.Stored.{storedCount, storedItem}
 
 -- the text is a proper writing of one 58, in rewritten form. The items of its first eleven lines are written in the header's lines, which are eleven, each
@@ -38,7 +37,7 @@ pub record LaidOut (header : List ℕ) (xs ss : List ℤ) : Type 0 where
   pub rewritten : rewrittenFile (lentFile header (headerOf header .case) xs ss) ≡ writtenSet header (headerOf header .case) xs ss
   pub form : InForm (set ∷ []) (writtenSet header (headerOf header .case) xs ss)
   pub again : rewrittenFile (writtenSet header (headerOf header .case) xs ss) ≡ writtenSet header (headerOf header .case) xs ss
-  pub case : caseOf set ≡ headerOf header .case
+  pub case : setCase set ≡ headerOf header .case
   pub count : storedCount set ≡ length xs
   pub back : (j : ℕ) → j < length xs → Back (getD xs j (pos 0)) (getD ss j (pos 0)) (storedItem set j)
 
@@ -48,5 +47,5 @@ pub record ReadAs (bytes : List ℕ) (j : ℕ) (x s : ℤ) : Type 0 where
   pub past : ℕ
   pub coefficient : ℕ
   pub scale : ℤ
-  pub answer : numberOf bytes 1 j ≡ said 0 0 (shown first past (belowZero x) coefficient (belowZero scale) (natAbs scale) ∷ [])
+  pub answer : storedNumber bytes 1 j ≡ said 0 0 (shown first past (belowZero x) coefficient (belowZero scale) (natAbs scale) ∷ [])
   pub same : SameNumber (natAbs x) s coefficient scale

@@ -6,7 +6,6 @@ use native.Mathlib.Omega.{arith}
 use lib.IntN.{ℤ}
 use lib.ListN.{length}
 use Rattle.laws.specs.Cut.{cut}
-use Rattle.header.specs.declared.Header.{Header}
 use Rattle.header.specs.Header.{headerOf}
 use Rattle.parts.specs.Parts.{Part, partsOf}
 use Rattle.rewriting.specs.RewritingLaws.{rewritten-proper, rewritten-form, rewritten-same}
@@ -19,7 +18,7 @@ use Rattle.writing.specs.LentLaws.{lentPart, lent-parts, lent-rewritten}
 use Rattle.writing.specs.BackLaws.{set-number, set-header, set-case, set-stored, stored-back}
 use Rattle.theory.specs.Sets.{Set}
 use Rattle.theory.specs.Proper.{Proper}
-use Rattle.places.specs.Holds.{Stand, end, more, Holds}
+use Rattle.places.specs.Holds.{AtPlaces, end, more, Holds}
 use Rattle.field.specs.Item.{Item}
 use Rattle.places.specs.Stored.{storedItem}
 use Rattle.writing.specs.Back.{Back}
@@ -32,11 +31,11 @@ record OneSet (sets : List Set) (p : Part) : Type 0 where
   only : sets ≡ set ∷ []
   holds : Holds set p
 
-none-left : {n at : ℕ} {sets : List Set} {ps : List Part} {ls : List (List ℕ)} → Stand n at sets ps ls → ps ≡ [] → sets ≡ []
+none-left : {n at : ℕ} {sets : List Set} {ps : List Part} {ls : List (List ℕ)} → AtPlaces n at sets ps ls → ps ≡ [] → sets ≡ []
 none-left (end b) e = refl
 none-left (more before after b l y h t) e = absurd (omega (arith, ap length e))
 
-one-set : {n at : ℕ} {sets : List Set} {ps : List Part} {ls : List (List ℕ)} (p : Part) → Stand n at sets ps ls → ps ≡ p ∷ [] → OneSet sets p
+one-set : {n at : ℕ} {sets : List Set} {ps : List Part} {ls : List (List ℕ)} (p : Part) → AtPlaces n at sets ps ls → ps ≡ p ∷ [] → OneSet sets p
 one-set p (end b) e = absurd (omega (arith, ap length e))
 one-set p (more {s = s} {ss = ss} {p = q} {ps = ps} before after b l y h t) e =
     let x : q ≡ p = cc in
@@ -45,7 +44,7 @@ one-set p (more {s = s} {ss = ss} {p = q} {ps = ps} before after b l y h t) e =
 
 module _ (header : List ℕ) (p : Passed header) (xs ss : List ℤ) (stored : length xs ≡ headerOf header .stored) (fit : AllFit (headerOf header .case) 0 xs ss) where
   pub laid-out : {sets : List Set} → Proper sets (lentFile header (headerOf header .case) xs ss)
-      → Stand 0 0 sets (partsOf (lentFile header (headerOf header .case) xs ss)) (cut (lentFile header (headerOf header .case) xs ss) .lines) → LaidOut header xs ss
+      → AtPlaces 0 0 sets (partsOf (lentFile header (headerOf header .case) xs ss)) (cut (lentFile header (headerOf header .case) xs ss) .lines) → LaidOut header xs ss
   laid-out {sets} q s =
       let o : OneSet sets (lentPart header p xs ss stored fit) = one-set (lentPart header p xs ss stored fit) s (lent-parts header p xs ss stored fit) in
       let l : Proper (o .set ∷ []) (lentFile header (headerOf header .case) xs ss) = rw (o .only) at q in

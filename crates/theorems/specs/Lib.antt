@@ -1,10 +1,10 @@
-pub mod Reader
+pub mod ListReader
 pub mod TypedRun
 pub mod RowFitsLaws
 pub mod RowTestsLaws
 pub mod TypedRunLaws
-pub mod ReaderCompleteLaws
-pub mod ReaderSoundLaws
+pub mod ListReaderCompleteLaws
+pub mod ListReaderSoundLaws
 pub mod Image
 pub mod ImageLaws
 pub mod Ran

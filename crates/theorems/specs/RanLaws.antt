@@ -15,8 +15,8 @@ use Rattle.walk.specs.declared.Outcome.{Outcome}
 use Rattle.judge.specs.declared.Reply.{Reply}
 use Rattle.judge.specs.Judge.{reply, lineStep, Run, going, refused, onOutcome}
 use Rattle.ends.specs.Ends.{AllPass}
-use Rattle.theorems.specs.Reader.{Reading, readLine, readLines}
-use Rattle.theorems.specs.ReaderSoundLaws.{bad-stays}
+use Rattle.theorems.specs.ListReader.{Reading, readLine, readLines}
+use Rattle.theorems.specs.ListReaderSoundLaws.{bad-stays}
 use Rattle.theorems.specs.Image.{Standing, image, Agrees}
 use Rattle.theorems.specs.ImageLaws.{step-image}
 use Rattle.theorems.specs.Ran.{runOver, Ran}

@@ -14,7 +14,7 @@ use Rattle.laws.specs.RangesLaws.{in-range}
 use Rattle.layout.specs.Columns.{total}
 use Rattle.layout.specs.Layout.{layoutOf}
 use Rattle.layout.specs.LayoutLaws.{total-inside}
-use Rattle.rows.specs.Row.{Field, Row, cut}
+use Rattle.rows.specs.Row.{Field, Row, firstFields}
 use Rattle.rows.specs.Records.{E, records, recordOf, dataRow, noRecord}
 use Rattle.rows.specs.TabledLaws.{recordOf-past}
 use Rattle.record.specs.CheckLaws.{total-take}
@@ -51,13 +51,13 @@ dataRow-fits : (c : ℕ) → Fits (dataRow c)
 unfolding dataRow
 dataRow-fits c = rw (widths-data (layoutOf c .widths)) (total-inside c)
 
--- a row that is cut
+-- a row that is firstFields
 widths-take : (n : ℕ) (fs : List Field) → widths (take n fs) ≡ take n (widths fs)
 widths-take zero fs = refl
 widths-take (suc n) [] = refl
 widths-take (suc n) (f ∷ fs) = ap (_∷_ (f .width)) (widths-take n fs)
 
-cut-fits : (n : ℕ) (r : Row) → Fits r → Fits (cut n r)
+cut-fits : (n : ℕ) (r : Row) → Fits r → Fits (firstFields n r)
 cut-fits n r h = rw (widths-take n (r .fields)) (le-trans (total-take (widths (r .fields)) n) h)
 
 -- the row of the next line, a record or what is left of a list

@@ -22,13 +22,12 @@ use Rattle.parts.specs.Function as Function
 use Rattle.parts.specs.Set.{Somewhere}
 use Rattle.parts.specs.SetLaws.{somewhere}
 use Rattle.lister.specs.Lister.{rowsOf, listReply, listRows}
-use Rattle.reader.specs.Reader.{said, refused, setsFrom, shownOf, numberOf, kindOf, valueOf, valueWith}
+use Rattle.reader.specs.Reader.{said, refused, setsFrom, shownOf, storedNumber, valueKind, valueOf, valueWith}
 use Rattle.reader.specs.ReaderLaws.{start-most}
 use Rattle.values.specs.Values.{allValues, allReply, allPlaces}
 use Rattle.rewriter.specs.Rewriter.{rewrittenFile, rewriteReply, rewriteOut}
 use Rattle.rewriting.specs.Form.{InForm, KeepsSpellings}
 use Rattle.rewriting.specs.RewritingLaws.{rewritten-proper, rewritten-form, rewritten-keeps, rewritten-only, rewritten-same}
-use Rattle.header.specs.declared.Header.{Header}
 use Rattle.header.specs.Header.{headerOf}
 use Rattle.writer.specs.Writer.{writtenSet, writeReply, writeOut}
 use Rattle.writing.specs.DataLines.{lentFile}
@@ -36,29 +35,28 @@ use Rattle.writing.specs.HeaderRunLaws.{header-passed}
 use Rattle.writing.specs.LentLaws.{lent-accepted}
 use Rattle.writing.specs.Reply.{Coefficients, Answered}
 use Rattle.writing.specs.ReplyLaws.{answered, answered-fit}
-use Rattle.places.specs.Holds.{Stand}
+use Rattle.places.specs.Holds.{AtPlaces}
 use Rattle.places.specs.HoldsLaws.{lines-stand}
 use Rattle.places.specs.Text.{linesOf}
 use Rattle.places.specs.TextLaws.{part-bytes}
-use Rattle.places.specs.Declared.{declared, caseOf, Found}
-use Rattle.places.specs.DeclaredLaws.{number-held, declared-held, case-held, all-held, as-many, stand-at}
+use Rattle.places.specs.Declared.{declared, setCase, Found}
+use Rattle.places.specs.DeclaredLaws.{number-held, declared-held, all-held, as-many, stand-at}
 use Rattle.places.specs.Stored.{storedCount, storedItem}
 use Rattle.places.specs.OrderLaws.{columns-inside, columns-apart, first-column}
 use Rattle.places.specs.CaseLaws.{case-eight, declared-some, declared-most}
-use Rattle.places.specs.Whole.{Owned}
 use Rattle.places.specs.WholeLaws.{byte-owned}
 use Rattle.theory.specs.Sets.{Set}
 use Rattle.theory.specs.Proper.{Ended, Proper}
 use Rattle.ends.specs.Ends.{CutInto, joined}
 use Rattle.ends.specs.EndsLaws.{ended-complete, ended-sound}
-use Rattle.theorems.specs.Reader.{outside, readLines}
+use Rattle.theorems.specs.ListReader.{outside, readLines}
 use Rattle.ends.specs.ShortLaws.{ended-short}
-use Rattle.theorems.specs.ReaderCompleteLaws.{reader-complete}
-use Rattle.theorems.specs.ReaderSoundLaws.{reader-sound}
+use Rattle.theorems.specs.ListReaderCompleteLaws.{reader-complete}
+use Rattle.theorems.specs.ListReaderSoundLaws.{reader-sound}
 use Rattle.theorems.specs.Answers as Answers
 use Rattle.theorems.specs.Answers.{realOfItem, valueSaid, allSaid, ownBytes}
 use Rattle.theorems.specs.AnswersLaws.{value-own, valueWith-same, number-answered, number-past, number-other, number-asked, value-answered, value-past, value-other, value-asked, all-by-list, all-asked, all-other, said-each, said-refused, item-own, real-same}
-use Rattle.theorems.specs.Columns.{Within, Columns, OfValue}
+use Rattle.theorems.specs.Columns.{Columns, OfValue}
 use Rattle.theorems.specs.ColumnsLaws.{owned-within, data-start, inside-data, within-once, of-value}
 use Rattle.theorems.specs.LaidOut.{LaidOut, ReadAs}
 use Rattle.theorems.specs.LaidOutLaws.{laid-out, read-as}
@@ -99,7 +97,7 @@ proper-unique {a} {b} p q = let e : outside a ≡ outside b = sym (proper-read p
 
 -- LISTER. The sets of the list stand in the file in order, each as a part of it: its opening line and first byte, its own lines between its
 -- number line and its closing delimiter, and the byte past its closing line are the part's (crates/places/specs/Holds.antt).
-pub lister-places : {sets : List Set} {bytes : List ℕ} → Proper sets bytes → Stand 0 0 sets (partsOf bytes) (cut bytes .lines)
+pub lister-places : {sets : List Set} {bytes : List ℕ} → Proper sets bytes → AtPlaces 0 0 sets (partsOf bytes) (cut bytes .lines)
 unfolding partsOf
 lister-places {sets} {bytes} p =
     let c : CutInto (p .columns) bytes = ended-complete (p .ends) in
@@ -120,9 +118,9 @@ lister-answers {sets} {bytes} p rows h =
 
 -- The dataset numbers and the declared counts in its rows are the list's, in order.
 pub lister-numbers : {sets : List Set} {bytes : List ℕ} → Proper sets bytes
-    → (map Parts.numberOf (partsOf bytes) ≡ map (λ (s : Set). s .number) sets) × (map Function.countOf (partsOf bytes) ≡ map declared sets)
+    → (map Parts.datasetOf (partsOf bytes) ≡ map (λ (s : Set). s .number) sets) × (map Function.countOf (partsOf bytes) ≡ map declared sets)
 lister-numbers p =
-    (all-held (λ (s : Set). s .number) Parts.numberOf (λ s q h. number-held h) (lister-places p), all-held declared Function.countOf (λ s q h. declared-held h) (lister-places p))
+    (all-held (λ (s : Set). s .number) Parts.datasetOf (λ s q h. number-held h) (lister-places p), all-held declared Function.countOf (λ s q h. declared-held h) (lister-places p))
 
 -- set k of the list, from 0, as it stands in the file
 set-found : {sets : List Set} {bytes : List ℕ} → Proper sets bytes → (k : ℕ) (s : Set) (rest : List Set) → drop k sets ≡ s ∷ rest → Found (partsOf bytes) k s
@@ -173,7 +171,7 @@ reader-numbers {sets} {bytes} p k s rest d e c j l =
     let f = set-found p k s rest d in
     let w = set-somewhere bytes k s f in
     let x = item-own bytes (f .others) w (f .holds) e j l .0 in
-    let a : numberOf bytes (suc k) j ≡ shownOf (Function.firstByte (f .part) j) (Function.pastByte (f .part) j) (realOfItem (storedItem s j))
+    let a : storedNumber bytes (suc k) j ≡ shownOf (Function.firstByte (f .part) j) (Function.pastByte (f .part) j) (realOfItem (storedItem s j))
     = number-asked bytes (suc k) j (accepted-zero p) ∙ rw (f .sets) (number-answered bytes (f .others) w (f .holds) e j l) in
     subst (Answers.Answered bytes (suc k) j s) (same-part f c)
     (record {
@@ -194,7 +192,7 @@ reader-values {sets} {bytes} p k s rest d e i l =
     value-asked bytes (suc k) i (accepted-zero p) ∙ rw (f .sets) (value-answered bytes (f .others) (set-somewhere bytes k s f) (f .holds) e i l)
 
 -- Any other question is 18: no such set, a set that is no 58, an index past its numbers or values.
-pub reader-set-0 : {sets : List Set} {bytes : List ℕ} → Proper sets bytes → (i : ℕ) → (numberOf bytes 0 i ≡ refused 18 0) × (valueOf bytes 0 i ≡ refused 18 0)
+pub reader-set-0 : {sets : List Set} {bytes : List ℕ} → Proper sets bytes → (i : ℕ) → (storedNumber bytes 0 i ≡ refused 18 0) × (valueOf bytes 0 i ≡ refused 18 0)
 unfolding setsFrom
 reader-set-0 {sets} {bytes} p i = (number-asked bytes 0 i (accepted-zero p), value-asked bytes 0 i (accepted-zero p))
 
@@ -206,14 +204,14 @@ no-parts {sets} {bytes} p k h =
     drop-of-length-le (partsOf bytes) m
 
 pub reader-no-set : {sets : List Set} {bytes : List ℕ} → Proper sets bytes → (k i : ℕ) → length sets ≤ k
-    → (numberOf bytes (suc k) i ≡ refused 18 0) × (valueOf bytes (suc k) i ≡ refused 18 0)
+    → (storedNumber bytes (suc k) i ≡ refused 18 0) × (valueOf bytes (suc k) i ≡ refused 18 0)
 unfolding setsFrom
 reader-no-set {sets} {bytes} p k i h =
     let d : drop k (partsOf bytes) ≡ [] = no-parts p k h in
     (number-asked bytes (suc k) i (accepted-zero p) ∙ rw d refl, value-asked bytes (suc k) i (accepted-zero p) ∙ rw d refl)
 
 pub reader-not-58 : {sets : List Set} {bytes : List ℕ} → Proper sets bytes → (k : ℕ) (s : Set) (rest : List Set) → drop k sets ≡ s ∷ rest → (s .number ≡ 58 → ⊥)
-    → (i : ℕ) → (numberOf bytes (suc k) i ≡ refused 18 0) × (valueOf bytes (suc k) i ≡ refused 18 0)
+    → (i : ℕ) → (storedNumber bytes (suc k) i ≡ refused 18 0) × (valueOf bytes (suc k) i ≡ refused 18 0)
 unfolding setsFrom
 reader-not-58 {sets} {bytes} p k s rest d n i =
     let f = set-found p k s rest d in (
@@ -222,7 +220,7 @@ reader-not-58 {sets} {bytes} p k s rest d n i =
     )
 
 pub reader-past : {sets : List Set} {bytes : List ℕ} → Proper sets bytes → (k : ℕ) (s : Set) (rest : List Set) → drop k sets ≡ s ∷ rest → s .number ≡ 58
-    → (i : ℕ) → (storedCount s ≤ i → numberOf bytes (suc k) i ≡ refused 18 0) × (declared s ≤ i → valueOf bytes (suc k) i ≡ refused 18 0)
+    → (i : ℕ) → (storedCount s ≤ i → storedNumber bytes (suc k) i ≡ refused 18 0) × (declared s ≤ i → valueOf bytes (suc k) i ≡ refused 18 0)
 unfolding setsFrom
 reader-past {sets} {bytes} p k s rest d e i =
     let f = set-found p k s rest d in
@@ -244,7 +242,7 @@ pub all-in-turn : {sets : List Set} {bytes : List ℕ} → Proper sets bytes →
     → (n : ℕ) (xs : List Float) → allValues bytes (suc k) ≡ said 0 n xs
     → (n ≡ storedCount s)
     × ((length xs ≡ n)
-    × ((i : ℕ) → i < declared s → valueOf bytes (suc k) i ≡ said 0 (kindOf (caseOf s)) (take (numbersOf (caseOf s)) (drop (i * numbersOf (caseOf s)) xs))))
+    × ((i : ℕ) → i < declared s → valueOf bytes (suc k) i ≡ said 0 (valueKind (setCase s)) (take (numbersOf (setCase s)) (drop (i * numbersOf (setCase s)) xs))))
 unfolding storedCount valueSaid
 all-in-turn p k s rest d e n xs h =
     let w = said-each s n xs (sym (all-of-list p k s rest d e) ∙ h) in
@@ -257,7 +255,7 @@ unfolding storedCount
 stored-few p k s rest d e =
     let f = set-found p k s rest d in
     let m : declared s ≤ 65536 = declared-most (f .holds .lines) e in
-    let n : declared s * numbersOf (caseOf s) ≤ declared s * 3 = start-most (declared s) (caseOf s) _ (case-eight (f .holds .lines) e) refl in
+    let n : declared s * numbersOf (setCase s) ≤ declared s * 3 = start-most (declared s) (setCase s) _ (case-eight (f .holds .lines) e) refl in
     omega arith
 
 -- Where they are refused, so is the question for one of the values.
@@ -296,26 +294,26 @@ all-kept bytes k out h = rw (ne-eqb (allReply bytes k (length out) .number) 0 (�
 
 -- a value by the bytes of its own columns
 value-by-bytes : {sets : List Set} {bytes : List ℕ} → Proper sets bytes → (k : ℕ) (s : Set) (rest : List Set) → drop k sets ≡ s ∷ rest → s .number ≡ 58
-    → (c : Columns bytes k s) (i : ℕ) → i < declared s → valueOf bytes (suc k) i ≡ valueWith (λ (j : ℕ). realOf (ownBytes bytes (c .part) j)) (caseOf s) i
+    → (c : Columns bytes k s) (i : ℕ) → i < declared s → valueOf bytes (suc k) i ≡ valueWith (λ (j : ℕ). realOf (ownBytes bytes (c .part) j)) (setCase s) i
 unfolding setsFrom
 value-by-bytes {sets} {bytes} p k s rest d e c i l =
     let f = set-found p k s rest d in
     let a : f .part ≡ c .part = same-part f c in
     value-asked bytes (suc k) i (accepted-zero p)
     ∙ rw (f .sets) (value-own bytes (f .others) (set-somewhere bytes k s f) (f .holds) e i l)
-    ∙ ap (λ (x : Parts.Part). valueWith (λ (j : ℕ). realOf (ownBytes bytes x j)) (caseOf s) i) a
+    ∙ ap (λ (x : Parts.Part). valueWith (λ (j : ℕ). realOf (ownBytes bytes x j)) (setCase s) i) a
 
 -- OWN BYTES. No number shown comes from other columns: two accepted files that agree on the case and on the bytes of a value's own columns
 -- get the same answer to its question, 21 included.
 pub own-bytes-decide : {sets sets′ : List Set} {bytes bytes′ : List ℕ} → Proper sets bytes → Proper sets′ bytes′
     → (k k′ : ℕ) (s s′ : Set) (rest rest′ : List Set) → drop k sets ≡ s ∷ rest → drop k′ sets′ ≡ s′ ∷ rest′ → s .number ≡ 58 → s′ .number ≡ 58
-    → (c : Columns bytes k s) (c′ : Columns bytes′ k′ s′) → caseOf s ≡ caseOf s′ → (i i′ : ℕ) → i < declared s → i′ < declared s′
-    → ((r : ℕ) → r < numbersOf (caseOf s)
-    → ownBytes bytes (c .part) (i * numbersOf (caseOf s) + r) ≡ ownBytes bytes′ (c′ .part) (i′ * numbersOf (caseOf s) + r))
+    → (c : Columns bytes k s) (c′ : Columns bytes′ k′ s′) → setCase s ≡ setCase s′ → (i i′ : ℕ) → i < declared s → i′ < declared s′
+    → ((r : ℕ) → r < numbersOf (setCase s)
+    → ownBytes bytes (c .part) (i * numbersOf (setCase s) + r) ≡ ownBytes bytes′ (c′ .part) (i′ * numbersOf (setCase s) + r))
     → valueOf bytes (suc k) i ≡ valueOf bytes′ (suc k′) i′
 own-bytes-decide {sets} {sets′} {bytes} {bytes′} p p′ k k′ s s′ rest rest′ d d′ e e′ c c′ q i i′ l l′ h =
     value-by-bytes p k s rest d e c i l
-    ∙ valueWith-same (λ (j : ℕ). realOf (ownBytes bytes (c .part) j)) (λ (j : ℕ). realOf (ownBytes bytes′ (c′ .part) j)) (caseOf s) i i′ (λ r a. ap realOf (h r a))
+    ∙ valueWith-same (λ (j : ℕ). realOf (ownBytes bytes (c .part) j)) (λ (j : ℕ). realOf (ownBytes bytes′ (c′ .part) j)) (setCase s) i i′ (λ r a. ap realOf (h r a))
     ∙ ap (λ (x : ℕ). valueWith (λ (j : ℕ). realOf (ownBytes bytes′ (c′ .part) j)) x i′) q
     ∙ sym (value-by-bytes p′ k′ s′ rest′ d′ e′ c′ i′ l′)
 

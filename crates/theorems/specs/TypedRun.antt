@@ -1,6 +1,6 @@
 -- A typed set's lines as the walk follows them, given by their columns, with the items that they write.
 use mathlib.Core.Path.{_≡_}
-use mathlib.Core.Bool.{true, false}
+use mathlib.Core.Bool.{true}
 use mathlib.Core.List.{List, [], _∷_}
 use Prim.Native.Nat.{ℕ}
 use Rattle.line.specs.Line.{filled}

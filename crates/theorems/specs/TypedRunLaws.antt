@@ -9,7 +9,7 @@ use Rattle.rows.specs.Row.{Row}
 use Rattle.rows.specs.TypedSets.{kindOf, isTyped}
 use Rattle.walk.specs.Due.{opening, rowDue}
 use Rattle.walk.specs.declared.Due.{Due}
-use Rattle.theory.specs.Due.{rowsOf}
+use Rattle.theory.specs.Due.{setRows}
 use Rattle.theory.specs.Proper.{TypedLines}
 use Rattle.sets.specs.Follows.{Follows}
 use Rattle.sets.specs.FollowsLaws.{follows-rows, rows-follow}
@@ -34,11 +34,11 @@ typedLines-length (TypedLines.more w n l) = ap suc (typedLines-length l)
 
 module _ (n : ℕ) (iss : List (List Item)) (css : List (List ℕ)) (t : isTyped n ≡ true) where
   -- a typed set's lines are a run from its opening
-  pub typedLines-run : TypedLines (rowsOf n iss) iss css → TypedRun (opening (kindOf n)) iss css
+  pub typedLines-run : TypedLines (setRows n iss) iss css → TypedRun (opening (kindOf n)) iss css
   typedLines-run l = follows-run (rows-follow n iss t (typedLines-length l)) l
 
   -- and a run from its opening is a typed set's lines
-  pub run-typedLines : TypedRun (opening (kindOf n)) iss css → TypedLines (rowsOf n iss) iss css
+  pub run-typedLines : TypedRun (opening (kindOf n)) iss css → TypedLines (setRows n iss) iss css
   run-typedLines r =
       let o = run-follows r in
       subst (λ (rs : List Row). TypedLines rs iss css) (follows-rows n iss (o .0) t (o .1)) (o .2)

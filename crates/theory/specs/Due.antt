@@ -3,7 +3,7 @@ use mathlib.Core.List.{List, [], _∷_, _++_, map}
 use Prim.Native.Nat.{ℕ, zero, suc, _+_, _-_, _/_}
 use lib.ListN.{length, getD}
 use Rattle.field.specs.Item.{Item}
-use Rattle.rows.specs.Row.{Row, cut}
+use Rattle.rows.specs.Row.{Row, firstFields}
 use Rattle.rows.specs.TypedSets.{kindOf, sequence, Following, nothing, list, lists, dataLines, following}
 use Rattle.rows.specs.Records.{recordOf, dataRow}
 use Rattle.record.specs.Declared.{caseBy, storedBy}
@@ -16,22 +16,22 @@ linesFor n left = (left + (n - 1)) / n
 -- the rows of the lines that hold what is left: "all full but the last, which holds only what is left"
 unfoldable pub numberRows : Row → ℕ → ℕ → List Row
 numberRows r zero left = []
-numberRows r (suc k) left = cut left r ∷ numberRows r k (left - length (r .fields))
+numberRows r (suc k) left = firstFields left r ∷ numberRows r k (left - length (r .fields))
 
-abbrev pub listRows : Row → ℕ → List Row
-listRows r left = numberRows r (linesFor (length (r .fields)) left) left
+abbrev pub rowsHolding : Row → ℕ → List Row
+rowsHolding r left = numberRows r (linesFor (length (r .fields)) left) left
 
 -- the rows of the lines that follow a set's records: none; a list, "no line at all for a count of 0"; two lists; 58's data lines, for the
 -- numbers that its count of values stores
 abbrev pub rowsAfter : Following → List (List Item) → List Row
 rowsAfter nothing ls = []
-rowsAfter (list r p i) ls = listRows (recordOf r) (numberAt ls p i)
-rowsAfter (lists r p i j) ls = listRows (recordOf r) (numberAt ls p i) ++ listRows (recordOf r) (numberAt ls p j)
-rowsAfter (dataLines p) ls = listRows (dataRow (caseBy (getD ls p []))) (storedBy (getD ls p []))
+rowsAfter (list r p i) ls = rowsHolding (recordOf r) (numberAt ls p i)
+rowsAfter (lists r p i j) ls = rowsHolding (recordOf r) (numberAt ls p i) ++ rowsHolding (recordOf r) (numberAt ls p j)
+rowsAfter (dataLines p) ls = rowsHolding (dataRow (caseBy (getD ls p []))) (storedBy (getD ls p []))
 
 unfoldable pub listsOf : ℕ → List (List Item) → List Row
 listsOf kind ls = rowsAfter (following kind) ls
 
 -- the rows of a typed set's lines: its records in order, then those lines
-unfoldable pub rowsOf : ℕ → List (List Item) → List Row
-rowsOf n ls = map recordOf (sequence (kindOf n)) ++ listsOf (kindOf n) ls
+unfoldable pub setRows : ℕ → List (List Item) → List Row
+setRows n ls = map recordOf (sequence (kindOf n)) ++ listsOf (kindOf n) ls

@@ -6,10 +6,10 @@ use lib.ListN.{length}
 use Rattle.layout.specs.Layout.{layouts, layoutOf, numbersOf}
 use Rattle.rows.specs.Row.{Row}
 use Rattle.rows.specs.Records.{records, recordOf, dataRow}
-use Rattle.theory.specs.Due.{linesFor, numberRows, listRows}
+use Rattle.theory.specs.Due.{linesFor, numberRows, rowsHolding}
 
 -- "data lines, all full but the last, which holds only what is left": the fields of the lines of eight numbers in case 1
-pub eight-in-case-1 : map (λ (r : Row). length (r .fields)) (listRows (dataRow 0) 8) ≡ 6 ∷ 2 ∷ []
+pub eight-in-case-1 : map (λ (r : Row). length (r .fields)) (rowsHolding (dataRow 0) 8) ≡ 6 ∷ 2 ∷ []
 unfolding linesFor numberRows dataRow layoutOf layouts
 eight-in-case-1 = refl
 
@@ -19,6 +19,6 @@ unfolding numbersOf layoutOf layouts
 three-in-case-3 = refl
 
 -- 1815: "no line at all for a count of 0"
-pub no-orders : length (listRows (recordOf 29) 0) ≡ 0
+pub no-orders : length (rowsHolding (recordOf 29) 0) ≡ 0
 unfolding linesFor numberRows recordOf records
 no-orders = refl

@@ -16,7 +16,7 @@ use Rattle.rows.specs.Row.{Row}
 use Rattle.rows.specs.TypedSets.{isTyped}
 use Rattle.record.specs.Written.{Written}
 use Rattle.theory.specs.Sets.{Set, set}
-use Rattle.theory.specs.Due.{rowsOf}
+use Rattle.theory.specs.Due.{setRows}
 
 -- "No line between a set's number line and its closing delimiter is a delimiter"
 abbrev pub Inside : List ℕ → Type 0
@@ -36,7 +36,7 @@ pub data PlainLines : List (List Item) → List (List ℕ) → Type 0 where
 
 -- a set's lines between its number line and its closing delimiter
 pub data SetLines : Set → List (List ℕ) → Type 0 where
-  typed : {n : ℕ} {iss : List (List Item)} {css : List (List ℕ)} → isTyped n ≡ true → TypedLines (rowsOf n iss) iss css → SetLines (set n iss) css
+  typed : {n : ℕ} {iss : List (List Item)} {css : List (List ℕ)} → isTyped n ≡ true → TypedLines (setRows n iss) iss css → SetLines (set n iss) css
   plain : {n : ℕ} {iss : List (List Item)} {css : List (List ℕ)} → isTyped n ≡ false → PlainLines iss css → SetLines (set n iss) css
 
 -- "any number of blank lines"

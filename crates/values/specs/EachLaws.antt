@@ -15,7 +15,7 @@ use Rattle.real.specs.declared.Real.{Real}
 use Rattle.layout.specs.Layout.{numbersOf}
 use Rattle.reader.specs.declared.Read.{Read}
 use Rattle.reader.specs.declared.Read.the-variants as read
-use Rattle.reader.specs.Reader.{Said, said, refused, readOf, reads, whole, kindOf, valueWith}
+use Rattle.reader.specs.Reader.{Said, said, refused, readOf, reads, whole, valueKind, valueWith}
 use Rattle.values.specs.Fill.{refusalOf, refusalIn, floatsIn}
 use Rattle.values.specs.FillLaws.{whole-refused, whole-shown, shown-length}
 use Rattle.values.specs.Each.{Each}
@@ -77,7 +77,7 @@ module _ (g : ℕ → Real) (c : ℕ) where
       let z : count * k ≡ i * k + (k + (count * k - suc i * k)) = omega arith in
       ap (reads g 0) z ∙ reads-append g 0 (i * k) (k + (count * k - suc i * k)) ∙ rw (reads-append g (0 + i * k) k (count * k - suc i * k)) (ap (λ (x : ℕ). reads g 0 (i * k) ++ (reads g x k ++ reads g (x + k) (count * k - suc i * k))) (omega arith))
 
-  value-part : (count : ℕ) → refusalIn (all count) ≤ 0 → (i : ℕ) → i < count → valueWith g c i ≡ said 0 (kindOf c) (take k (drop (i * k) (floatsIn (all count))))
+  value-part : (count : ℕ) → refusalIn (all count) ≤ 0 → (i : ℕ) → i < count → valueWith g c i ≡ said 0 (valueKind c) (take k (drop (i * k) (floatsIn (all count))))
   unfolding valueWith
   value-part count h i l =
       let rest = reads g (i * k + k) (count * k - suc i * k) in
@@ -89,7 +89,7 @@ module _ (g : ℕ → Real) (c : ℕ) where
       = ap (drop (i * k)) p ∙ drop-at (floatsIn (reads g 0 (i * k))) _ (i * k) (shown-length g 0 (i * k) (n .0)) in
       let t : take k (drop (i * k) (floatsIn (all count))) ≡ floatsIn (reads g (i * k) k)
       = ap (take k) d ∙ take-at (floatsIn (reads g (i * k) k)) _ k (shown-length g (i * k) k (m .0)) in
-      whole-shown g (i * k) k (kindOf c) [] (m .0) ∙ rw t refl
+      whole-shown g (i * k) k (valueKind c) [] (m .0) ∙ rw t refl
 
   value-refused : (count : ℕ) → 0 < refusalIn (all count) → (i : ℕ) × ((i < count) × (valueWith g c i ≡ refused (refusalIn (all count)) 0))
   unfolding valueWith refusalIn reads
@@ -104,7 +104,7 @@ module _ (g : ℕ → Real) (c : ℕ) where
       (w .0, (omega (arith, w .1 .0), rw e (w .1 .1))))
       (λ (l : refusalIn (all n) ≤ 0).
       let e : refusalIn (all (suc n)) ≡ refusalIn (reads g (n * k) k) = ap refusalIn z ∙ refusal-after (all n) (reads g (n * k) k) l in
-      (n, (omega arith, rw e (whole-refused g (n * k) k (kindOf c) [] (rw e at h)))))
+      (n, (omega arith, rw e (whole-refused g (n * k) k (valueKind c) [] (rw e at h)))))
       (below-or-not 0 (refusalIn (all n)))
 
 module _ (g : ℕ → Real) (c count : ℕ) where

@@ -1,7 +1,7 @@
 -- Where the code reads the stored numbers, one after the other.
 use mathlib.Core.List.{List}
 use mathlib.Core.Path.{_≡_}
-use Prim.Native.Nat.{ℕ, suc, _+_, _≤_}
+use Prim.Native.Nat.{ℕ, _+_, _≤_}
 use lib.Dec.{ltb}
 use lib.ListN.{getD, drop, length}
 use Rattle.laws.specs.Choice.{pick}

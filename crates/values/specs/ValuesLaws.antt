@@ -1,19 +1,19 @@
 -- What the code answers by where a 58's numbers are is the answer for all values.
-use mathlib.Core.Path.{_≡_, refl, sym, ap, _∙_}
+use mathlib.Core.Path.{_≡_, refl, sym, _∙_}
 use mathlib.Core.Bool.{Bool, true, false, _&&_}
-use mathlib.Core.List.{List, [], _∷_, _++_}
+use mathlib.Core.List.{List, [], _∷_}
 use Prim.Native.Nat.{ℕ, _+_, _*_, _≤_, _<_}
 use native.Mathlib.Omega.{arith}
 use borrow.Author.Tests.{lt-ltb, le-ltb, ne-eqb}
 use lib.Dec.{ltb}
 use lib.Ieee.{Float}
-use lib.ListN.{length, drop}
+use lib.ListN.{length}
 use Rattle.laws.specs.Choice.{pick}
 use Rattle.laws.specs.ChoiceLaws.{and-right}
 use Rattle.layout.specs.Layout.{numbersOf}
 use Rattle.parts.specs.Parts.{Part, isFunction}
 use Rattle.parts.specs.Set.{Somewhere}
-use Rattle.parts.specs.Function.{caseOf, countOf, storedOf}
+use Rattle.parts.specs.Function.{partCase, countOf, storedOf}
 use Rattle.judge.specs.declared.Reply.{Reply}
 use Rattle.judge.specs.Judge.{judged, reply}
 use Rattle.reader.specs.declared.Data.{Data}
@@ -30,17 +30,17 @@ unfoldable allBy : List ℕ → Data → Said Float
 allBy file d =
     pick (ltb 0 (d .count)) (whole (d .count * numbersOf (d .case)) [] (reads (realAt file d) 0 (d .count * numbersOf (d .case)))) (refused 18 0)
 
-by-part : (file : List ℕ) (p : Part) (ps : List Part) (s : Somewhere file p ps) (t : Bool) → isFunction p && ltb (caseOf p) 8 ≡ t
+by-part : (file : List ℕ) (p : Part) (ps : List Part) (s : Somewhere file p ps) (t : Bool) → isFunction p && ltb (partCase p) 8 ≡ t
     → allBy file (pick t (own file p ps s) nothing) ≡ allFrom file (p ∷ ps)
 unfolding allBy valuesIn storedOf
 by-part file p ps s true e =
-    rw (and-right (isFunction p) (ltb (caseOf p) 8) e, reads-same (realAt file (own file p ps s)) (realIn file p) 0 0 (countOf p * numbersOf (caseOf p)) (λ r l. real-own file p ps s (0 + r))) refl
+    rw (and-right (isFunction p) (ltb (partCase p) 8) e, reads-same (realAt file (own file p ps s)) (realIn file p) 0 0 (countOf p * numbersOf (partCase p)) (λ r l. real-own file p ps s (0 + r))) refl
 by-part file p ps s false e = rw (values-none p e) refl
 
 by-sets : (file : List ℕ) (set : ℕ) (sets : List Part) → setsFrom file set ≡ sets → allBy file (dataOf sets) ≡ allFrom file sets
 unfolding dataOf allBy
 by-sets file set [] e = refl
-by-sets file set (p ∷ ps) e = by-part file p ps (stands file set p ps e) (isFunction p && ltb (caseOf p) 8) refl
+by-sets file set (p ∷ ps) e = by-part file p ps (stands file set p ps e) (isFunction p && ltb (partCase p) 8) refl
 
 -- a refusal leaves the places
 refused-reply : (s : Said Float) (r : Reply) (out : List ℕ) → s ≡ refusedBy r → 0 < r .number → (r ≡ replyIn s (length out)) × (out ≡ placesIn s out)

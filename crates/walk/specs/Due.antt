@@ -6,7 +6,7 @@ use lib.Dec.{leb, ltb, eqb}
 use lib.ListN.{length, getD}
 use Rattle.laws.specs.Choice.{pick}
 use Rattle.field.specs.Item.{Item}
-use Rattle.rows.specs.Row.{Row, cut}
+use Rattle.rows.specs.Row.{Row, firstFields}
 use Rattle.rows.specs.Records.{recordOf, dataRow, noRecord}
 use Rattle.rows.specs.TypedSets.{sequence, Following, nothing, list, lists, dataLines, following}
 use Rattle.record.specs.Check.{itemsOf}
@@ -37,7 +37,7 @@ listRow d = fullRow (following (d .kind)) (d .case)
 
 -- the row of the next line: a record, or as much of a full line of the list as is left
 unfoldable pub rowDue : Due → Row
-rowDue d = pick (ltb (recordDue d) noRecord) (recordOf (recordDue d)) (cut (d .left) (listRow d))
+rowDue d = pick (ltb (recordDue d) noRecord) (recordOf (recordDue d)) (firstFields (d .left) (listRow d))
 
 -- whether the delimiter may come: no record is due, and no number
 unfoldable pub mayClose : Due → Bool

@@ -20,7 +20,7 @@ use Rattle.kind.specs.Kind.{positive}
 use Rattle.layout.specs.Layout.{layouts, layoutOf, fieldsOf, numbersOf}
 use Rattle.field.specs.Item.{natural, Item}
 use Rattle.field.specs.Field.{integerItem}
-use Rattle.rows.specs.Row.{Row, none, breach, cut}
+use Rattle.rows.specs.Row.{Row, none, breach, firstFields}
 use Rattle.rows.specs.Records.{records, recordOf, dataRow, noRecord}
 use Rattle.rows.specs.TypedSets.{typedSets, sequence, untyped, Following, nothing, list, lists, dataLines, kind58, kind82, kind1815, lineSeven, beforeAxes, following}
 use Rattle.record.specs.Check.{orElse, otherwise, strayFault, fieldsFault, stray, fieldsRefusal, conditionFault, rowRefusal, itemsOf}
@@ -127,18 +127,18 @@ listRow-none d =
     (below-or-not (d .kind) untyped)
 
 -- what holds of every record, and of the first fields of every record and of every data line, holds of the row due
-pub rowDue-is : (P : Row → Type 0) → ((k : ℕ) → P (recordOf k)) → ((n k : ℕ) → P (cut n (recordOf k))) → ((n c : ℕ) → P (cut n (dataRow c))) → (d : Due)
+pub rowDue-is : (P : Row → Type 0) → ((k : ℕ) → P (recordOf k)) → ((n k : ℕ) → P (firstFields n (recordOf k))) → ((n c : ℕ) → P (firstFields n (dataRow c))) → (d : Due)
     → P (rowDue d)
 unfolding rowDue listRow
 rowDue-is P whole some lines d = by (ltb (recordDue d) noRecord)
   where
-    full : (f : Following) → P (cut (d .left) (fullRow f (d .case)))
+    full : (f : Following) → P (firstFields (d .left) (fullRow f (d .case)))
     full nothing = some (d .left) noRecord
     full (list r p i) = some (d .left) r
     full (lists r p i j) = some (d .left) r
     full (dataLines p) = lines (d .left) (d .case)
 
-    by : (t : Bool) → P (pick t (recordOf (recordDue d)) (cut (d .left) (fullRow (following (d .kind)) (d .case))))
+    by : (t : Bool) → P (pick t (recordOf (recordDue d)) (firstFields (d .left) (fullRow (following (d .kind)) (d .case))))
     by true = whole (recordDue d)
     by false = full (following (d .kind))
 

@@ -13,7 +13,6 @@ use Rattle.layout.specs.Columns.{fieldOf}
 use Rattle.layout.specs.Layout.{layoutOf, fieldsOf}
 use Rattle.judge.specs.declared.Reply.{Reply}
 use Rattle.judge.specs.Judge.{reply}
-use Rattle.header.specs.declared.Header.{Header}
 use Rattle.header.specs.Header.{headerOf, replyOf}
 use Rattle.rewriter.specs.Rewriter.{headText, linesText, delimiterLine}
 

@@ -11,7 +11,7 @@ use borrow.Rule.Slice.PartMut.{putMid}
 use lib.Dec.{eqb}
 use lib.IntN.{ℤ, pos}
 use lib.ListN.{length, getD, take, drop, set, length-append, length-drop, List·getD-eq-default, drop-of-length-le}
-use lib.Seq.{drop-cons, drop-drop, length-take-le}
+use lib.Seq.{drop-cons, length-take-le}
 use Rattle.laws.specs.Choice.{pick}
 use Rattle.decimal.specs.Decimal.{fits, fieldText}
 use Rattle.decimal.specs.DecimalLaws.{fieldText-length}

@@ -32,12 +32,12 @@ use Rattle.laws.specs.Cut.{cut}
 use Rattle.record.specs.Declared.{caseIn, countIn, storedIn}
 use Rattle.header.specs.Header.{headerOf}
 use Rattle.theory.specs.Sets.{Set}
-use Rattle.theory.specs.Due.{listsOf, rowsOf}
+use Rattle.theory.specs.Due.{listsOf, setRows}
 use Rattle.theory.specs.Proper.{SetLines}
 use Rattle.parts.specs.Parts as Parts
 use Rattle.parts.specs.Function as Function
 use Rattle.places.specs.Holds.{Holds}
-use Rattle.places.specs.Declared.{declared, caseOf}
+use Rattle.places.specs.Declared.{declared, setCase}
 use Rattle.places.specs.DeclaredLaws.{typed-line, typed-58, lineOf-columns, number-held, count-held, case-held}
 use Rattle.places.specs.Stored.{storedCount, storedItem, ownColumns}
 use Rattle.places.specs.StoredLaws.{stored-spelled}
@@ -94,14 +94,14 @@ fit-at {c} {j} zero (AllFit.more n f t) h = record { small = n; fit = rw add-zer
 fit-at {c} {j} (suc i) (AllFit.more n f t) h = let z : j + suc i ≡ suc j + i = omega arith in rw z (fit-at i t (omega arith))
 
 -- the rows of a 58's first eleven lines
-header-row : (iss : List (List Item)) (i : ℕ) → i < headerLines → getD (rowsOf 58 iss) i (plain []) ≡ recordOf (getD (sequence kind58) i noRecord)
-unfolding rowsOf kindOf sequence typedSets recordOf records
+header-row : (iss : List (List Item)) (i : ℕ) → i < headerLines → getD (setRows 58 iss) i (plain []) ≡ recordOf (getD (sequence kind58) i noRecord)
+unfolding setRows kindOf sequence typedSets recordOf records
 header-row iss i h =
     let ks : List ℕ = sequence kind58 in
     List·getD-append (map recordOf ks) (listsOf kind58 iss) (plain []) i h ∙ List·getD-map recordOf ks i noRecord
 
-rows-eleven : (iss : List (List Item)) (i : ℕ) → i < headerLines → i < length (rowsOf 58 iss)
-unfolding rowsOf kindOf sequence typedSets
+rows-eleven : (iss : List (List Item)) (i : ℕ) → i < headerLines → i < length (setRows 58 iss)
+unfolding setRows kindOf sequence typedSets
 rows-eleven iss i h = rw (length-append (map recordOf (sequence kind58)) (listsOf kind58 iss)) (omega arith)
 
 header-line : {s : Set} {css : List (List ℕ)} → SetLines s css → s .number ≡ 58 → (i : ℕ) → i < headerLines
@@ -148,8 +148,8 @@ module _ (header : List ℕ) (p : Passed header) (xs ss : List ℤ) (stored : le
   unfolding Parts.lineOf
   line-later q = ap Parts.columnsIn (ap (λ (n : ℕ). getD (cut header .lines ++ data-lines) (n + q) []) (sym (p .lines)) ∙ getD-append-add (cut header .lines) data-lines q [])
 
-  lent-case : Function.caseOf lent ≡ c
-  unfolding Function.caseOf
+  lent-case : Function.partCase lent ≡ c
+  unfolding Function.partCase
   lent-case = rw line-seven (sym (p .seventh .case) ∙ p .case)
 
   -- the line of stored number j
@@ -201,14 +201,14 @@ module _ (header : List ℕ) (p : Passed header) (xs ss : List ℤ) (stored : le
 
   module _ (s : Set) (h : Holds s lent) where
     pub set-number : s .number ≡ 58
-    unfolding Parts.numberOf
+    unfolding Parts.datasetOf
     set-number = sym (number-held h) ∙ plainNumber-again 58 (omega arith) (omega arith)
 
     -- the items of its first eleven lines are written in the header's lines
     pub set-header : (i : ℕ) → i < headerLines → Written (recordOf (getD (sequence kind58) i noRecord)) (getD (s .lines) i []) (Parts.columnsIn (getD (cut header .lines) i []))
     set-header i l = rw (← line-first i l, lineOf-columns lent i) (header-line (h .lines) set-number i l)
 
-    pub set-case : caseOf s ≡ c
+    pub set-case : setCase s ≡ c
     set-case = sym (case-held h set-number) ∙ lent-case
 
     pub set-stored : storedCount s ≡ length xs

@@ -22,12 +22,12 @@ use Rattle.layout.specs.Layout.{layouts, layoutOf, fieldsOf}
 use Rattle.layout.specs.LayoutLaws.{fieldsOf-some, total-inside}
 use Rattle.rows.specs.Row as Row
 use Rattle.rows.specs.Records.{E, dataRow}
-use Rattle.rows.specs.TypedSets.{sequence, typedSets, headerLines, kind58, following}
+use Rattle.rows.specs.TypedSets.{sequence, typedSets, following}
 use Rattle.record.specs.Written.{FieldsIn, Written, Kept}
 use Rattle.reading.specs.LineReadingLaws.{written-complete}
 use Rattle.walk.specs.declared.Place.the-variants.{Typed}
 use Rattle.walk.specs.declared.Outcome.the-variants.{Next}
-use Rattle.walk.specs.Due.{due, recordDue, listRow, mayClose, mayContinue, rowDue, settled, afterList, after, afterItems}
+use Rattle.walk.specs.Due.{recordDue, listRow, mayClose, mayContinue, rowDue, settled, afterList, after, afterItems}
 use Rattle.walk.specs.DueLaws.{dataRow-length, open-continues}
 use Rattle.walk.specs.Step.{state, stepOf, typedStep}
 use Rattle.judge.specs.Judge.{lineStep}
@@ -41,7 +41,7 @@ use Rattle.writing.specs.LineLaws.{fields-in, fields-allowed, fields-len
 use Rattle.writing.specs.DataRun.{dataDue, AllFit, AllFit.none as none, AllFit.more as more, Roomy, Neat, Ran}
 
 -- what is due in the data
-row-due : (c left : ℕ) → rowDue (dataDue c left) ≡ Row.cut left (dataRow c)
+row-due : (c left : ℕ) → rowDue (dataDue c left) ≡ Row.firstFields left (dataRow c)
 unfolding rowDue recordDue listRow sequence following typedSets
 row-due c left = refl
 
@@ -73,7 +73,7 @@ module _ (c : ℕ) (w : ℕ) (ws : List ℕ) (x s : ℤ) (xs ss : List ℤ) (wid
   eighty : length line ≤ 80
   eighty = omega (arith, fields-length (w ∷ ws) (x ∷ xs) (s ∷ ss), subst (λ (v : List ℕ). total v ≤ 80) widths (total-inside c))
 
-  line-written : Written (Row.cut (length (x ∷ xs)) (dataRow c)) (itemsBack (w ∷ ws) (x ∷ xs) (s ∷ ss)) (filled line)
+  line-written : Written (Row.firstFields (length (x ∷ xs)) (dataRow c)) (itemsBack (w ∷ ws) (x ∷ xs) (s ∷ ss)) (filled line)
   unfolding dataRow
   line-written = record {
     in-columns =

@@ -30,7 +30,7 @@ use Rattle.header.specs.HeaderLaws.{over-refused}
 use Rattle.parts.specs.Parts.{columnsIn}
 use Rattle.rewriter.specs.Rewriter.{headText, plainNumber}
 use Rattle.rewriter.specs.Fair.{plainDelimiter}
-use Rattle.writing.specs.HeaderRun.{Passed, Stood, Taken, Met, Met.taken, Met.stopped, ended}
+use Rattle.writing.specs.HeaderRun.{Passed, Stood, Taken, Met, ended}
 use Rattle.writing.specs.HeaderRunLaws.{not-closed, after-stood, line-met, opened-stood, header-passed}
 use Rattle.writing.specs.LentLaws.{cut-after, over-line, cut-head, opens, numbered}
 use Rattle.writing.specs.HeaderRefused.{twelfthNumber}

@@ -14,7 +14,7 @@ use Rattle.walk.specs.declared.Place.the-variants.{Typed}
 use Rattle.walk.specs.Due.{rowDue, after}
 use Rattle.walk.specs.Step.{state}
 use Rattle.walk.specs.declared.Outcome.the-variants.{Next, Refused}
-use Rattle.judge.specs.Judge.{Run, going, runStep, runEnd, lineStep}
+use Rattle.judge.specs.Judge.{going, runStep, lineStep}
 use Rattle.header.specs.declared.Header.{Header}
 use Rattle.header.specs.Header.{opened, headerOf, headerStep, headerEnd}
 use Rattle.parts.specs.Parts.{columnsIn, closes}

@@ -24,7 +24,7 @@ use Rattle.record.specs.Check.{rowRefusal, itemsOf}
 use Rattle.record.specs.Declared.{caseIn, storedIn, caseBy, countBy, storedBy}
 use Rattle.walk.specs.declared.Due.{Due}
 use Rattle.walk.specs.declared.Place.the-variants.{Typed}
-use Rattle.walk.specs.declared.Outcome.the-variants.{Next, Refused}
+use Rattle.walk.specs.declared.Outcome.the-variants.{Refused}
 use Rattle.walk.specs.Due.{due, recordDue, mayClose, rowDue, opening, next, after}
 use Rattle.walk.specs.DueLaws.{numbersOf-few, rowRefusal-record, after-58, open-continues}
 use Rattle.walk.specs.Step.{state, unless, typedStep, stepOf}

@@ -28,17 +28,16 @@ use Rattle.walk.specs.declared.Outcome.{Outcome}
 use Rattle.walk.specs.declared.Outcome.the-variants.{Next}
 use Rattle.walk.specs.Due.{due, recordDue, mayClose}
 use Rattle.walk.specs.Step.{state, start, opened, stepOf, outsideStep, numberStep, typedStep}
-use Rattle.judge.specs.declared.Reply.{Reply}
 use Rattle.judge.specs.Judge.{judged, reply, lineStep, Run, going, onOutcome, runStep, runEnd}
 use Rattle.header.specs.declared.Header.{Header}
 use Rattle.header.specs.Header as Header
 use Rattle.header.specs.Header.{headerOf}
 use Rattle.ends.specs.Ends.{joined}
 use Rattle.ends.specs.EndsLaws.{cut-joined}
-use Rattle.parts.specs.Parts.{Part, part, Stand, outside, inside, partsFrom, partsOf, numberOf}
+use Rattle.parts.specs.Parts.{Part, part, outside, inside, partsFrom, partsOf, datasetOf}
 use Rattle.output.specs.Output.{ended}
 use Rattle.rewriter.specs.Rewriter.{plainIn, digitOrBlank, plainNumber, delimiterLine, keptOf, linesText, headText, setText, rewrittenSet, rewritten, rewrittenFile}
-use Rattle.rewriter.specs.Fair.{Fair, Inner, plainDelimiter}
+use Rattle.rewriter.specs.Fair.{Inner, plainDelimiter}
 use Rattle.rewriter.specs.RewriterLaws.{inner-append, delimiter-closes, cut-lines}
 use Rattle.decimal.specs.Decimal.{fieldText}
 use Rattle.decimal.specs.DecimalLaws.{fieldText-length}
@@ -47,7 +46,7 @@ use Rattle.rewriting.specs.NumberLaws.{plainNumber-again}
 use Rattle.writing.specs.HeaderRun.{Passed}
 use Rattle.writing.specs.DataLines.{dataLines, lentFile}
 use Rattle.writing.specs.DataTextLaws.{field-zero, data-joined}
-use Rattle.writing.specs.DataRun.{dataDue, AllFit, Neat, Ran, Roomy}
+use Rattle.writing.specs.DataRun.{dataDue, AllFit, Neat, Ran}
 use Rattle.writing.specs.DataRunLaws.{fit-same, data-ran, width-roomy}
 
 -- lines that are kept as they are
@@ -234,7 +233,7 @@ module _ (header : List ℕ) (p : Passed header) (xs ss : List ℤ) (stored : le
 
   -- what it is rewritten to
   pub lent-rewritten : rewrittenFile (lentFile header c xs ss) ≡ writtenSet header c xs ss
-  unfolding rewritten rewrittenSet setText numberOf writtenSet
+  unfolding rewritten rewrittenSet setText datasetOf writtenSet
   lent-rewritten =
       rw (lent-parts, plainNumber-again 58 (omega arith) (omega arith), append-nil, linesText-append (cut header .lines) lines, ← data-lines)
       (ap (λ (t : List ℕ). headText 58 ++ t) (append-assoc (linesText (cut header .lines)) (dataText c 0 xs ss) delimiterLine))

@@ -1,8 +1,7 @@
 -- `host::column_bits` meets its contract.
-use mathlib.Core.Path.{refl, sym}
+use mathlib.Core.Path.{refl}
 use borrow.Author.Tests.{lt-ltb, le-ltb}
 use Rattle.host.specs.Packed.{columnBits}
-use borrow.Author.Needs.{needs}
 use Rattle.host.proofs.column_bits.Statement.{statement}
 use Rattle.host.proofs.column_bits.Tie as tie
 

@@ -4,7 +4,7 @@ use Prim.Native.Nat.{_≤_, _+_, _-_}
 use lib.ListN.{length, drop}
 use Rattle.laws.specs.Cut.{lineLen, cut, over}
 use Rattle.line.specs.LineLaws.{lineLen-within}
-use Rattle.judge.specs.Judge.{going, runStep, runEnd}
+use Rattle.judge.specs.Judge.{going, runStep}
 use Rattle.judge.specs.LinesLaws.{lines-next, rest-next, judged-to-stop, judged-to-end}
 use borrow.Author.Needs.{needs}
 use Rattle.judge.proofs.judge_lines.Statement.{statement}

@@ -1,71 +1,71 @@
 -- `layout::case_of` meets its contract.
-use Rattle.layout.specs.Layout.{caseOf, layouts}
+use Rattle.layout.specs.Layout.{caseFor, layouts}
 use borrow.Author.Tests.{eq-eqb, ne-eqb}
 use Rattle.layout.proofs.case_of.Statement.{statement}
 use Rattle.layout.proofs.case_of.Tie as tie
 
 returns : tie.Need-returns
-unfolding caseOf layouts
+unfolding caseFor layouts
 returns c = simp (eq-eqb _ _ (c .if2 .taken), eq-eqb _ _ (c .before .if1 .taken))
 
 returns-2 : tie.Need-returns-2
-unfolding caseOf layouts
+unfolding caseFor layouts
 returns-2 c = simp (eq-eqb _ _ (c .if3 .taken), ne-eqb _ _ (c .before .if2 .left), eq-eqb _ _ (c .before .before .if1 .taken))
 
 returns-3 : tie.Need-returns-3
-unfolding caseOf layouts
+unfolding caseFor layouts
 returns-3 c = simp (ne-eqb _ _ (c .if3 .left), ne-eqb _ _ (c .before .if2 .left), c .before .before .if1 .taken)
 
 returns-4 : tie.Need-returns-4
-unfolding caseOf layouts
+unfolding caseFor layouts
 returns-4 c = simp (eq-eqb _ _ (c .if5 .taken), eq-eqb _ _ (c .before .if4 .taken), ne-eqb _ _ (c .before .before .if1 .left))
 
 returns-5 : tie.Need-returns-5
-unfolding caseOf layouts
+unfolding caseFor layouts
 returns-5 c = simp (eq-eqb _ _ (c .if6 .taken), ne-eqb _ _ (c .before .if5 .left), eq-eqb _ _ (c .before .before .if4 .taken), ne-eqb _ _ (c .before .before .before .if1 .left))
 
 returns-6 : tie.Need-returns-6
-unfolding caseOf layouts
+unfolding caseFor layouts
 returns-6 c = simp (ne-eqb _ _ (c .if6 .left), ne-eqb _ _ (c .before .if5 .left), c .before .before .if4 .taken, ne-eqb _ _ (c .before .before .before .if1 .left))
 
 returns-7 : tie.Need-returns-7
-unfolding caseOf layouts
+unfolding caseFor layouts
 returns-7 c = simp (eq-eqb _ _ (c .if8 .taken), eq-eqb _ _ (c .before .if7 .taken), ne-eqb _ _ (c .before .before .if4 .left), ne-eqb _ _ (c .before .before .before .if1 .left))
 
 returns-8 : tie.Need-returns-8
-unfolding caseOf layouts
+unfolding caseFor layouts
 returns-8 c =
     let at-if1 = c .before .before .before .before in
     simp (eq-eqb _ _ (c .if9 .taken), ne-eqb _ _ (c .before .if8 .left), eq-eqb _ _ (c .before .before .if7 .taken), ne-eqb _ _ (c .before .before .before .if4 .left), ne-eqb _ _ (at-if1 .if1 .left))
 
 returns-9 : tie.Need-returns-9
-unfolding caseOf layouts
+unfolding caseFor layouts
 returns-9 c =
     let at-if1 = c .before .before .before .before in
     simp (ne-eqb _ _ (c .if9 .left), ne-eqb _ _ (c .before .if8 .left), c .before .before .if7 .taken, ne-eqb _ _ (c .before .before .before .if4 .left), ne-eqb _ _ (at-if1 .if1 .left))
 
 returns-10 : tie.Need-returns-10
-unfolding caseOf layouts
+unfolding caseFor layouts
 returns-10 c =
     let at-if1 = c .before .before .before .before in
     simp (eq-eqb _ _ (c .if11 .taken), eq-eqb _ _ (c .before .if10 .taken), ne-eqb _ _ (c .before .before .if7 .left), ne-eqb _ _ (c .before .before .before .if4 .left), ne-eqb _ _ (at-if1 .if1 .left))
 
 returns-11 : tie.Need-returns-11
-unfolding caseOf layouts
+unfolding caseFor layouts
 returns-11 c =
     let at-if4 = c .before .before .before .before in
     let at-if1 = at-if4 .before in
     simp (eq-eqb _ _ (c .if12 .taken), ne-eqb _ _ (c .before .if11 .left), eq-eqb _ _ (c .before .before .if10 .taken), ne-eqb _ _ (c .before .before .before .if7 .left), ne-eqb _ _ (at-if4 .if4 .left), ne-eqb _ _ (at-if1 .if1 .left))
 
 returns-12 : tie.Need-returns-12
-unfolding caseOf layouts
+unfolding caseFor layouts
 returns-12 c =
     let at-if4 = c .before .before .before .before in
     let at-if1 = at-if4 .before in
     simp (ne-eqb _ _ (c .if12 .left), ne-eqb _ _ (c .before .if11 .left), c .before .before .if10 .taken, ne-eqb _ _ (c .before .before .before .if7 .left), ne-eqb _ _ (at-if4 .if4 .left), ne-eqb _ _ (at-if1 .if1 .left))
 
 returns-13 : tie.Need-returns-13
-unfolding caseOf layouts
+unfolding caseFor layouts
 returns-13 c = simp (ne-eqb _ _ (c .if10 .left), ne-eqb _ _ (c .before .if7 .left), ne-eqb _ _ (c .before .before .if4 .left), ne-eqb _ _ (c .before .before .before .if1 .left))
 
 pub case-of-spec : {M : Type 1} → statement M

@@ -11,9 +11,6 @@ use borrow.Author.Tests.{not-false}
 use native.Mathlib.Omega.{arith}
 use Rattle.line.proofs.past_blocks.Statement.{statement}
 use Rattle.line.proofs.past_blocks.Tie as tie
-use Rattle.line.proofs.past_blocks.Reads as reads
-use Rattle.line.proofs.past_blocks.Lts as lts
-use Rattle.line.proofs.all_allowed.Reads as all-allowed-reads
 
 abbrev Inv-loop : tie.InvT-loop
 Inv-loop file from last i₀ i = i + lineLen (drop i file) ≡ from + lineLen (drop from file)

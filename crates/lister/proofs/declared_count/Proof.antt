@@ -2,7 +2,6 @@
 use mathlib.Core.Path.{refl, _∙_}
 use borrow.Author.Tests.{eq-eqb, ne-eqb}
 use Rattle.lister.specs.Found.{declaredAt}
-use native.Mathlib.Omega.{arith}
 use borrow.Author.Needs.{needs}
 use Rattle.lister.proofs.declared_count.Statement.{statement}
 use Rattle.lister.proofs.declared_count.Tie as tie

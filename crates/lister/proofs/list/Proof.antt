@@ -1,6 +1,5 @@
 -- `lister::list` meets its contract.
 use native.Mathlib.Omega.{arith}
-use mathlib.Core.Path.{refl}
 use Rattle.judge.specs.JudgeLaws.{judged-short}
 use Rattle.lister.specs.ListerLaws.{list-refused, list-short, list-done}
 use borrow.Author.Needs.{needs}

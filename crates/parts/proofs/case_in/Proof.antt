@@ -1,7 +1,6 @@
 -- `parts::case_in` meets its contract.
 use mathlib.Core.Path.{ap, _∙_}
 use Rattle.record.specs.Declared.{caseIn}
-use native.Mathlib.Omega.{arith}
 use borrow.Author.Needs.{needs}
 use Rattle.parts.proofs.case_in.Statement.{statement}
 use Rattle.parts.proofs.case_in.Tie as tie

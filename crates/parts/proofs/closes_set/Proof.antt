@@ -1,7 +1,6 @@
 -- `parts::closes_set` meets its contract.
 use mathlib.Core.Path.{refl, _∙_}
 use borrow.Author.Tests.{eq-eqb, ne-eqb}
-use native.Mathlib.Omega.{arith}
 use borrow.Author.Needs.{needs}
 use Rattle.parts.proofs.closes_set.Statement.{statement}
 use Rattle.parts.proofs.closes_set.Tie as tie

@@ -1,7 +1,6 @@
 -- `parts::count_in` meets its contract.
 use mathlib.Core.Path.{ap, _∙_}
 use Rattle.record.specs.Declared.{countIn}
-use native.Mathlib.Omega.{arith}
 use borrow.Author.Needs.{needs}
 use Rattle.parts.proofs.count_in.Statement.{statement}
 use Rattle.parts.proofs.count_in.Tie as tie

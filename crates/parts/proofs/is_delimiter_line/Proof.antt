@@ -2,7 +2,6 @@
 use mathlib.Core.Path.{ap, _∙_}
 use Rattle.kind.specs.Kind.{isDelimiter}
 use Rattle.parts.specs.Parts.{closes}
-use native.Mathlib.Omega.{arith}
 use borrow.Author.Needs.{needs}
 use Rattle.parts.proofs.is_delimiter_line.Statement.{statement}
 use Rattle.parts.proofs.is_delimiter_line.Tie as tie

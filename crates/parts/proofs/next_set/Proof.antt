@@ -1,5 +1,5 @@
 -- `parts::next_set` meets its contract.
-use mathlib.Core.Path.{_≡_, refl, sym, _∙_}
+use mathlib.Core.Path.{_≡_, _∙_}
 use Prim.{tt}
 use Prim.Native.Nat.{_≤_, _-_, _+_}
 use lib.ListN.{length, drop}
@@ -9,7 +9,6 @@ use Rattle.parts.specs.Parts.{outside, partsFrom}
 use Rattle.parts.specs.Scan.{firstOf, scanFrom}
 use Rattle.parts.specs.ScanLaws.{scan-parts, scan-closes, scan-next, scan-ends}
 use borrow.Author.Needs.{needs}
-use native.Mathlib.Omega.{arith}
 use Rattle.parts.proofs.next_set.Statement.{statement}
 use Rattle.parts.proofs.next_set.Tie as tie
 

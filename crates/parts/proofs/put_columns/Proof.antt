@@ -4,7 +4,6 @@ use mathlib.Core.Bool.{true}
 use lib.Seq.{length-take-le}
 use Rattle.line.specs.Line.{filled}
 use Rattle.line.specs.LineLaws.{columns-within, columns-take}
-use native.Mathlib.Omega.{arith}
 use borrow.Author.Needs.{needs}
 use Rattle.parts.proofs.put_columns.Statement.{statement}
 use Rattle.parts.proofs.put_columns.Tie as tie

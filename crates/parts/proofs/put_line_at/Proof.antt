@@ -1,6 +1,5 @@
 -- `parts::put_line_at` meets its contract.
-use mathlib.Core.Path.{refl, ap, _∙_}
-use native.Mathlib.Omega.{arith}
+use mathlib.Core.Path.{refl, _∙_}
 use borrow.Author.Needs.{needs}
 use Rattle.parts.specs.Scan.{lineFrom}
 use Rattle.parts.proofs.put_line_at.Statement.{statement}

@@ -3,15 +3,8 @@ use mathlib.Core.Path.{_≡_}
 use Prim.Native.Nat.{_≤_}
 use lib.ListN.{length}
 use borrow.Author.Needs.{needs}
-use native.Mathlib.Omega.{arith}
 use Rattle.receive.proofs.receive.Statement.{statement}
 use Rattle.receive.proofs.receive.Tie as tie
-use Rattle.receive.proofs.receive.Reads as reads
-use Rattle.receive.proofs.receive.Lts as lts
-use Rattle.io.proofs.read_full.Reads as read-full-reads
-use Rattle.receive.proofs.show_answer.Reads as show-answer-reads
-use Rattle.standing.proofs.after_burst.Reads as after-burst-reads
-use Rattle.stream.proofs.fresh.Reads as fresh-reads
 
 abbrev Inv-loop : tie.InvT-loop
 Inv-loop record₀ burst₀ left₀ «record» burst left = (length burst ≡ 512) × (left ≤ 32769)

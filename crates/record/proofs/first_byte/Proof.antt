@@ -2,7 +2,7 @@
 use mathlib.Core.Path.{_≡_, refl, sym, _∙_}
 use Prim.Native.Nat.{_≤_, _-_, _+_}
 use lib.ListN.{take, drop}
-use Rattle.record.specs.Check.{firstByte}
+use Rattle.record.specs.Check.{firstNonBlank}
 use Rattle.record.specs.CheckLaws.{firstByte-next, firstByte-here, firstByte-end, firstByte-blank}
 use borrow.Author.Needs.{needs}
 use native.Mathlib.Omega.{arith}
@@ -10,7 +10,7 @@ use Rattle.record.proofs.first_byte.Statement.{statement}
 use Rattle.record.proofs.first_byte.Tie as tie
 
 abbrev Inv-loop : tie.InvT-loop
-Inv-loop line at past columns i₀ i = (at ≤ i) × ((i ≤ past) × (firstByte (i + 1) (take (past - i) (drop i line)) ≡ firstByte (at + 1) (take (past - at) (drop at line))))
+Inv-loop line at past columns i₀ i = (at ≤ i) × ((i ≤ past) × (firstNonBlank (i + 1) (take (past - i) (drop i line)) ≡ firstNonBlank (at + 1) (take (past - at) (drop at line))))
 
 abbrev μ-loop : tie.MeasureT-loop
 μ-loop line at past columns i₀ i = past - i

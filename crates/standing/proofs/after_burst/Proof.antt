@@ -52,13 +52,10 @@ use Rattle.standing.proofs.AfterBurst as D
 use Rattle.standing.proofs.AfterBurst.Laws as D′
 use Rattle.standing.proofs.burst as burst
 use Rattle.standing.proofs.burst.Symbol as burst-def
-use Rattle.standing.proofs.burst.Symbol.{name as #burst}
 use Rattle.standing.proofs.burst.Met as burst-thm
 use Rattle.standing.proofs.with_answer as made
 use Rattle.standing.proofs.with_answer.Symbol as made-def
-use Rattle.standing.proofs.with_answer.Symbol.{name as #made}
 use Rattle.standing.proofs.with_answer.Met as made-thm
-use Rattle.standing.proofs.after_burst.Key.{name as #after-burst}
 use Rattle.standing.proofs.after_burst as after-burst
 use Rattle.standing.proofs.after_burst.Statement as stated
 use Rattle.standing.proofs.after_burst.Code as code

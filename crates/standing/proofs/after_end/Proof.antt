@@ -47,13 +47,10 @@ use Rattle.standing.proofs.AfterEnd as D
 use Rattle.standing.proofs.AfterEnd.Laws as D′
 use Rattle.standing.proofs.end as end
 use Rattle.standing.proofs.end.Symbol as end-def
-use Rattle.standing.proofs.end.Symbol.{name as #end}
 use Rattle.standing.proofs.end.Met as end-thm
 use Rattle.standing.proofs.with_reply as made
 use Rattle.standing.proofs.with_reply.Symbol as made-def
-use Rattle.standing.proofs.with_reply.Symbol.{name as #made}
 use Rattle.standing.proofs.with_reply.Met as made-thm
-use Rattle.standing.proofs.after_end.Key.{name as #after-end}
 use Rattle.standing.proofs.after_end as after-end
 use Rattle.standing.proofs.after_end.Statement as stated
 use Rattle.standing.proofs.after_end.Code as code

@@ -47,13 +47,10 @@ use Rattle.stream.proofs.Stream as T
 use Rattle.stream.proofs.Stream.Laws as T′
 use Rattle.stream.proofs.step as step
 use Rattle.stream.proofs.step.Symbol as step-def
-use Rattle.stream.proofs.step.Symbol.{name as #step}
 use Rattle.stream.proofs.step.Met as step-thm
 use Rattle.stream.proofs.answer_of as answer
 use Rattle.stream.proofs.answer_of.Symbol as answer-def
-use Rattle.stream.proofs.answer_of.Symbol.{name as #answer}
 use Rattle.stream.proofs.answer_of.Met as answer-thm
-use Rattle.standing.proofs.burst.Key.{name as #burst}
 use Rattle.standing.proofs.burst as burst
 use Rattle.standing.proofs.burst.Statement as stated
 use Rattle.standing.proofs.burst.Code as code

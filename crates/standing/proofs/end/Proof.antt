@@ -43,13 +43,10 @@ use Rattle.stream.proofs.Stream as T
 use Rattle.stream.proofs.Stream.Laws as T′
 use Rattle.stream.proofs.close as close
 use Rattle.stream.proofs.close.Symbol as close-def
-use Rattle.stream.proofs.close.Symbol.{name as #close}
 use Rattle.stream.proofs.close.Met as close-thm
 use Rattle.stream.proofs.reply as reply
 use Rattle.stream.proofs.reply.Symbol as reply-def
-use Rattle.stream.proofs.reply.Symbol.{name as #reply}
 use Rattle.stream.proofs.reply.Met as reply-thm
-use Rattle.standing.proofs.end.Key.{name as #end}
 use Rattle.standing.proofs.end as end
 use Rattle.standing.proofs.end.Statement as stated
 use Rattle.standing.proofs.end.Code as code

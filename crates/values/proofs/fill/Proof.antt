@@ -1,7 +1,7 @@
 -- `values::fill` meets its contract.
-use mathlib.Core.Path.{_≡_, refl, sym, ap, _∙_}
+use mathlib.Core.Path.{_≡_, refl, ap, _∙_}
 use mathlib.Core.List.{_++_}
-use Prim.Native.Nat.{_+_, _-_, _≤_}
+use Prim.Native.Nat.{_-_, _≤_}
 use lib.ListN.{length, take, drop, length-set}
 use native.Mathlib.Nat.{sub-zero}
 use Rattle.reader.specs.Reader.{reads}
@@ -11,7 +11,6 @@ use Rattle.values.specs.FillLaws.{patterns-next, patterns-none}
 use Rattle.values.specs.Spot.{AtSpot}
 use Rattle.values.specs.SpotLaws.{here, read-own, spot-next}
 use borrow.Author.Needs.{needs}
-use native.Mathlib.Omega.{arith}
 use Rattle.values.proofs.fill.Statement.{statement}
 use Rattle.values.proofs.fill.Tie as tie
 

@@ -1,7 +1,6 @@
 -- `values::first_refusal` meets its contract.
-use mathlib.Core.Path.{_≡_, refl, sym, _∙_}
-use Prim.Native.Nat.{_+_, _-_, _≤_}
-use lib.ListN.{length}
+use mathlib.Core.Path.{_≡_, refl, _∙_}
+use Prim.Native.Nat.{_-_, _≤_}
 use native.Mathlib.Nat.{sub-zero}
 use Rattle.reader.specs.Reader.{reads}
 use Rattle.reader.specs.Find.{realAt}
@@ -10,7 +9,6 @@ use Rattle.values.specs.FillLaws.{refusal-here, refusal-next, refusal-no
 use Rattle.values.specs.Spot.{AtSpot}
 use Rattle.values.specs.SpotLaws.{here, read-own, spot-next}
 use borrow.Author.Needs.{needs}
-use native.Mathlib.Omega.{arith}
 use Rattle.values.proofs.first_refusal.Statement.{statement}
 use Rattle.values.proofs.first_refusal.Tie as tie
 

@@ -1,6 +1,5 @@
 -- `values::first_spot` meets its contract.
 use Rattle.values.specs.SpotLaws.{spot-first}
-use native.Mathlib.Omega.{arith}
 use borrow.Author.Needs.{needs}
 use Rattle.values.proofs.first_spot.Statement.{statement}
 use Rattle.values.proofs.first_spot.Tie as tie

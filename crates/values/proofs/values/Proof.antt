@@ -3,7 +3,6 @@ use Prim.Native.Nat.{_*_, _≤_}
 use Rattle.reader.specs.ReaderLaws.{start-most, data-inside}
 use Rattle.values.specs.ValuesLaws.{refused-first, none-there, one-refused, too-few, all-filled}
 use mathlib.Core.Path.{refl}
-use native.Mathlib.Omega.{arith}
 use borrow.Author.Needs.{needs}
 use Rattle.values.proofs.values.Statement.{statement}
 use Rattle.values.proofs.values.Tie as tie

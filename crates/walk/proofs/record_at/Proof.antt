@@ -2,13 +2,9 @@ use Rattle.rows.specs.Records.{noRecord}
 use Rattle.walk.specs.DueLaws.{getD-inside}
 use lib.ListN.{List·getD-eq-default}
 use mathlib.Core.Path.{sym, _∙_}
-use native.Mathlib.Omega.{arith}
 use borrow.Author.Needs.{needs}
 use Rattle.walk.proofs.record_at.Statement.{statement}
 use Rattle.walk.proofs.record_at.Tie as tie
-use Rattle.walk.proofs.record_at.Reads as reads
-use Rattle.walk.proofs.record_at.Lts as lts
-use Rattle.laws.proofs.index.Reads as index-reads
 
 -- src/lib.rt:130:22
 shared-slice-read-index : tie.Need-shared-slice-read-index

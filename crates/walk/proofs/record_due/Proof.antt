@@ -7,9 +7,6 @@ use Prim.{tt}
 use borrow.Author.Needs.{needs}
 use Rattle.walk.proofs.record_due.Statement.{statement}
 use Rattle.walk.proofs.record_due.Tie as tie
-use Rattle.walk.proofs.record_due.Reads as reads
-use Rattle.walk.proofs.record_due.Lts as lts
-use Rattle.walk.proofs.record_at.Reads as record-at-reads
 
 -- src/lib.rt:141:26
 slice-aggregate-record-at : tie.Need-slice-aggregate-record-at

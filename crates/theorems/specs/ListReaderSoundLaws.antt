@@ -22,7 +22,7 @@ use Rattle.walk.specs.Due.{opening, mayClose, mayContinue, rowDue, after, after
 use Rattle.walk.specs.declared.Due.{Due}
 use Rattle.theory.specs.Sets.{Set, set}
 use Rattle.theory.specs.Proper.{BlankLines, PlainLines, SetLines, Lines}
-use Rattle.theorems.specs.Reader.{Reading, outside, number, plain, typed, bad, closed, opened, typedOn, readLine, readLines}
+use Rattle.theorems.specs.ListReader.{Reading, outside, number, plain, typed, bad, closed, opened, typedOn, readLine, readLines}
 use Rattle.ends.specs.Short.{Short}
 use Rattle.ends.specs.LineTestsLaws.{blankLine-sound, inside-sound}
 use Rattle.theorems.specs.RowTestsLaws.{rowDue-sound}

@@ -1,6 +1,6 @@
 -- Every writing of a list of sets is read, as that list.
 use mathlib.Core.Path.{_≡_, refl, ap, _∙_}
-use mathlib.Core.Bool.{true, false}
+use mathlib.Core.Bool.{true}
 use mathlib.Core.List.{List, [], _∷_, _++_, append-assoc, append-nil}
 use Prim.Native.Nat.{ℕ, _+_, _≤_, _<_}
 use native.Mathlib.Omega.{arith}
@@ -19,7 +19,7 @@ use Rattle.walk.specs.Due.{mayClose, mayContinue, rowDue, afterItems}
 use Rattle.walk.specs.declared.Due.{Due}
 use Rattle.theory.specs.Sets.{Set}
 use Rattle.theory.specs.Proper.{Inside, BlankLines, PlainLines, SetLines, Lines}
-use Rattle.theorems.specs.Reader.{Reading, outside, number, plain, typed, closed, opened, readLine, readLines}
+use Rattle.theorems.specs.ListReader.{Reading, outside, number, plain, typed, closed, opened, readLine, readLines}
 use Rattle.ends.specs.LineTestsLaws.{blankLine-complete, inside-complete}
 use Rattle.theorems.specs.TypedRun.{TypedRun}
 use Rattle.theorems.specs.TypedRunLaws.{typedLines-run}
