@@ -16,14 +16,14 @@ use Rattle.exact.specs.Exact.{exactOf, magnitudeOf, tenOf}
 use Rattle.exact.specs.Bits.{bitsOf}
 use Rattle.decimal.specs.Decimal as D
 use Rattle.line.specs.Line.{isAllowed, withoutReturn, columns, firstBad, lineFault, filled}
-use Rattle.kind.specs.Kind.{thenBlank, isDelimiter, datasetNumber}
+use Rattle.delimiter.specs.Kind.{thenBlank, isDelimiter, datasetNumber}
 use Rattle.codes.specs.Rule.{keeps}
 use Rattle.layout.specs.Columns as C
 use Rattle.layout.specs.Layout.{layouts, layoutOf, fieldsOf, caseFor, numbersOf}
 use Rattle.field.specs.Field.{mayBlank, fieldNumber}
-use Rattle.rows.specs.Row.{firstNotAbove, breach}
-use Rattle.rows.specs.Records.{records, recordOf, dataRow}
-use Rattle.rows.specs.TypedSets.{kindOf, isTyped, typedSets, sequence, following}
+use Rattle.record_table.specs.Row.{firstNotAbove, breach}
+use Rattle.record_table.specs.Records.{records, recordOf, dataRow}
+use Rattle.record_table.specs.TypedSets.{kindOf, isTyped, typedSets, sequence, following}
 use Rattle.record.specs.Check.{fieldsFault, firstNonBlank, stray, itemsOf, conditionFault, fieldsRefusal, rowRefusal}
 use Rattle.record.specs.Declared.{numberIn, caseIn, countIn, naturalAt, caseBy, countBy, storedBy}
 use Rattle.walk.specs.Due.{recordDue, listRow, mayClose, mayContinue, rowDue, settled, afterRecord, afterList, afterItems}

@@ -106,13 +106,13 @@ fn show_line(line: &[u8], ended: bool) {
 fn show_kind(columns: &[u8]) {
     let mut line = [32u8; 80];
     line::fill_line(&mut line, columns);
-    if kind::is_delimiter(&line) {
+    if delimiter::is_delimiter(&line) {
         return put(b"delimiter");
     }
-    if kind::is_blank_line(&line) {
+    if delimiter::is_blank_line(&line) {
         return put(b"blank");
     }
-    let number = kind::dataset_number(&line);
+    let number = delimiter::dataset_number(&line);
     if number == 0 {
         return put(b"none");
     }
@@ -122,7 +122,7 @@ fn show_kind(columns: &[u8]) {
 
 // c: the first refusal of a line by a record.
 fn show_record(row: usize, columns: &[u8]) {
-    if rows::NO_RECORD <= row {
+    if record_table::NO_RECORD <= row {
         return put(b"?");
     }
     let mut line = [32u8; 80];

@@ -10,7 +10,7 @@ use Rattle.laws.specs.Choice.{pick}
 use Rattle.laws.specs.Cut as Cut
 use Rattle.laws.specs.Cut.{cut}
 use Rattle.line.specs.Line.{columns, lineFault}
-use Rattle.rows.specs.TypedSets.{headerLines, kind58}
+use Rattle.record_table.specs.TypedSets.{headerLines, kind58}
 use Rattle.walk.specs.declared.Place.{Place}
 use Rattle.walk.specs.declared.Place.the-variants.{Outside, Number, Plain, Typed}
 use Rattle.walk.specs.declared.State.{State}
@@ -46,7 +46,7 @@ abbrev pub headerStep : Run → List ℕ → Run
 headerStep (going s n) l = pick (ltb n headerLines) (onOutcome n (lineStep s l)) (refused (reply (pastNumber (lineFault true (columns true l) .number)) (n + 1)))
 headerStep (refused r) l = refused r
 
--- what eleven lines leave due: the numbers of the data lines. No other place is left (`writing`: `refused-place`)
+-- what eleven lines leave due: the numbers of the data lines. No other place is left (`writer_laws`: `refused-place`)
 abbrev pub leaves : Place → Header
 leaves Outside = answer 7 0 0 0
 leaves Number = answer 7 0 0 0

@@ -17,7 +17,7 @@ use Rattle.laws.specs.CutLaws.{cut-append, cut-open, over-append, judge-at}
 use Rattle.line.specs.Line.{columns, lineFault}
 use Rattle.line.specs.LineLaws.{columns-take}
 use Rattle.line.specs.declared.Refusal.{Refusal}
-use Rattle.rows.specs.TypedSets.{headerLines}
+use Rattle.record_table.specs.TypedSets.{headerLines}
 use Rattle.walk.specs.declared.Place.{Place}
 use Rattle.walk.specs.declared.State.{State}
 use Rattle.walk.specs.declared.Outcome.{Outcome}

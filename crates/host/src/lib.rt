@@ -8,7 +8,7 @@ ghost use Rattle.host.specs.Answer.{twosComplement, numberBytes, numberA
 ghost use Rattle.laws.specs.Choice.{pick};
 ghost use Rattle.text.specs.Parts.{signed};
 ghost use Rattle.judge.specs.Judge.{judged};
-ghost use Rattle.lent.specs.Lent.{startReply, startNumbers, startLine, Burst, endOf, endNumbers};
+ghost use Rattle.stream_c.specs.Lent.{startReply, startNumbers, startLine, Burst, endOf, endNumbers};
 ghost use Rattle.lister.specs.Lister.{listReply, listRows};
 ghost use Rattle.rewriter.specs.Rewriter.{rewriteReply, rewriteOut};
 ghost use Rattle.values.specs.Values.{allReply, allPlaces};
@@ -222,7 +222,7 @@ pub extern "C" fn uff_write(
 pub extern "C" fn uff_start(numbers: &mut [u64], line: &mut [u8]) -> u64
     ensures { λ r. ⌜ (r ≡ word (startReply (now (numbers .entry)) (now (line .entry)))) × (now (numbers .exit) ≡ startNumbers (now (numbers .entry)) (now (line .entry))) × (now (line .exit) ≡ startLine (now (numbers .entry)) (now (line .entry))) ⌝ }
 {
-    let found = lent::start(numbers, line);
+    let found = stream_c::start(numbers, line);
     pack(found)
 }
 
@@ -231,7 +231,7 @@ pub extern "C" fn uff_start(numbers: &mut [u64], line: &mut [u8]) -> u64
 pub extern "C" fn uff_burst(numbers: &mut [u64], line: &mut [u8], bytes: &[u8]) -> u64
     ensures { λ r. ⌜ Burst word (now (numbers .entry)) (now (line .entry)) (now (bytes .entry)) (now (numbers .exit)) (now (line .exit)) r ⌝ }
 {
-    let found = lent::burst(numbers, line, bytes);
+    let found = stream_c::burst(numbers, line, bytes);
     pack(found)
 }
 
@@ -240,6 +240,6 @@ pub extern "C" fn uff_burst(numbers: &mut [u64], line: &mut [u8], bytes: &[u8]) 
 pub extern "C" fn uff_end(numbers: &mut [u64], line: &[u8]) -> u64
     ensures { λ r. ⌜ (r ≡ word (endOf (now (numbers .entry)) (now (line .entry)))) × (now (numbers .exit) ≡ endNumbers (now (numbers .entry)) (now (line .entry))) ⌝ }
 {
-    let found = lent::end(numbers, line);
+    let found = stream_c::end(numbers, line);
     pack(found)
 }

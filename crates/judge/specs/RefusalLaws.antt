@@ -11,8 +11,8 @@ use Rattle.laws.specs.Choice.{pick}
 use Rattle.line.specs.declared.Refusal.{Refusal}
 use Rattle.line.specs.Line.{refusal, passed, columns, firstBad, lineFault, filled}
 use Rattle.text.specs.Blank.{allBlank}
-use Rattle.kind.specs.Kind.{isDelimiter, datasetNumber}
-use Rattle.rows.specs.Row.{Row}
+use Rattle.delimiter.specs.Kind.{isDelimiter, datasetNumber}
+use Rattle.record_table.specs.Row.{Row}
 use Rattle.record.specs.Check.{rowRefusal}
 use Rattle.record.specs.NumberLaws.{row-number}
 use Rattle.walk.specs.declared.Place.{Place}

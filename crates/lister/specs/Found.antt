@@ -5,7 +5,7 @@ use lib.Dec.{eqb}
 use lib.ListN.{drop}
 use Rattle.laws.specs.Choice.{pick}
 use Rattle.laws.specs.Cut.{cut}
-use Rattle.rows.specs.TypedSets.{headerLines, lineSeven}
+use Rattle.record_table.specs.TypedSets.{headerLines, lineSeven}
 use Rattle.record.specs.Declared.{countIn}
 use Rattle.parts.specs.declared.Extent.{Extent}
 use Rattle.parts.specs.Scan.{skipTo, lineFrom}

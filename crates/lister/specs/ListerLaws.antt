@@ -10,7 +10,7 @@ use lib.ListN.{length, take, drop, set, length-append, length-drop, take-append-
 use lib.Seq.{take-at, drop-at, drop-drop, length-take-le}
 use borrow.Rule.Slice.PartMut.{putMid}
 use Rattle.laws.specs.Cut.{cut}
-use Rattle.rows.specs.TypedSets.{headerLines, lineSeven}
+use Rattle.record_table.specs.TypedSets.{headerLines, lineSeven}
 use borrow.Author.Tests.{lt-ltb, le-ltb}
 use Rattle.judge.specs.declared.Reply.{Reply}
 use Rattle.judge.specs.Judge.{judged, reply}

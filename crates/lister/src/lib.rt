@@ -43,7 +43,7 @@ fn data_start(file: &[u8], e: Extent) -> usize
     ensures { λ r. ⌜ (r ≡ dataAt (now (file .entry)) e) × (r ≤ length (now (file .entry))) ⌝ }
 {
     if e.number == 58 {
-        return parts::line_start(file, e.body, e.closing, rows::HEADER_LINES);
+        return parts::line_start(file, e.body, e.closing, record_table::HEADER_LINES);
     }
     0
 }

@@ -4,7 +4,7 @@ use Prim.Native.Nat.{ℕ, _+_, _*_}
 use Rattle.laws.specs.Choice.{pick}
 use Rattle.layout.specs.Columns as Columns
 use Rattle.layout.specs.Layout.{layoutOf, fieldsOf, numbersOf}
-use Rattle.rows.specs.TypedSets.{headerLines, lineSeven}
+use Rattle.record_table.specs.TypedSets.{headerLines, lineSeven}
 use Rattle.record.specs.Declared.{caseIn, countIn}
 use Rattle.parts.specs.Parts.{Part, isFunction, lineStart, lineOf}
 

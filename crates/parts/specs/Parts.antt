@@ -9,7 +9,7 @@ use lib.ListN.{length, getD, take, drop}
 use Rattle.laws.specs.Choice.{pick}
 use Rattle.laws.specs.Cut.{cut}
 use Rattle.line.specs.Line.{columns, filled}
-use Rattle.kind.specs.Kind.{isDelimiter, datasetNumber}
+use Rattle.delimiter.specs.Kind.{isDelimiter, datasetNumber}
 
 -- the 80 columns of a line
 abbrev pub columnsIn : List ℕ → List ℕ

@@ -8,7 +8,7 @@ use lib.Dec.{leb, eqb}
 use lib.ListN.{length, take, drop}
 use Rattle.laws.specs.Cut.{cut, lineLen}
 use Rattle.laws.specs.Choice.{pick}
-use Rattle.kind.specs.Kind.{datasetNumber}
+use Rattle.delimiter.specs.Kind.{datasetNumber}
 use Rattle.parts.specs.declared.Seen.{Seen}
 use Rattle.parts.specs.declared.Extent.{Extent}
 use Rattle.parts.specs.Parts.{columnsIn, closes, Part, datasetOf, lineStart, closingStart, pastOf, throughOf, bytesIn, PartState, outside, opened, inside}

@@ -11,7 +11,7 @@ use lib.ListN.{length, take, drop, length-append}
 use Rattle.laws.specs.Cut.{cut, lineLen}
 use Rattle.laws.specs.Choice.{pick}
 use Rattle.laws.specs.ChoiceLaws.{false-not-true}
-use Rattle.kind.specs.Kind.{datasetNumber}
+use Rattle.delimiter.specs.Kind.{datasetNumber}
 use Rattle.parts.specs.declared.Seen.{Seen}
 use Rattle.parts.specs.declared.Extent.{Extent}
 use Rattle.parts.specs.Parts.{columnsIn, closes, bytesIn, Part, part, PartState, outside, opened, inside, partsFrom, datasetOf, lineStart, closingStart, pastOf, throughOf}

@@ -3,11 +3,11 @@ ghost use mathlib.Core.Path.{_≡_};
 ghost use Prim.Native.Nat.{_+_, _≤_, _<_};
 ghost use mathlib.Core.Bool.{_&&_};
 ghost use lib.Dec.{eqb};
-ghost use Rattle.kind.specs.Kind.{datasetNumber};
+ghost use Rattle.delimiter.specs.Kind.{datasetNumber};
 ghost use lib.ListN.{length, drop};
 ghost use Rattle.laws.specs.Cut.{cut};
 ghost use Rattle.parts.specs.Parts.{columnsIn, closes, outside, partsFrom};
-ghost use Rattle.rows.specs.TypedSets.{lineSeven};
+ghost use Rattle.record_table.specs.TypedSets.{lineSeven};
 ghost use Rattle.record.specs.Declared.{caseIn, countIn};
 ghost use Rattle.parts.specs.Scan.{lineFrom, firstOf, seenStep, skipTo, columnsAt};
 
@@ -60,7 +60,7 @@ pub fn is_delimiter_line(line: &[u8]) -> bool
 {
     let mut row = [32u8; 80];
     put_columns(&mut row, line);
-    kind::is_delimiter(&row)
+    delimiter::is_delimiter(&row)
 }
 
 // The number of a number line; 0 where it is none.
@@ -69,7 +69,7 @@ pub fn line_number(line: &[u8]) -> u32
 {
     let mut row = [32u8; 80];
     put_columns(&mut row, line);
-    kind::dataset_number(&row)
+    delimiter::dataset_number(&row)
 }
 
 // One line more that closes no set; it begins at byte `at`, after so many lines.
@@ -197,7 +197,7 @@ pub fn count_in(file: &[u8], from: usize, closing: usize) -> u32
     ensures { λ r. ⌜ r ≡ countIn (lineFrom closing from (now (file .entry)) lineSeven) ⌝ }
 {
     let mut row = [32u8; 80];
-    put_line_at(&mut row, file, from, closing, rows::LINE_SEVEN);
+    put_line_at(&mut row, file, from, closing, record_table::LINE_SEVEN);
     walk::count_in(&row)
 }
 
@@ -207,6 +207,6 @@ pub fn case_in(file: &[u8], from: usize, closing: usize) -> usize
     ensures { λ r. ⌜ r ≡ caseIn (lineFrom closing from (now (file .entry)) lineSeven) ⌝ }
 {
     let mut row = [32u8; 80];
-    put_line_at(&mut row, file, from, closing, rows::LINE_SEVEN);
+    put_line_at(&mut row, file, from, closing, record_table::LINE_SEVEN);
     walk::case_in(&row)
 }

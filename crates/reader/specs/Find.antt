@@ -10,7 +10,7 @@ use Rattle.laws.specs.Cut.{cut}
 use Rattle.real.specs.declared.Real.{Real}
 use Rattle.layout.specs.Columns.{lineOf, fieldOf, fieldStart, fieldPast}
 use Rattle.layout.specs.Layout.{layoutOf, fieldsOf, numbersOf}
-use Rattle.rows.specs.TypedSets.{headerLines}
+use Rattle.record_table.specs.TypedSets.{headerLines}
 use Rattle.parts.specs.Parts.{Part, isFunction, lineStart, closingStart}
 use Rattle.parts.specs.Scan.{skipTo}
 use Rattle.parts.specs.Function.{partCase, countOf}

@@ -7,7 +7,7 @@ use native.Mathlib.Omega.{arith}
 use borrow.Author.Tests.{eq-eqb, ne-eqb, lt-ltb, le-ltb}
 use lib.ListN.{length, drop}
 use lib.Seq.{drop-drop, drop-nil}
-use Rattle.rows.specs.TypedSets.{lineSeven}
+use Rattle.record_table.specs.TypedSets.{lineSeven}
 use Rattle.record.specs.Declared.{caseIn, countIn}
 use Rattle.parts.specs.declared.Extent.{Extent}
 use Rattle.parts.specs.Parts.{Part, partsOf, datasetOf, isFunction, lineOf, closingStart}

@@ -7,7 +7,7 @@ use lib.ListN.{getD, drop}
 use Rattle.laws.specs.Cut.{cut}
 use Rattle.layout.specs.Columns.{lineOf, fieldOf, fieldStart, fieldPast}
 use Rattle.layout.specs.Layout.{layoutOf, fieldsOf}
-use Rattle.rows.specs.TypedSets.{headerLines}
+use Rattle.record_table.specs.TypedSets.{headerLines}
 use Rattle.parts.specs.Parts.{Part, lineStart, closingStart}
 use Rattle.parts.specs.Scan.{skipTo}
 use Rattle.parts.specs.Set.{Standing}

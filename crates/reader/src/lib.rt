@@ -132,7 +132,7 @@ fn span_of(file: &[u8], d: Data, j: usize) -> Span
     ensures { λ r. ⌜ r ≡ spanOf (now (file .entry)) d j ⌝ }
 {
     let n = fields_of(d.case);
-    let line = line_start(file, d.body, d.closing, rows::HEADER_LINES + j / n);
+    let line = line_start(file, d.body, d.closing, record_table::HEADER_LINES + j / n);
     let field = j % n;
     let first = line + field_start(d.case, field);
     Span {

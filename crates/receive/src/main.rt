@@ -52,7 +52,7 @@ fn receive() -> Stream {
         if n == 0 {
             return record;
         }
-        let after = standing::after_burst(record, &burst[..n]);
+        let after = stream_mut::after_burst(record, &burst[..n]);
         let answer = after.answer;
         record = after.stream;
         show_answer(answer);
@@ -66,7 +66,7 @@ fn receive() -> Stream {
 
 // The end: the whole file's answer.
 fn main() {
-    let closed = standing::after_end(receive());
+    let closed = stream_mut::after_end(receive());
     let reply = closed.reply;
     if 0 < reply.number {
         return show_refusal(reply.number, reply.place);

@@ -11,7 +11,7 @@ use Rattle.codes.specs.Form.{Form, skip, text, identification, real, integer}
 use Rattle.layout.specs.Columns.{fieldStart}
 use Rattle.field.specs.Item.{Item}
 use Rattle.field.specs.Field.{columnsOf, mayBlank, fieldNumber, withItem}
-use Rattle.rows.specs.Row.{Field, Row, breach}
+use Rattle.record_table.specs.Row.{Field, Row, breach}
 
 -- a refusal of this number, or what follows where there is none
 abbrev pub orElse : ℕ → ℕ → Refusal → Refusal

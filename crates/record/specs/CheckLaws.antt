@@ -20,8 +20,8 @@ use Rattle.codes.specs.Form.{Form, skip, text, identification, real, integer, f
 use Rattle.codes.specs.FormLaws.{formOf-past}
 use Rattle.layout.specs.Columns.{total}
 use Rattle.field.specs.Field.{columnsOf, mayBlank, fieldNumber}
-use Rattle.rows.specs.Row.{Field, Row}
-use Rattle.rows.specs.Records.{fieldList}
+use Rattle.record_table.specs.Row.{Field, Row}
+use Rattle.record_table.specs.Records.{fieldList}
 use Rattle.record.specs.Check.{orElse, orColumn, otherwise, strayIn, strayFault, fieldsFault, firstNonBlank, stray, fieldsRefusal, conditionFault, rowRefusal}
 
 -- a number above 0 is the refusal; 0 is none

@@ -20,9 +20,9 @@ use Rattle.layout.specs.LayoutLaws.{layoutOf-past, cells-past, widths-six}
 use Rattle.layout.specs.Layout.{layouts, layoutOf, fieldsOf, valuesOf, cellOf}
 use Rattle.codes.specs.Form.{forms, formOf}
 use Rattle.field.specs.Item.{Item}
-use Rattle.rows.specs.Row.{Field, Condition, none, zeroIfUneven, aboveZero, firstNotAbove, breach}
-use Rattle.rows.specs.TabledLaws.{recordOf-past}
-use Rattle.rows.specs.Records.{records, recordOf, dataRow, fieldList, noRecord}
+use Rattle.record_table.specs.Row.{Field, Condition, none, zeroIfUneven, aboveZero, firstNotAbove, breach}
+use Rattle.record_table.specs.TabledLaws.{recordOf-past}
+use Rattle.record_table.specs.Records.{records, recordOf, dataRow, fieldList, noRecord}
 use Rattle.record.specs.Check.{breachFault, itemsOf, conditionFault}
 use Rattle.record.specs.Condition.{zeroIntegerIn, zeroRealIn, aboveIn}
 

@@ -17,7 +17,7 @@ use Rattle.line.specs.declared.Refusal.{Refusal}
 use Rattle.codes.specs.Rule.{Rule, keeps}
 use Rattle.codes.specs.Form.{Form, skip, text, identification, real, integer}
 use Rattle.field.specs.Field.{mayBlank, integerNumber, realNumber, fieldNumber}
-use Rattle.rows.specs.Row.{Field, Row, breach}
+use Rattle.record_table.specs.Row.{Field, Row, breach}
 use Rattle.record.specs.Check.{orElse, fieldsFault, stray, itemsOf, breachFault, conditionFault, strayFault, fieldsRefusal, rowRefusal}
 
 module _ (P : ℕ → Type 0) (none : P 0) (some : (n : ℕ) → 8 < n → n ≤ 14 → P n) where

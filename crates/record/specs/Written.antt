@@ -15,7 +15,7 @@ use Rattle.real.specs.Spelling.{RealSpelling}
 use Rattle.codes.specs.Rule.{Rule, keeps}
 use Rattle.codes.specs.Form.{Form, Optional, skip, text, identification, real, integer, within}
 use Rattle.field.specs.Item.{Item}
-use Rattle.rows.specs.Row.{Field, Row, Condition, none, zeroIfUneven, aboveZero}
+use Rattle.record_table.specs.Row.{Field, Row, Condition, none, zeroIfUneven, aboveZero}
 use Rattle.field.specs.Field.{columnsOf}
 
 module _ (line : List ℕ) where

@@ -5,16 +5,16 @@ ghost use lib.ListN.{length, take, drop};
 ghost use Rattle.codes.specs.Form.{formOf};
 ghost use Rattle.layout.specs.Columns.{total};
 ghost use Rattle.field.specs.Field.{mayBlank, fieldNumber};
-ghost use Rattle.rows.specs.Records.{recordOf, dataRow, fieldList};
+ghost use Rattle.record_table.specs.Records.{recordOf, dataRow, fieldList};
 ghost use Rattle.record.specs.Check.{fieldsFault, firstNonBlank, strayIn, stray, fieldsRefusal, conditionFault, rowRefusal};
 use codes::LAST_FORM;
 use codes::REAL;
 use codes::SKIP;
 use laws::index;
 use line::Refusal;
-use rows::DATA_FORM;
-use rows::FACTORS;
-use rows::row_numbers;
+use record_table::DATA_FORM;
+use record_table::FACTORS;
+use record_table::row_numbers;
 
 // Nothing is wrong.
 const PASSED: Refusal = Refusal {

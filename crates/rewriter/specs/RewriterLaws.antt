@@ -14,7 +14,7 @@ use Rattle.text.specs.Text.{TextIn, text-in, trimmed}
 use Rattle.text.specs.TextLaws.{trimmed-take}
 use Rattle.line.specs.Line.{Allowed, Allowed.none as no-byte, Allowed.more as byte, columns, withoutReturn, filled, lineFault, passed}
 use Rattle.line.specs.LineLaws.{filled-short, lineFault-sound}
-use Rattle.kind.specs.Kind.{isDelimiter, thenBlank}
+use Rattle.delimiter.specs.Kind.{isDelimiter, thenBlank}
 use Rattle.parts.specs.Parts.{closes, part, PartState, outside, opened, inside, partsFrom, partsOf}
 use Rattle.output.specs.Output.{ended}
 use Rattle.rewriter.specs.Rewriter.{keptOf, linesText}

@@ -7,7 +7,7 @@ use lib.ListN.{length}
 use Rattle.laws.specs.Cut.{cut}
 use Rattle.line.specs.Line.{columns}
 use Rattle.theory.specs.Sets.{Set}
-use Rattle.ends.specs.Ends.{AllPass}
+use Rattle.line_laws.specs.Ends.{AllPass}
 use Rattle.theorems.specs.ListReader.{outside, readLines}
 
 -- a file of n lines, not too long, whose lines end and pass, and are read as at least one set

@@ -17,7 +17,7 @@ use Rattle.line.specs.LineLaws.{lineFault-sound}
 use Rattle.walk.specs.Step.{start}
 use Rattle.judge.specs.declared.Reply.{Reply}
 use Rattle.judge.specs.Judge.{reply, Run, going, runStep, runEnd, judged}
-use Rattle.ends.specs.Ends.{AllPass}
+use Rattle.line_laws.specs.Ends.{AllPass}
 use Rattle.theorems.specs.ListReader.{Reading, outside, number, plain, typed, bad}
 use Rattle.theorems.specs.Image.{Standing, image}
 use Rattle.theorems.specs.Ran.{readOver, Ran}

@@ -16,8 +16,8 @@ use Rattle.parts.specs.Parts.{Part}
 use Rattle.parts.specs.Function.{firstByte, pastByte}
 use Rattle.reader.specs.Reader.{Said, said, shown, reads, whole, valueWith, storedNumber}
 use Rattle.theory.specs.Sets.{Set}
-use Rattle.places.specs.Declared.{setCase}
-use Rattle.places.specs.Stored.{storedCount, storedItem}
+use Rattle.parts_laws.specs.Declared.{setCase}
+use Rattle.parts_laws.specs.Stored.{storedCount, storedItem}
 
 -- an item that is a real, as a number; no stored number is any other item
 abbrev pub realOfItem : Item → Real

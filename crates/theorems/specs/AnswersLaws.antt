@@ -25,14 +25,14 @@ use Rattle.parts.specs.Set.{Somewhere}
 use Rattle.reader.specs.Reader.{said, refused, readIn, realIn, shownOf, numberFrom, setsFrom, storedNumber, whole, valueKind, valueWith, valuesIn, valueFrom, valueOf}
 use Rattle.reader.specs.ReaderLaws.{reads-same}
 use Rattle.theory.specs.Sets.{Set}
-use Rattle.places.specs.Holds.{Holds}
-use Rattle.places.specs.Declared.{declared, setCase}
-use Rattle.places.specs.DeclaredLaws.{declared-held, case-held}
-use Rattle.places.specs.Stored.{storedCount, storedItem}
-use Rattle.places.specs.CaseLaws.{case-eight, declared-some}
-use Rattle.places.specs.Field.{Spelled}
-use Rattle.places.specs.ShownLaws.{stored-held, stored-shown}
-use Rattle.places.specs.OrderLaws.{columns-inside}
+use Rattle.parts_laws.specs.Holds.{Holds}
+use Rattle.parts_laws.specs.Declared.{declared, setCase}
+use Rattle.parts_laws.specs.DeclaredLaws.{declared-held, case-held}
+use Rattle.parts_laws.specs.Stored.{storedCount, storedItem}
+use Rattle.parts_laws.specs.CaseLaws.{case-eight, declared-some}
+use Rattle.parts_laws.specs.Field.{Spelled}
+use Rattle.parts_laws.specs.ShownLaws.{stored-held, stored-shown}
+use Rattle.parts_laws.specs.OrderLaws.{columns-inside}
 use Rattle.values.specs.Values.{allFrom, allValues}
 use Rattle.values.specs.Each.{Each}
 use Rattle.values.specs.EachLaws.{all-each, all-refused}

@@ -8,8 +8,8 @@ use Rattle.layout.specs.Layout.{numbersOf}
 use Rattle.theory.specs.Sets.{Set}
 use Rattle.parts.specs.Parts.{Part, partsOf, closingStart}
 use Rattle.parts.specs.Function.{dataStart, firstByte, pastByte}
-use Rattle.places.specs.Declared.{declared, setCase}
-use Rattle.places.specs.Stored.{storedCount}
+use Rattle.parts_laws.specs.Declared.{declared, setCase}
+use Rattle.parts_laws.specs.Stored.{storedCount}
 
 -- byte x lies in the own columns of stored number j
 pub record Within (p : Part) (j x : ℕ) : Type 0 where

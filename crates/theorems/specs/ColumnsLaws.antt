@@ -9,15 +9,15 @@ use Rattle.laws.specs.ChoiceLaws.{below-or-not}
 use Rattle.layout.specs.Columns.{lineOf, fieldOf}
 use Rattle.layout.specs.ColumnsLaws.{fieldOf-inside, stored-at}
 use Rattle.layout.specs.Layout.{numbersOf}
-use Rattle.rows.specs.TypedSets.{headerLines}
+use Rattle.record_table.specs.TypedSets.{headerLines}
 use Rattle.theory.specs.Sets.{Set}
 use Rattle.parts.specs.Parts.{Part, lineStart}
 use Rattle.parts.specs.Function.{dataStart, firstByte, pastByte}
-use Rattle.places.specs.Holds.{Holds}
-use Rattle.places.specs.DeclaredLaws.{number-held}
-use Rattle.places.specs.Declared.{declared, setCase}
-use Rattle.places.specs.Stored.{storedCount}
-use Rattle.places.specs.Whole.{Owned}
+use Rattle.parts_laws.specs.Holds.{Holds}
+use Rattle.parts_laws.specs.DeclaredLaws.{number-held}
+use Rattle.parts_laws.specs.Declared.{declared, setCase}
+use Rattle.parts_laws.specs.Stored.{storedCount}
+use Rattle.parts_laws.specs.Whole.{Owned}
 use Rattle.theorems.specs.Columns.{Within, OfValue}
 
 -- a byte's number

@@ -11,9 +11,9 @@ use Rattle.laws.specs.Choice.{pick}
 use Rattle.text.specs.Blank.{allBlank}
 use Rattle.line.specs.Line.{filled, refusal}
 use Rattle.line.specs.declared.Refusal.{Refusal}
-use Rattle.kind.specs.Kind.{isDelimiter, datasetNumber}
+use Rattle.delimiter.specs.Kind.{isDelimiter, datasetNumber}
 use Rattle.field.specs.Item.{Item}
-use Rattle.rows.specs.TypedSets.{isTyped}
+use Rattle.record_table.specs.TypedSets.{isTyped}
 use Rattle.record.specs.Check.{rowRefusal}
 use Rattle.walk.specs.declared.Due.{Due}
 use Rattle.walk.specs.declared.Place.the-variants.{Outside, Plain, Typed}

@@ -5,8 +5,8 @@ use Prim.Native.Nat.{ℕ, _<_}
 use lib.IntN.{ℤ, pos, natAbs}
 use lib.ListN.{length, getD}
 use Rattle.laws.specs.Cut.{cut}
-use Rattle.rows.specs.Records.{recordOf, noRecord}
-use Rattle.rows.specs.TypedSets.{sequence, headerLines, kind58}
+use Rattle.record_table.specs.Records.{recordOf, noRecord}
+use Rattle.record_table.specs.TypedSets.{sequence, headerLines, kind58}
 use Rattle.record.specs.Written.{Written}
 use Rattle.parts.specs.Parts.{columnsIn}
 use Rattle.header.specs.Header.{headerOf}
@@ -14,14 +14,14 @@ use Rattle.real.specs.Real.{belowZero}
 use Rattle.decimal.specs.Decimal.{SameNumber}
 use Rattle.reader.specs.Reader.{said, shown, storedNumber}
 use Rattle.rewriter.specs.Rewriter.{rewrittenFile}
-use Rattle.rewriting.specs.Form.{InForm}
+use Rattle.rewriter_laws.specs.Form.{InForm}
 use Rattle.writer.specs.Writer.{writtenSet}
-use Rattle.writing.specs.DataLines.{lentFile}
-use Rattle.writing.specs.Back.{Back}
+use Rattle.writer_laws.specs.DataLines.{lentFile}
+use Rattle.writer_laws.specs.Back.{Back}
 use Rattle.theory.specs.Sets.{Set}
 use Rattle.theory.specs.Proper.{Proper}
-use Rattle.places.specs.Declared.{setCase}
-use Rattle.places.specs.Stored.{storedCount, storedItem}
+use Rattle.parts_laws.specs.Declared.{setCase}
+use Rattle.parts_laws.specs.Stored.{storedCount, storedItem}
 
 -- the text is a proper writing of one 58, in rewritten form. The items of its first eleven lines are written in the header's lines, which are eleven, each
 -- with its LF; the file with those lines as they are lent is a proper writing of the same set, and the text is what that file is rewritten to. The

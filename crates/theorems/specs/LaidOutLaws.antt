@@ -8,20 +8,20 @@ use lib.ListN.{length}
 use Rattle.laws.specs.Cut.{cut}
 use Rattle.header.specs.Header.{headerOf}
 use Rattle.parts.specs.Parts.{Part, partsOf}
-use Rattle.rewriting.specs.RewritingLaws.{rewritten-proper, rewritten-form, rewritten-same}
-use Rattle.rewriting.specs.Form.{InForm}
+use Rattle.rewriter_laws.specs.RewritingLaws.{rewritten-proper, rewritten-form, rewritten-same}
+use Rattle.rewriter_laws.specs.Form.{InForm}
 use Rattle.writer.specs.Writer.{writtenSet}
-use Rattle.writing.specs.HeaderRun.{Passed}
-use Rattle.writing.specs.DataLines.{lentFile}
-use Rattle.writing.specs.DataRun.{AllFit}
-use Rattle.writing.specs.LentLaws.{lentPart, lent-parts, lent-rewritten}
-use Rattle.writing.specs.BackLaws.{set-number, set-header, set-case, set-stored, stored-back}
+use Rattle.writer_laws.specs.HeaderRun.{Passed}
+use Rattle.writer_laws.specs.DataLines.{lentFile}
+use Rattle.writer_laws.specs.DataRun.{AllFit}
+use Rattle.writer_laws.specs.LentLaws.{lentPart, lent-parts, lent-rewritten}
+use Rattle.writer_laws.specs.BackLaws.{set-number, set-header, set-case, set-stored, stored-back}
 use Rattle.theory.specs.Sets.{Set}
 use Rattle.theory.specs.Proper.{Proper}
-use Rattle.places.specs.Holds.{AtPlaces, end, more, Holds}
+use Rattle.parts_laws.specs.Holds.{AtPlaces, end, more, Holds}
 use Rattle.field.specs.Item.{Item}
-use Rattle.places.specs.Stored.{storedItem}
-use Rattle.writing.specs.Back.{Back}
+use Rattle.parts_laws.specs.Stored.{storedItem}
+use Rattle.writer_laws.specs.Back.{Back}
 use Rattle.theorems.specs.Answers.{Answered}
 use Rattle.theorems.specs.LaidOut.{LaidOut, ReadAs}
 

@@ -7,9 +7,9 @@ use Rattle.laws.specs.Choice.{pick}
 use Rattle.text.specs.Blank.{allBlank}
 use Rattle.text.specs.Text.{trimmed}
 use Rattle.line.specs.Line.{filled}
-use Rattle.kind.specs.Kind.{isDelimiter, datasetNumber}
+use Rattle.delimiter.specs.Kind.{isDelimiter, datasetNumber}
 use Rattle.field.specs.Item.{Item, text}
-use Rattle.rows.specs.TypedSets.{kindOf, isTyped}
+use Rattle.record_table.specs.TypedSets.{kindOf, isTyped}
 use Rattle.record.specs.Check.{itemsOf, rowRefusal}
 use Rattle.walk.specs.declared.Due.{Due}
 use Rattle.walk.specs.Due.{opening, mayClose, mayContinue, rowDue, after}

@@ -10,17 +10,17 @@ use Rattle.text.specs.Text.{TextIn}
 use Rattle.text.specs.TextLaws.{trimmed-complete}
 use Rattle.line.specs.Line.{filled}
 use Rattle.line.specs.LineLaws.{filled-length}
-use Rattle.kind.specs.Kind.{Delimiter, NumberLine, number-line}
-use Rattle.kind.specs.KindLaws.{isDelimiter-complete, datasetNumber-complete, delimiter-not-blank}
+use Rattle.delimiter.specs.Kind.{Delimiter, NumberLine, number-line}
+use Rattle.delimiter.specs.KindLaws.{isDelimiter-complete, datasetNumber-complete, delimiter-not-blank}
 use Rattle.field.specs.Item.{Item, text}
-use Rattle.reading.specs.LineReadingLaws.{written-complete}
+use Rattle.record_laws.specs.LineReadingLaws.{written-complete}
 use Rattle.record.specs.Written.{Written}
 use Rattle.walk.specs.Due.{mayClose, mayContinue, rowDue, afterItems}
 use Rattle.walk.specs.declared.Due.{Due}
 use Rattle.theory.specs.Sets.{Set}
 use Rattle.theory.specs.Proper.{Inside, BlankLines, PlainLines, SetLines, Lines}
 use Rattle.theorems.specs.ListReader.{Reading, outside, number, plain, typed, closed, opened, readLine, readLines}
-use Rattle.ends.specs.LineTestsLaws.{blankLine-complete, inside-complete}
+use Rattle.line_laws.specs.LineTestsLaws.{blankLine-complete, inside-complete}
 use Rattle.theorems.specs.TypedRun.{TypedRun}
 use Rattle.theorems.specs.TypedRunLaws.{typedLines-run}
 

@@ -13,18 +13,18 @@ use Rattle.text.specs.Text.{trimmed}
 use Rattle.text.specs.TextLaws.{trimmed-sound}
 use Rattle.line.specs.Line.{filled}
 use Rattle.line.specs.LineLaws.{filled-length}
-use Rattle.kind.specs.Kind.{Delimiter, NumberLine, isDelimiter, datasetNumber}
-use Rattle.kind.specs.KindLaws.{isDelimiter-sound, datasetNumber-sound}
+use Rattle.delimiter.specs.Kind.{Delimiter, NumberLine, isDelimiter, datasetNumber}
+use Rattle.delimiter.specs.KindLaws.{isDelimiter-sound, datasetNumber-sound}
 use Rattle.field.specs.Item.{Item, text}
-use Rattle.rows.specs.TypedSets.{kindOf, isTyped}
+use Rattle.record_table.specs.TypedSets.{kindOf, isTyped}
 use Rattle.record.specs.Check.{itemsOf, rowRefusal}
 use Rattle.walk.specs.Due.{opening, mayClose, mayContinue, rowDue, after, afterItems}
 use Rattle.walk.specs.declared.Due.{Due}
 use Rattle.theory.specs.Sets.{Set, set}
 use Rattle.theory.specs.Proper.{BlankLines, PlainLines, SetLines, Lines}
 use Rattle.theorems.specs.ListReader.{Reading, outside, number, plain, typed, bad, closed, opened, typedOn, readLine, readLines}
-use Rattle.ends.specs.Short.{Short}
-use Rattle.ends.specs.LineTestsLaws.{blankLine-sound, inside-sound}
+use Rattle.line_laws.specs.Short.{Short}
+use Rattle.line_laws.specs.LineTestsLaws.{blankLine-sound, inside-sound}
 use Rattle.theorems.specs.RowTestsLaws.{rowDue-sound}
 use Rattle.theorems.specs.TypedRun.{TypedRun}
 use Rattle.theorems.specs.TypedRunLaws.{run-typedLines}

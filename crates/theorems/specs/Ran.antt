@@ -8,7 +8,7 @@ use Rattle.laws.specs.Cut as Cut
 use Rattle.line.specs.Line.{columns}
 use Rattle.judge.specs.declared.Reply.{Reply}
 use Rattle.judge.specs.Judge.{Run, going, refused, runStep}
-use Rattle.ends.specs.Ends.{AllPass}
+use Rattle.line_laws.specs.Ends.{AllPass}
 use Rattle.theorems.specs.ListReader.{Reading, bad, readLines}
 use Rattle.theorems.specs.Image.{Standing, image}
 

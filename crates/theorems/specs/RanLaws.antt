@@ -14,7 +14,7 @@ use Rattle.line.specs.declared.Refusal.{Refusal}
 use Rattle.walk.specs.declared.Outcome.{Outcome}
 use Rattle.judge.specs.declared.Reply.{Reply}
 use Rattle.judge.specs.Judge.{reply, lineStep, Run, going, refused, onOutcome}
-use Rattle.ends.specs.Ends.{AllPass}
+use Rattle.line_laws.specs.Ends.{AllPass}
 use Rattle.theorems.specs.ListReader.{Reading, readLine, readLines}
 use Rattle.theorems.specs.ListReaderSoundLaws.{bad-stays}
 use Rattle.theorems.specs.Image.{Standing, image, Agrees}

@@ -14,9 +14,9 @@ use Rattle.laws.specs.RangesLaws.{in-range}
 use Rattle.layout.specs.Columns.{total}
 use Rattle.layout.specs.Layout.{layoutOf}
 use Rattle.layout.specs.LayoutLaws.{total-inside}
-use Rattle.rows.specs.Row.{Field, Row, firstFields}
-use Rattle.rows.specs.Records.{E, records, recordOf, dataRow, noRecord}
-use Rattle.rows.specs.TabledLaws.{recordOf-past}
+use Rattle.record_table.specs.Row.{Field, Row, firstFields}
+use Rattle.record_table.specs.Records.{E, records, recordOf, dataRow, noRecord}
+use Rattle.record_table.specs.TabledLaws.{recordOf-past}
 use Rattle.record.specs.CheckLaws.{total-take}
 use Rattle.walk.specs.Due.{rowDue}
 use Rattle.walk.specs.DueLaws.{rowDue-is}

@@ -6,7 +6,7 @@ use Rattle.line.specs.Line.{filled}
 use Rattle.line.specs.LineLaws.{filled-length}
 use Rattle.record.specs.Check.{itemsOf, rowRefusal}
 use Rattle.record.specs.Written.{Written}
-use Rattle.reading.specs.LineReadingLaws.{written-sound}
+use Rattle.record_laws.specs.LineReadingLaws.{written-sound}
 use Rattle.walk.specs.Due.{rowDue}
 use Rattle.walk.specs.declared.Due.{Due}
 use Rattle.theorems.specs.RowFitsLaws.{rowDue-fits}

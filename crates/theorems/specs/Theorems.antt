@@ -26,31 +26,31 @@ use Rattle.reader.specs.Reader.{said, refused, setsFrom, shownOf, storedNumber,
 use Rattle.reader.specs.ReaderLaws.{start-most}
 use Rattle.values.specs.Values.{allValues, allReply, allPlaces}
 use Rattle.rewriter.specs.Rewriter.{rewrittenFile, rewriteReply, rewriteOut}
-use Rattle.rewriting.specs.Form.{InForm, KeepsSpellings}
-use Rattle.rewriting.specs.RewritingLaws.{rewritten-proper, rewritten-form, rewritten-keeps, rewritten-only, rewritten-same}
+use Rattle.rewriter_laws.specs.Form.{InForm, KeepsSpellings}
+use Rattle.rewriter_laws.specs.RewritingLaws.{rewritten-proper, rewritten-form, rewritten-keeps, rewritten-only, rewritten-same}
 use Rattle.header.specs.Header.{headerOf}
 use Rattle.writer.specs.Writer.{writtenSet, writeReply, writeOut}
-use Rattle.writing.specs.DataLines.{lentFile}
-use Rattle.writing.specs.HeaderRunLaws.{header-passed}
-use Rattle.writing.specs.LentLaws.{lent-accepted}
-use Rattle.writing.specs.Reply.{Coefficients, Answered}
-use Rattle.writing.specs.ReplyLaws.{answered, answered-fit}
-use Rattle.places.specs.Holds.{AtPlaces}
-use Rattle.places.specs.HoldsLaws.{lines-stand}
-use Rattle.places.specs.Text.{linesOf}
-use Rattle.places.specs.TextLaws.{part-bytes}
-use Rattle.places.specs.Declared.{declared, setCase, Found}
-use Rattle.places.specs.DeclaredLaws.{number-held, declared-held, all-held, as-many, stand-at}
-use Rattle.places.specs.Stored.{storedCount, storedItem}
-use Rattle.places.specs.OrderLaws.{columns-inside, columns-apart, first-column}
-use Rattle.places.specs.CaseLaws.{case-eight, declared-some, declared-most}
-use Rattle.places.specs.WholeLaws.{byte-owned}
+use Rattle.writer_laws.specs.DataLines.{lentFile}
+use Rattle.writer_laws.specs.HeaderRunLaws.{header-passed}
+use Rattle.writer_laws.specs.LentLaws.{lent-accepted}
+use Rattle.writer_laws.specs.Reply.{Coefficients, Answered}
+use Rattle.writer_laws.specs.ReplyLaws.{answered, answered-fit}
+use Rattle.parts_laws.specs.Holds.{AtPlaces}
+use Rattle.parts_laws.specs.HoldsLaws.{lines-stand}
+use Rattle.parts_laws.specs.Text.{linesOf}
+use Rattle.parts_laws.specs.TextLaws.{part-bytes}
+use Rattle.parts_laws.specs.Declared.{declared, setCase, Found}
+use Rattle.parts_laws.specs.DeclaredLaws.{number-held, declared-held, all-held, as-many, stand-at}
+use Rattle.parts_laws.specs.Stored.{storedCount, storedItem}
+use Rattle.parts_laws.specs.OrderLaws.{columns-inside, columns-apart, first-column}
+use Rattle.parts_laws.specs.CaseLaws.{case-eight, declared-some, declared-most}
+use Rattle.parts_laws.specs.WholeLaws.{byte-owned}
 use Rattle.theory.specs.Sets.{Set}
 use Rattle.theory.specs.Proper.{Ended, Proper}
-use Rattle.ends.specs.Ends.{CutInto, joined}
-use Rattle.ends.specs.EndsLaws.{ended-complete, ended-sound}
+use Rattle.line_laws.specs.Ends.{CutInto, joined}
+use Rattle.line_laws.specs.EndsLaws.{ended-complete, ended-sound}
 use Rattle.theorems.specs.ListReader.{outside, readLines}
-use Rattle.ends.specs.ShortLaws.{ended-short}
+use Rattle.line_laws.specs.ShortLaws.{ended-short}
 use Rattle.theorems.specs.ListReaderCompleteLaws.{reader-complete}
 use Rattle.theorems.specs.ListReaderSoundLaws.{reader-sound}
 use Rattle.theorems.specs.Answers as Answers
@@ -96,7 +96,7 @@ pub proper-unique : {a b : List Set} {bytes : List ℕ} → Proper a bytes → P
 proper-unique {a} {b} p q = let e : outside a ≡ outside b = sym (proper-read p) ∙ proper-read q in cc
 
 -- LISTER. The sets of the list stand in the file in order, each as a part of it: its opening line and first byte, its own lines between its
--- number line and its closing delimiter, and the byte past its closing line are the part's (crates/places/specs/Holds.antt).
+-- number line and its closing delimiter, and the byte past its closing line are the part's (crates/parts_laws/specs/Holds.antt).
 pub lister-places : {sets : List Set} {bytes : List ℕ} → Proper sets bytes → AtPlaces 0 0 sets (partsOf bytes) (cut bytes .lines)
 unfolding partsOf
 lister-places {sets} {bytes} p =
@@ -332,7 +332,7 @@ own-bytes-number {bytes = bytes} {bytes′ = bytes′} p p′ k k′ s s′ rest
     real-same (storedItem s j) (storedItem s′ j′) (ownBytes bytes (f .part) j) (ownBytes bytes′ (g .part) j′) (x .0) (y .0) (x .1 ∙ ap realOf (a ∙ h ∙ sym b) ∙ sym (y .1))
 
 -- REWRITER. What it gives is a proper writing of the same list, in rewritten form, with the file's spellings, and no other text is
--- (crates/rewriting/specs/Form.antt); it is no longer than the file.
+-- (crates/rewriter_laws/specs/Form.antt); it is no longer than the file.
 pub rewriter-keeps : {sets : List Set} {bytes : List ℕ} → Proper sets bytes
     → Proper sets (rewrittenFile bytes) × (InForm sets (rewrittenFile bytes) × KeepsSpellings bytes (rewrittenFile bytes))
 rewriter-keeps p = (rewritten-proper p, (rewritten-form p, rewritten-keeps p))

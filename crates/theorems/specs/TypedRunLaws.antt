@@ -5,14 +5,14 @@ use mathlib.Core.List.{List, [], _∷_}
 use Prim.Native.Nat.{ℕ, suc}
 use lib.ListN.{length}
 use Rattle.field.specs.Item.{Item}
-use Rattle.rows.specs.Row.{Row}
-use Rattle.rows.specs.TypedSets.{kindOf, isTyped}
+use Rattle.record_table.specs.Row.{Row}
+use Rattle.record_table.specs.TypedSets.{kindOf, isTyped}
 use Rattle.walk.specs.Due.{opening, rowDue}
 use Rattle.walk.specs.declared.Due.{Due}
 use Rattle.theory.specs.Due.{setRows}
 use Rattle.theory.specs.Proper.{TypedLines}
-use Rattle.sets.specs.Follows.{Follows}
-use Rattle.sets.specs.FollowsLaws.{follows-rows, rows-follow}
+use Rattle.walk_laws.specs.Follows.{Follows}
+use Rattle.walk_laws.specs.FollowsLaws.{follows-rows, rows-follow}
 use Rattle.theorems.specs.TypedRun.{TypedRun}
 
 -- lines written by the rows that the walk follows are a run of it

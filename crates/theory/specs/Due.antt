@@ -3,9 +3,9 @@ use mathlib.Core.List.{List, [], _∷_, _++_, map}
 use Prim.Native.Nat.{ℕ, zero, suc, _+_, _-_, _/_}
 use lib.ListN.{length, getD}
 use Rattle.field.specs.Item.{Item}
-use Rattle.rows.specs.Row.{Row, firstFields}
-use Rattle.rows.specs.TypedSets.{kindOf, sequence, Following, nothing, list, lists, dataLines, following}
-use Rattle.rows.specs.Records.{recordOf, dataRow}
+use Rattle.record_table.specs.Row.{Row, firstFields}
+use Rattle.record_table.specs.TypedSets.{kindOf, sequence, Following, nothing, list, lists, dataLines, following}
+use Rattle.record_table.specs.Records.{recordOf, dataRow}
 use Rattle.record.specs.Declared.{caseBy, storedBy}
 use Rattle.theory.specs.Sets.{numberAt}
 

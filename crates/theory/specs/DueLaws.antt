@@ -4,8 +4,8 @@ use mathlib.Core.List.{[], _∷_, map}
 use Prim.Native.Nat.{_*_}
 use lib.ListN.{length}
 use Rattle.layout.specs.Layout.{layouts, layoutOf, numbersOf}
-use Rattle.rows.specs.Row.{Row}
-use Rattle.rows.specs.Records.{records, recordOf, dataRow}
+use Rattle.record_table.specs.Row.{Row}
+use Rattle.record_table.specs.Records.{records, recordOf, dataRow}
 use Rattle.theory.specs.Due.{linesFor, numberRows, rowsHolding}
 
 -- "data lines, all full but the last, which holds only what is left": the fields of the lines of eight numbers in case 1

@@ -10,10 +10,10 @@ use lib.ListN.{length}
 use Rattle.text.specs.Blank.{Blanks}
 use Rattle.text.specs.Text.{TextIn}
 use Rattle.line.specs.Line.{Allowed, filled}
-use Rattle.kind.specs.Kind.{Delimiter, NumberLine}
+use Rattle.delimiter.specs.Kind.{Delimiter, NumberLine}
 use Rattle.field.specs.Item.{Item, text}
-use Rattle.rows.specs.Row.{Row}
-use Rattle.rows.specs.TypedSets.{isTyped}
+use Rattle.record_table.specs.Row.{Row}
+use Rattle.record_table.specs.TypedSets.{isTyped}
 use Rattle.record.specs.Written.{Written}
 use Rattle.theory.specs.Sets.{Set, set}
 use Rattle.theory.specs.Due.{setRows}

@@ -16,7 +16,7 @@ use Rattle.layout.specs.Columns.{lineOf, fieldOf, fieldStart, fieldPast}
 use Rattle.layout.specs.ColumnsLaws.{fieldStart-next, fieldOf-inside, stored-at}
 use Rattle.layout.specs.Layout.{layoutOf, fieldsOf, cellOf}
 use Rattle.layout.specs.LayoutLaws.{fieldsOf-some, widths-six, fieldPast-inside}
-use Rattle.rows.specs.TypedSets.{headerLines}
+use Rattle.record_table.specs.TypedSets.{headerLines}
 use Rattle.parts.specs.PartsLaws.{lines-end}
 use Rattle.parts.specs.Scan.{skipTo}
 use Rattle.parts.specs.SetLaws.{skip-stops, skip-none, skip-next}

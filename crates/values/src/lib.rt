@@ -28,7 +28,7 @@ fn first_spot(file: &[u8], d: Data) -> Spot
     requires { ⌜ d .body ≤ length (now file) ⌝ }
     ensures { λ r. ⌜ (r ≡ spotOf (now (file .entry)) d 0) × (r .line ≤ length (now (file .entry))) ⌝ }
 {
-    let line = line_start(file, d.body, d.closing, rows::HEADER_LINES);
+    let line = line_start(file, d.body, d.closing, record_table::HEADER_LINES);
     Spot {
         line,
         field: 0,

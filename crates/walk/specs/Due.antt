@@ -6,9 +6,9 @@ use lib.Dec.{leb, ltb, eqb}
 use lib.ListN.{length, getD}
 use Rattle.laws.specs.Choice.{pick}
 use Rattle.field.specs.Item.{Item}
-use Rattle.rows.specs.Row.{Row, firstFields}
-use Rattle.rows.specs.Records.{recordOf, dataRow, noRecord}
-use Rattle.rows.specs.TypedSets.{sequence, Following, nothing, list, lists, dataLines, following}
+use Rattle.record_table.specs.Row.{Row, firstFields}
+use Rattle.record_table.specs.Records.{recordOf, dataRow, noRecord}
+use Rattle.record_table.specs.TypedSets.{sequence, Following, nothing, list, lists, dataLines, following}
 use Rattle.record.specs.Check.{itemsOf}
 use Rattle.record.specs.Declared.{naturalAt, caseBy, storedBy}
 use Rattle.walk.specs.declared.Due.{Due}

@@ -16,16 +16,16 @@ use Rattle.integer.specs.declared.Integer.{Integer}
 use Rattle.integer.specs.declared.Integer.the-variants.{Blank, Malformed, OutOfRange, Value}
 use Rattle.line.specs.Line.{passed}
 use Rattle.line.specs.declared.Refusal.{Refusal}
-use Rattle.kind.specs.Kind.{positive}
+use Rattle.delimiter.specs.Kind.{positive}
 use Rattle.layout.specs.Layout.{layouts, layoutOf, fieldsOf, numbersOf}
 use Rattle.field.specs.Item.{natural, Item}
 use Rattle.field.specs.Field.{integerItem}
-use Rattle.rows.specs.Row.{Row, none, breach, firstFields}
-use Rattle.rows.specs.Records.{records, recordOf, dataRow, noRecord}
-use Rattle.rows.specs.TypedSets.{typedSets, sequence, untyped, Following, nothing, list, lists, dataLines, kind58, kind82, kind1815, lineSeven, beforeAxes, following}
+use Rattle.record_table.specs.Row.{Row, none, breach, firstFields}
+use Rattle.record_table.specs.Records.{records, recordOf, dataRow, noRecord}
+use Rattle.record_table.specs.TypedSets.{typedSets, sequence, untyped, Following, nothing, list, lists, dataLines, kind58, kind82, kind1815, lineSeven, beforeAxes, following}
 use Rattle.record.specs.Check.{orElse, otherwise, strayFault, fieldsFault, stray, fieldsRefusal, conditionFault, rowRefusal, itemsOf}
-use Rattle.rows.specs.TypedSetsLaws.{isCounted, is-counted, typed-sound, sequence-past, following-past}
-use Rattle.rows.specs.TabledLaws.{recordOf-past}
+use Rattle.record_table.specs.TypedSetsLaws.{isCounted, is-counted, typed-sound, sequence-past, following-past}
+use Rattle.record_table.specs.TabledLaws.{recordOf-past}
 use Rattle.record.specs.Declared.{naturalAt, numberIn, caseIn, storedIn}
 use Rattle.record.specs.DeclaredLaws.{declares-items}
 use Rattle.walk.specs.declared.Due.{Due}

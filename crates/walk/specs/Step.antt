@@ -7,8 +7,8 @@ use Rattle.laws.specs.Choice.{pick}
 use Rattle.text.specs.Blank.{allBlank}
 use Rattle.line.specs.Line.{refusal}
 use Rattle.line.specs.declared.Refusal.{Refusal}
-use Rattle.kind.specs.Kind.{isDelimiter, datasetNumber}
-use Rattle.rows.specs.TypedSets.{kindOf, isTyped}
+use Rattle.delimiter.specs.Kind.{isDelimiter, datasetNumber}
+use Rattle.record_table.specs.TypedSets.{kindOf, isTyped}
 use Rattle.record.specs.Check.{rowRefusal}
 use Rattle.walk.specs.declared.Due.{Due}
 use Rattle.walk.specs.declared.Place.{Place}

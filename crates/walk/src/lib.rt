@@ -3,8 +3,8 @@ ghost use mathlib.Core.Path.{_≡_};
 ghost use Prim.Native.Nat.{_≤_, _<_};
 ghost use lib.ListN.{length, getD};
 ghost use Rattle.line.specs.Line.{refusal};
-ghost use Rattle.rows.specs.Records.{noRecord};
-ghost use Rattle.rows.specs.TypedSets.{kind58, kind82, kind1815, beforeAxes, kindOf, isTyped};
+ghost use Rattle.record_table.specs.Records.{noRecord};
+ghost use Rattle.record_table.specs.TypedSets.{kind58, kind82, kind1815, beforeAxes, kindOf, isTyped};
 ghost use Rattle.record.specs.Check.{rowRefusal};
 ghost use Rattle.record.specs.Declared.{numberIn, caseIn, countIn, storedIn};
 ghost use Rattle.walk.specs.Due.{due, next, recordDue, listRow, rowDue, mayClose, mayContinue, settled, itemsDue, afterRecord, afterList, after};
@@ -12,17 +12,17 @@ ghost use Rattle.walk.specs.Step.{state, opened, outsideStep, numberStep
 use integer::integer_field;
 use laws::index;
 use line::Refusal;
-use rows::BEFORE_AXES;
-use rows::KIND_58;
-use rows::KIND_82;
-use rows::KIND_151;
-use rows::KIND_164;
-use rows::KIND_1815;
-use rows::LINE_SEVEN;
-use rows::NO_RECORD;
-use rows::ORDER_LISTS;
-use rows::TRACE_ENTRIES;
-use rows::UNTYPED;
+use record_table::BEFORE_AXES;
+use record_table::KIND_58;
+use record_table::KIND_82;
+use record_table::KIND_151;
+use record_table::KIND_164;
+use record_table::KIND_1815;
+use record_table::LINE_SEVEN;
+use record_table::NO_RECORD;
+use record_table::ORDER_LISTS;
+use record_table::TRACE_ENTRIES;
+use record_table::UNTYPED;
 
 // What is due in a typed set: the kind of set, how many of its records have come, the case of a
 // 58 from 0, how many numbers are left in the list that follows the records, and how many a second list has.
@@ -203,7 +203,7 @@ pub fn number_in(line: &[u8; 80], from: usize, past: usize) -> u32
     ensures { λ r. ⌜ r ≡ numberIn from past (now (line .entry)) ⌝ }
 {
     let columns: &[u8] = line;
-    kind::positive(integer_field(&columns[from..past]))
+    delimiter::positive(integer_field(&columns[from..past]))
 }
 
 // The case of a 58, from its line 7.
@@ -408,10 +408,10 @@ pub fn opened(number: u32) -> Place
 pub fn outside_step(sets: u32, line: &[u8; 80]) -> Outcome
     ensures { λ r. ⌜ r ≡ outsideStep sets (now (line .entry)) ⌝ }
 {
-    if kind::is_blank_line(line) {
+    if delimiter::is_blank_line(line) {
         return goes_on(Place::Outside, sets);
     }
-    if kind::is_delimiter(line) {
+    if delimiter::is_delimiter(line) {
         if sets < MOST_SETS {
             return goes_on(Place::Number, sets + 1);
         }
@@ -424,7 +424,7 @@ pub fn outside_step(sets: u32, line: &[u8; 80]) -> Outcome
 pub fn number_step(sets: u32, line: &[u8; 80]) -> Outcome
     ensures { λ r. ⌜ r ≡ numberStep sets (now (line .entry)) ⌝ }
 {
-    let number = kind::dataset_number(line);
+    let number = delimiter::dataset_number(line);
     if 0 < number {
         return goes_on(opened(number), sets);
     }
@@ -435,7 +435,7 @@ pub fn number_step(sets: u32, line: &[u8; 80]) -> Outcome
 pub fn plain_step(sets: u32, line: &[u8; 80]) -> Outcome
     ensures { λ r. ⌜ r ≡ plainStep sets (now (line .entry)) ⌝ }
 {
-    if kind::is_delimiter(line) {
+    if delimiter::is_delimiter(line) {
         return goes_on(Place::Outside, sets);
     }
     goes_on(Place::Plain, sets)
@@ -446,7 +446,7 @@ pub fn typed_step(d: Due, sets: u32, line: &[u8; 80]) -> Outcome
     ensures { λ r. ⌜ r ≡ typedStep d sets (now (line .entry)) ⌝ }
 {
     let number = record_due(d);
-    if kind::is_delimiter(line) {
+    if delimiter::is_delimiter(line) {
         if may_close(d, number) {
             return goes_on(Place::Outside, sets);
         }

@@ -4,7 +4,7 @@ use mathlib.Core.List.{[]}
 use Prim.Native.Nat.{_≤_, _-_}
 use lib.ListN.{length, take}
 use Rattle.laws.specs.Cut.{cut}
-use Rattle.rows.specs.TypedSets.{headerLines}
+use Rattle.record_table.specs.TypedSets.{headerLines}
 use Rattle.header.specs.HeaderLaws.{lines-to, rest-to, all-few}
 use native.Mathlib.Omega.{arith}
 use borrow.Author.Needs.{needs}

@@ -1,6 +1,6 @@
 -- `host::uff_burst` meets its contract.
 use Rattle.host.specs.Packed.{word}
-use Rattle.lent.specs.LentLaws.{burst-in}
+use Rattle.stream_c.specs.LentLaws.{burst-in}
 use borrow.Author.Needs.{needs}
 use Rattle.host.proofs.uff_burst.Statement.{statement}
 use Rattle.host.proofs.uff_burst.Tie as tie

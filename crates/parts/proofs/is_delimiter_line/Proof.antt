@@ -1,6 +1,6 @@
 -- `parts::is_delimiter_line` meets its contract.
 use mathlib.Core.Path.{ap, _∙_}
-use Rattle.kind.specs.Kind.{isDelimiter}
+use Rattle.delimiter.specs.Kind.{isDelimiter}
 use Rattle.parts.specs.Parts.{closes}
 use borrow.Author.Needs.{needs}
 use Rattle.parts.proofs.is_delimiter_line.Statement.{statement}

@@ -1,6 +1,6 @@
 -- `parts::line_number` meets its contract.
 use mathlib.Core.Path.{ap, _∙_}
-use Rattle.kind.specs.Kind.{datasetNumber}
+use Rattle.delimiter.specs.Kind.{datasetNumber}
 use borrow.Author.Needs.{needs}
 use Rattle.parts.proofs.line_number.Statement.{statement}
 use Rattle.parts.proofs.line_number.Tie as tie

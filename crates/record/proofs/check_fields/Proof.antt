@@ -5,7 +5,7 @@ use Prim.Native.Nat.{_≤_, _-_, _+_}
 use lib.ListN.{length, drop}
 use Rattle.layout.specs.Columns.{total}
 use Rattle.record.specs.Check.{fieldsFault}
-use Rattle.rows.specs.Records.{fieldList}
+use Rattle.record_table.specs.Records.{fieldList}
 use borrow.Author.Needs.{needs}
 use native.Mathlib.Omega.{arith}
 use Rattle.record.proofs.check_fields.Statement.{statement}

@@ -4,7 +4,7 @@ use Prim.Native.Nat.{_≤_, _-_, _+_}
 use lib.ListN.{length, drop}
 use Rattle.layout.specs.Columns.{total}
 use Rattle.record.specs.Check.{stray}
-use Rattle.rows.specs.Records.{fieldList}
+use Rattle.record_table.specs.Records.{fieldList}
 use Rattle.record.specs.CheckLaws.{field-fits, fields-fit, stray-stop, stray-here, stray-on, stray-end}
 use borrow.Author.Needs.{needs}
 use native.Mathlib.Omega.{arith}

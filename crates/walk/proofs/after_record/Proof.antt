@@ -1,8 +1,8 @@
 -- `walk::after_record` meets its contract.
 use mathlib.Core.Path.{refl, _∙_}
 use native.Mathlib.Omega.{arith}
-use Rattle.rows.specs.Records.{noRecord}
-use Rattle.rows.specs.TypedSets.{lineSeven, typedSets, following}
+use Rattle.record_table.specs.Records.{noRecord}
+use Rattle.record_table.specs.TypedSets.{lineSeven, typedSets, following}
 use Rattle.walk.specs.DueLaws.{uncounted, afterRecord-data, afterRecord-trace, afterRecord-orders, afterRecord-next}
 use borrow.Author.Needs.{needs}
 use Rattle.walk.proofs.after_record.Statement.{statement}

@@ -1,7 +1,7 @@
 -- `walk::check_due` meets its contract.
 use mathlib.Core.Path.{refl, sym, _∙_}
 use native.Mathlib.Omega.{arith}
-use Rattle.rows.specs.TypedSets.{typedSets, following}
+use Rattle.record_table.specs.TypedSets.{typedSets, following}
 use Rattle.walk.specs.Due.{listRow}
 use Rattle.walk.specs.DueLaws.{rowRefusal-record, rowRefusal-list, following-none}
 use borrow.Author.Needs.{needs}

@@ -1,6 +1,6 @@
 -- `walk::is_typed` meets its contract.
 use mathlib.Core.Path.{refl}
-use Rattle.rows.specs.TypedSets.{isTyped}
+use Rattle.record_table.specs.TypedSets.{isTyped}
 use borrow.Author.Needs.{needs}
 use Rattle.walk.proofs.is_typed.Statement.{statement}
 use Rattle.walk.proofs.is_typed.Tie as tie

@@ -1,6 +1,6 @@
 -- `walk::kind_of` meets its contract.
 use borrow.Author.Tests.{eq-eqb, ne-eqb}
-use Rattle.rows.specs.TypedSets.{typedSets, kindOf}
+use Rattle.record_table.specs.TypedSets.{typedSets, kindOf}
 use Rattle.walk.proofs.kind_of.Statement.{statement}
 use Rattle.walk.proofs.kind_of.Tie as tie
 

@@ -1,7 +1,7 @@
 -- `walk::list_fields` meets its contract.
 use mathlib.Core.Path.{refl, sym, _∙_}
-use Rattle.rows.specs.Records.{recordOf, records}
-use Rattle.rows.specs.TypedSets.{typedSets, following}
+use Rattle.record_table.specs.Records.{recordOf, records}
+use Rattle.record_table.specs.TypedSets.{typedSets, following}
 use Rattle.walk.specs.Due.{listRow}
 use Rattle.walk.specs.DueLaws.{dataRow-length, following-none}
 use borrow.Author.Needs.{needs}

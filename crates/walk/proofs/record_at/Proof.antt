@@ -1,4 +1,4 @@
-use Rattle.rows.specs.Records.{noRecord}
+use Rattle.record_table.specs.Records.{noRecord}
 use Rattle.walk.specs.DueLaws.{getD-inside}
 use lib.ListN.{List·getD-eq-default}
 use mathlib.Core.Path.{sym, _∙_}

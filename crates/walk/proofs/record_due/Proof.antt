@@ -1,6 +1,6 @@
-use Rattle.rows.specs.TypedSets.{sequence, typedSets, untyped}
-use Rattle.rows.specs.Tabled.{Differs}
-use Rattle.rows.specs.TabledLaws.{past}
+use Rattle.record_table.specs.TypedSets.{sequence, typedSets, untyped}
+use Rattle.record_table.specs.Tabled.{Differs}
+use Rattle.record_table.specs.TabledLaws.{past}
 use Rattle.walk.specs.DueLaws.{recordDue-sequence, recordDue-kind-past}
 use mathlib.Core.Path.{refl, sym, _∙_}
 use Prim.{tt}

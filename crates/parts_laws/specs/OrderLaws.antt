@@ -1,0 +1,121 @@
+-- The own columns of the stored numbers of a 58: inside the set's lines, in order, and apart.
+use mathlib.Core.Path.{_≡_, refl, sym, subst, _∙_}
+use mathlib.Core.Logic.{⊎-elim}
+use mathlib.Core.Bool.{true}
+use mathlib.Core.List.{List, [], _∷_}
+use Prim.Native.Nat.{ℕ, zero, suc, _+_, _<_, _≤_}
+use native.Mathlib.Nat.{zero-div, zero-mod}
+use native.Mathlib.Omega.{arith}
+use lib.ListN.{length, getD, take, length-map}
+use Rattle.line.specs.Line.{columns}
+use Rattle.line.specs.LineLaws.{columns-within}
+use Rattle.real.specs.RealLaws.{realOf-complete}
+use Rattle.layout.specs.Columns.{fieldStart, fieldPast, lineOf, fieldOf}
+use Rattle.layout.specs.ColumnsLaws.{stored-apart}
+use Rattle.layout.specs.Layout.{layoutOf, fieldsOf}
+use Rattle.layout.specs.LayoutLaws.{fieldPast-inside, fieldsOf-some}
+use Rattle.record_table.specs.TypedSets.{headerLines}
+use Rattle.theory.specs.Sets.{Set}
+use Rattle.theory.specs.Due.{linesFor}
+use Rattle.parts.specs.Parts as Parts
+use Rattle.parts.specs.Function as Function
+use Rattle.parts_laws.specs.Holds.{Holds}
+use Rattle.parts_laws.specs.Declared.{setCase}
+use Rattle.parts_laws.specs.DeclaredLaws.{case-held}
+use Rattle.parts_laws.specs.Stored.{storedCount, storedItem, ownColumns}
+use Rattle.parts_laws.specs.StoredLaws.{stored-spelled, stored-case, set-data, line-enough}
+use Rattle.parts_laws.specs.Field.{Spelled}
+use Rattle.parts_laws.specs.BytesLaws.{reaches, value-some}
+
+-- bytes of the first lines
+pub bytesIn-next : (k : ℕ) (ls : List (List ℕ)) → k < length ls → Parts.bytesIn (take (suc k) ls) ≡ Parts.bytesIn (take k ls) + suc (length (getD ls k []))
+unfolding Parts.bytesIn
+bytesIn-next zero [] h = absurd (omega arith)
+bytesIn-next zero (l ∷ ls) h = omega arith
+bytesIn-next (suc k) [] h = absurd (omega arith)
+bytesIn-next (suc k) (l ∷ ls) h = let e : Parts.bytesIn (take (suc k) ls) ≡ Parts.bytesIn (take k ls) + suc (length (getD ls k [])) = bytesIn-next k ls (omega arith) in omega arith
+
+pub bytesIn-rise : (a b : ℕ) (ls : List (List ℕ)) → a ≤ b → Parts.bytesIn (take a ls) ≤ Parts.bytesIn (take b ls)
+unfolding Parts.bytesIn
+bytesIn-rise zero b ls h = omega arith
+bytesIn-rise (suc a) zero ls h = absurd (omega arith)
+bytesIn-rise (suc a) (suc b) [] h = omega arith
+bytesIn-rise (suc a) (suc b) (l ∷ ls) h = let m : Parts.bytesIn (take a ls) ≤ Parts.bytesIn (take b ls) = bytesIn-rise a b ls (omega arith) in omega arith
+
+bytesIn-all : (a : ℕ) (ls : List (List ℕ)) → Parts.bytesIn (take a ls) ≤ Parts.bytesIn ls
+unfolding Parts.bytesIn
+bytesIn-all zero ls = omega arith
+bytesIn-all (suc a) [] = omega arith
+bytesIn-all (suc a) (l ∷ ls) = let m : Parts.bytesIn (take a ls) ≤ Parts.bytesIn ls = bytesIn-all a ls in omega arith
+
+-- a line begins past the one before it, and the closing delimiter past them all
+module _ (p : Parts.Part) where
+  pub lines-apart : (a b : ℕ) → a < length (p .body) → a < b → Parts.lineStart p a + suc (length (getD (p .body) a [])) ≤ Parts.lineStart p b
+  unfolding Parts.lineStart
+  lines-apart a b h l =
+      let e : Parts.bytesIn (take (suc a) (p .body)) ≡ Parts.bytesIn (take a (p .body)) + suc (length (getD (p .body) a [])) = bytesIn-next a (p .body) h in
+      let m : Parts.bytesIn (take (suc a) (p .body)) ≤ Parts.bytesIn (take b (p .body)) = bytesIn-rise (suc a) b (p .body) l in
+      omega arith
+
+  pub line-closing : (a : ℕ) → a < length (p .body) → Parts.lineStart p a + suc (length (getD (p .body) a [])) ≤ Parts.closingStart p
+  unfolding Parts.lineStart Parts.closingStart
+  line-closing a h =
+      let e : Parts.bytesIn (take (suc a) (p .body)) ≡ Parts.bytesIn (take a (p .body)) + suc (length (getD (p .body) a [])) = bytesIn-next a (p .body) h in
+      let m : Parts.bytesIn (take (suc a) (p .body)) ≤ Parts.bytesIn (p .body) = bytesIn-all (suc a) (p .body) in
+      omega arith
+
+-- a stored number of a 58 in a text: its line is there, and its columns are columns of that line
+module _ {s : Set} {p : Parts.Part} (h : Holds s p) (e : s .number ≡ 58) where
+  pub record Seated (j : ℕ) : Type 0 where
+    pub line : headerLines + lineOf (fieldsOf (Function.partCase p)) j < length (p .body)
+    pub past : fieldPast (layoutOf (Function.partCase p) .widths) (fieldOf (fieldsOf (Function.partCase p)) j) ≤ length (getD (p .body) (headerLines + lineOf (fieldsOf (Function.partCase p)) j) [])
+    pub some : fieldStart (layoutOf (Function.partCase p) .widths) (fieldOf (fieldsOf (Function.partCase p)) j) < fieldPast (layoutOf (Function.partCase p) .widths) (fieldOf (fieldsOf (Function.partCase p)) j)
+
+  pub body-length : length (p .body) ≡ headerLines + linesFor (fieldsOf (setCase s)) (storedCount s)
+  body-length = sym (length-map (p .body) (columns true)) ∙ set-data (h .lines) e .count
+
+  start-rise : (k : ℕ) → Parts.lineStart p headerLines ≤ Parts.lineStart p (headerLines + k)
+  unfolding Parts.lineStart
+  start-rise k = let m : Parts.bytesIn (take headerLines (p .body)) ≤ Parts.bytesIn (take (headerLines + k) (p .body)) = bytesIn-rise headerLines (headerLines + k) (p .body) (omega arith) in omega arith
+
+  pub seated : (j : ℕ) → j < storedCount s → Seated j
+  unfolding ownColumns Parts.lineOf fieldPast
+  seated j l =
+      let q : Function.partCase p ≡ setCase s = case-held h e in
+      let b : 0 < fieldsOf (setCase s) = fieldsOf-some (setCase s) (stored-case s j l) in
+      let m : lineOf (fieldsOf (setCase s)) j < linesFor (fieldsOf (setCase s)) (storedCount s) = line-enough (fieldsOf (setCase s)) (storedCount s) j b l in
+      let n : lineOf (fieldsOf (Function.partCase p)) j ≡ lineOf (fieldsOf (setCase s)) j = rw q refl in
+      let x : Spelled (storedItem s j) (ownColumns (Function.partCase p) p j) = subst (λ (y : ℕ). Spelled (storedItem s j) (ownColumns y p j)) (sym q) (stored-spelled h e j l) in
+      let v = realOf-complete (x .spelling) in
+      let w : 0 < getD (layoutOf (Function.partCase p) .widths) (fieldOf (fieldsOf (Function.partCase p)) j) 0 = value-some _ _ _ v in
+      let r = reaches (columns true (getD (p .body) (headerLines + lineOf (fieldsOf (Function.partCase p)) j) [])) (fieldStart (layoutOf (Function.partCase p) .widths) (fieldOf (fieldsOf (Function.partCase p)) j)) (getD (layoutOf (Function.partCase p) .widths) (fieldOf (fieldsOf (Function.partCase p)) j) 0) _ (fieldPast-inside (Function.partCase p) (fieldOf (fieldsOf (Function.partCase p)) j)) v in
+      record {
+        line = omega (arith, body-length);
+        past = omega (arith, r, columns-within true (getD (p .body) (headerLines + lineOf (fieldsOf (Function.partCase p)) j) []));
+        some = omega arith;
+      }
+
+  -- some columns, inside the set's data lines
+  pub columns-inside : (j : ℕ) → j < storedCount s
+      → (Parts.lineStart p headerLines ≤ Function.firstByte p j) × ((Function.firstByte p j < Function.pastByte p j) × (Function.pastByte p j ≤ Parts.closingStart p))
+  unfolding Function.firstByte Function.pastByte Function.dataLine
+  columns-inside j l =
+      let t = seated j l in
+      let c : Parts.lineStart p headerLines ≤ Parts.lineStart p (headerLines + lineOf (fieldsOf (Function.partCase p)) j) = start-rise (lineOf (fieldsOf (Function.partCase p)) j) in
+      (omega arith, (omega (arith, t .some), omega (arith, t .past, line-closing p (headerLines + lineOf (fieldsOf (Function.partCase p)) j) (t .line))))
+
+  -- in order, and apart
+  pub columns-apart : (i j : ℕ) → i < j → j < storedCount s → Function.pastByte p i ≤ Function.firstByte p j
+  unfolding Function.firstByte Function.pastByte Function.dataLine fieldsOf
+  columns-apart i j o l =
+      let b : 0 < length (layoutOf (Function.partCase p) .widths) = subst (λ (y : ℕ). 0 < length (layoutOf y .widths)) (sym (case-held h e)) (fieldsOf-some (setCase s) (stored-case s j l)) in
+      let t = seated i (omega arith) in
+      ⊎-elim
+      (λ q. omega (arith, t .past, lines-apart p (headerLines + lineOf (length (layoutOf (Function.partCase p) .widths)) i) (headerLines + lineOf (length (layoutOf (Function.partCase p) .widths)) j) (t .line) (omega arith)))
+      (λ q. rw (q .0) (omega (arith, q .1)))
+      (stored-apart (layoutOf (Function.partCase p) .widths) i j b o)
+
+-- the first stored number begins the data lines
+pub first-column : (p : Parts.Part) → Function.firstByte p 0 ≡ Parts.lineStart p headerLines
+unfolding Function.firstByte Function.dataLine lineOf fieldOf fieldStart
+first-column p = rw (zero-div (fieldsOf (Function.partCase p)), zero-mod (fieldsOf (Function.partCase p))) (omega arith)

@@ -1,0 +1,153 @@
+-- A number has one plain spelling in so many columns. A delimiter and a number line have at least six columns.
+use mathlib.Core.Path.{_≡_, refl, sym, ap, subst, _∙_}
+use mathlib.Core.Logic.{⊎-elim}
+use mathlib.Core.Bool.{Bool, false}
+use mathlib.Core.List.{List, [], _∷_, _++_, append-assoc, append-nil}
+use Prim.Native.Nat.{ℕ, zero, suc, _+_, _-_, _*_, _/_, _%_, _^_, _≤_, _<_}
+use native.Mathlib.Nat.{pow-succ', add-zero}
+use native.Mathlib.Omega.{arith}
+use lib.ListN.{length, getD, replicate, length-append, getD-replicate, List·getD-append}
+use lib.Seq.{getD-append-add}
+use Rattle.laws.specs.ChoiceLaws.{below-or-not}
+use Rattle.text.specs.Blank.{Blanks, none, one}
+use Rattle.text.specs.BlankLaws.{blanks-replicate}
+use Rattle.text.specs.Parts.{bare, Digits, Digits.none as no-digit, more}
+use Rattle.text.specs.PartsLaws.{digits-join}
+use Rattle.integer.specs.Spelling.{IntegerSpelling, spelled}
+use Rattle.line.specs.Line.{filled}
+use Rattle.line.specs.LineLaws.{filled-short, columns-allowed}
+use Rattle.delimiter.specs.Kind.{Delimiter, delimiter, NumberLine, number-line, datasetNumber}
+use Rattle.delimiter.specs.KindLaws.{datasetNumber-complete}
+use Rattle.parts.specs.Parts.{columnsIn}
+use Rattle.rewriter.specs.Rewriter.{plainIn, plainNumber}
+use Rattle.rewriter.specs.PutLaws.{plainIn-length, plainNumber-length}
+use Rattle.rewriter.specs.PlainLaws.{plain-blank, digit-of, plainNumber-allowed}
+use Rattle.rewriter_laws.specs.Form.{Plainly, plainly}
+
+-- What is laid out is spelled plainly.
+
+digit-last : (m b v : ℕ) → 48 ≤ b → b ≤ 57 → m * 10 + (b - 48) ≡ v → Digits m (b ∷ []) v
+digit-last m b v low high e = subst (Digits m (b ∷ [])) e (more low high no-digit)
+
+-- a first digit, a digit more
+plainly-first : {bl : List ℕ} (b v : ℕ) → Blanks bl → 48 < b → b ≤ 57 → b - 48 ≡ v → Plainly v (bl ++ (b ∷ []))
+plainly-first {bl} b v r low high e = plainly bl [] r (λ (z : b ≡ 48). omega arith) (digit-last 0 b v (omega arith) high (omega arith))
+
+plainly-next : {m : ℕ} {l : List ℕ} (b v : ℕ) → Plainly m l → 48 ≤ b → b ≤ 57 → m * 10 + (b - 48) ≡ v → Plainly v (l ++ (b ∷ []))
+plainly-next b v (plainly {v = m} bl ds r n d) low high e = rw append-assoc (plainly bl (ds ++ (b ∷ [])) r n (digits-join d (digit-last m b v low high e)))
+
+plainIn-plainly : (w v : ℕ) → 0 < v → v < 10 ^ w → Plainly v (plainIn w v)
+unfolding plainIn
+plainIn-plainly zero v p h = absurd (omega arith)
+plainIn-plainly (suc w) v p h =
+    ⊎-elim
+    (λ q.
+    rw (digit-of v p)
+    (plainly-next (48 + v % 10) v (plainIn-plainly w (v / 10) q (let z : v < 10 * 10 ^ w = rw (← pow-succ') h in omega arith)) (omega arith) (omega arith) (omega arith)))
+    (λ q.
+    let z : v / 10 ≡ 0 = omega arith in
+    rw (digit-of v p, z) (plainly-first (48 + v % 10) v (plain-blank w) (omega arith) (omega arith) (omega arith)))
+    (below-or-not 0 (v / 10))
+
+pub plainNumber-plainly : (v : ℕ) → 1 ≤ v → v ≤ 999999 → Plainly v (plainNumber v)
+unfolding plainNumber
+plainNumber-plainly v p h = plainIn-plainly 6 v p (omega arith)
+
+-- and is a number line
+plainly-spelled : {v : ℕ} {l : List ℕ} → Plainly v l → IntegerSpelling false v l
+plainly-spelled (plainly {v} {d} bl ds r n g) = spelled bl [] (d ∷ ds) r bare g (omega arith)
+
+plain-filled : (v : ℕ) → filled (plainNumber v) ≡ plainNumber v ++ replicate 74 32
+plain-filled v =
+    let n : length (plainNumber v) ≡ 6 = plainNumber-length v in
+    rw (filled-short (plainNumber v) (omega arith), n) refl
+
+pub plainNumber-line : (v : ℕ) → 1 ≤ v → v ≤ 999999 → NumberLine v (filled (plainNumber v))
+plainNumber-line v p h =
+    rw (plain-filled v) (number-line (plainNumber v) (replicate 74 32) (plainNumber-length v) (plainly-spelled (plainNumber-plainly v p h)) p h (blanks-replicate 74))
+
+-- which is read back
+pub plainNumber-again : (v : ℕ) → 1 ≤ v → v ≤ 999999 → datasetNumber (columnsIn (plainNumber v)) ≡ v
+plainNumber-again v p h = rw (columns-allowed (plainNumber-allowed v)) (datasetNumber-complete (plainNumber-line v p h))
+
+-- What is spelled plainly is laid out so.
+
+blanks-same : {a b : List ℕ} → Blanks a → Blanks b → length a ≡ length b → a ≡ b
+blanks-same none none e = refl
+blanks-same none (one b) e = absurd (omega arith)
+blanks-same (one a) none e = absurd (omega arith)
+blanks-same (one a) (one b) e = ap (_∷_ 32) (blanks-same a b (omega arith))
+
+-- a digit more, any digits more
+plainIn-digit : (w m b : ℕ) → 48 ≤ b → b ≤ 57 → 0 < m * 10 + (b - 48) → plainIn (suc w) (m * 10 + (b - 48)) ≡ plainIn w m ++ (b ∷ [])
+unfolding plainIn
+plainIn-digit w m b low high p =
+    let q : (m * 10 + (b - 48)) / 10 ≡ m = omega arith in
+    let r : 48 + (m * 10 + (b - 48)) % 10 ≡ b = omega arith in
+    rw (digit-of (m * 10 + (b - 48)) p, q, r) refl
+
+plainIn-digits : {m v : ℕ} {ds : List ℕ} → Digits m ds v → 0 < m → (w : ℕ) → plainIn (w + length ds) v ≡ plainIn w m ++ ds
+plainIn-digits no-digit p w = rw (add-zero, append-nil) refl
+plainIn-digits (more {m} {b} {v} {ds} low high d) p w =
+    let e : w + suc (length ds) ≡ suc w + length ds = omega arith in
+    rw e (plainIn-digits d (omega arith) (suc w) ∙ rw (plainIn-digit w m b low high (omega arith), append-assoc) refl)
+
+plainly-only : {v : ℕ} {l : List ℕ} → Plainly v l → l ≡ plainIn (length l) v
+plainly-only (plainly {v} {d} bl ds r n (more low high g)) =
+    let e : length (bl ++ (d ∷ ds)) ≡ suc (length bl) + length ds = length-append bl (d ∷ ds) ∙ omega arith in
+    let k : plainIn (length bl) 0 ≡ bl = blanks-same (plain-blank (length bl)) r (plainIn-length (length bl) 0) in
+    let p : 0 < 0 * 10 + (d - 48) = positive d low n in
+    sym (ap (λ (x : ℕ). plainIn x v) e ∙ plainIn-digits g p (suc (length bl)) ∙ rw (plainIn-digit (length bl) 0 d low high p, k, append-assoc) refl)
+  where
+    positive : (d : ℕ) → 48 ≤ d → (d ≡ 48 → ⊥) → 0 < 0 * 10 + (d - 48)
+    positive d low n = ⊎-elim (λ (q : 48 < d). omega arith) (λ (q : d ≤ 48). absurd (n (omega arith))) (below-or-not 48 d)
+
+-- so two plain spellings of a number in six columns are the same
+pub plainNumber-only : {v : ℕ} {l : List ℕ} → Plainly v l → length l ≡ 6 → l ≡ plainNumber v
+unfolding plainNumber
+plainNumber-only {v} p n = plainly-only p ∙ ap (λ (x : ℕ). plainIn x v) n
+
+-- At least six columns.
+
+-- a line whose sixth column is no blank has six columns
+reaches : (cs : List ℕ) → (getD (filled cs) 5 0 ≡ 32 → ⊥) → 6 ≤ length cs
+reaches cs n = ⊎-elim (λ h. absurd (n (short h))) (λ h. h) (below-or-not (length cs) 6)
+  where
+    short : length cs < 6 → getD (filled cs) 5 0 ≡ 32
+    short h =
+        let e : 5 ≡ length cs + (5 - length cs) = omega arith in
+        ap (λ (x : List ℕ). getD x 5 0) (filled-short cs (omega arith))
+        ∙ ap (λ (x : ℕ). getD (cs ++ replicate (80 - length cs) 32) x 0) e
+        ∙ getD-append-add cs (replicate (80 - length cs) 32) (5 - length cs) 0
+        ∙ getD-replicate (80 - length cs) (5 - length cs) 32 0 (omega arith)
+
+-- a delimiter has its 1 there
+delimiter-sixth : {l : List ℕ} → Delimiter l → getD l 5 0 ≡ 49
+delimiter-sixth (delimiter b) = refl
+
+pub delimiter-six : (cs : List ℕ) → Delimiter (filled cs) → 6 ≤ length cs
+delimiter-six cs d = reaches cs (λ e. omega (arith, delimiter-sixth d))
+
+-- a number line its last digit
+digits-last : {m v : ℕ} {ds : List ℕ} → Digits m ds v → 0 < length ds → 48 ≤ getD ds (length ds - 1) 0
+digits-last no-digit p = absurd (omega arith)
+digits-last (more low high no-digit) p = low
+digits-last (more low high (more {ds = ds} l h d)) p =
+    let e : suc (suc (length ds)) - 1 ≡ suc (suc (length ds) - 1) = omega arith in
+    rw e (digits-last (more l h d) (omega arith))
+
+append-last : (a b : List ℕ) → 0 < length b → getD (a ++ b) (length (a ++ b) - 1) 0 ≡ getD b (length b - 1) 0
+append-last a b p =
+    let e : length (a ++ b) - 1 ≡ length a + (length b - 1) = rw (length-append a b) (omega arith) in
+    rw e (getD-append-add a b (length b - 1) 0)
+
+integer-last : {n : Bool} {v : ℕ} {l : List ℕ} → IntegerSpelling n v l → 48 ≤ getD l (length l - 1) 0
+integer-last (spelled bl sg ds b s d p) =
+    let q : 0 < length (sg ++ ds) = simp length-append (omega arith) in
+    rw (append-last bl (sg ++ ds) q, append-last sg ds p) (digits-last d p)
+
+number-sixth : {v : ℕ} {l : List ℕ} → NumberLine v l → 48 ≤ getD l 5 0
+number-sixth (number-line field bl n s lo hi b) = rw (List·getD-append field bl 0 5 (omega arith)) (rw n at (integer-last s))
+
+pub number-six : {v : ℕ} (cs : List ℕ) → NumberLine v (filled cs) → 6 ≤ length cs
+number-six cs d = reaches cs (λ e. omega (arith, number-sixth d))

@@ -1,0 +1,46 @@
+-- `stream_c::start` meets its contract.
+use mathlib.Core.Path.{sym, _∙_}
+use Rattle.stream_c.specs.LentLaws.{room, start-short, start-lays}
+use borrow.Author.Needs.{needs}
+use Rattle.stream_c.proofs.start.Statement.{statement}
+use Rattle.stream_c.proofs.start.Tie as tie
+
+is-short-requires : tie.Need-is-short-requires
+is-short-requires c κs = search needs
+
+returns : tie.Need-returns
+returns c = start-short _ _ (sym (c .before .is-short .ensures) ∙ c .if1 .taken)
+
+fresh-requires : tie.Need-fresh-requires
+fresh-requires c κs = search needs
+
+put-record-requires : tie.Need-put-record-requires
+put-record-requires c κs =
+    let at-is-short = c .before .before .before .before in
+    room _ _ (sym (at-is-short .is-short .ensures) ∙ c .before .before .before .if1 .left)
+
+same-length : tie.Need-same-length
+same-length c = search needs
+
+same-length-2 : tie.Need-same-length-2
+same-length-2 c = search needs
+
+returns-2 : tie.Need-returns-2
+returns-2 c =
+    let at-put-record = c .before .before .before .before in
+    let at-fresh = at-put-record .before in
+    let at-if1 = at-fresh .before .before .before in
+    let at-is-short = at-if1 .before in
+    start-lays _ _ (sym (at-is-short .is-short .ensures) ∙ at-if1 .if1 .left) _ (at-fresh .fresh .ensures) _ _ (at-put-record .put-record .ensures .0) (at-put-record .put-record .ensures .1)
+
+pub start-spec : {M : Type 1} → statement M
+start-spec =
+    tie.close
+    (tie.spec
+    is-short-requires
+    returns
+    fresh-requires
+    put-record-requires
+    same-length
+    same-length-2
+    returns-2)
