@@ -6,3 +6,4 @@ pub mod ConditionLaws
 pub mod Declared
 pub mod DeclaredLaws
 pub mod Written
+pub mod WrittenLaws

@@ -19,6 +19,7 @@ use Rattle.rewriter.specs.Rewriter.{keptOf}
 use Rattle.rewriter.specs.BodyLaws.{trimmed-most}
 use Rattle.rewriter.specs.RewriterLaws.{filled-text}
 use Rattle.rewriter_laws.specs.Form.{Trimmed, SameLines}
+use Rattle.text.specs.Blank.{Blanks.none as no-blank}
 
 -- One line.
 

@@ -2,3 +2,4 @@ pub mod Sets
 pub mod Due
 pub mod DueLaws
 pub mod Proper
+pub mod ProperLaws

@@ -59,6 +59,9 @@ use Rattle.stream_mut.proofs.with_answer.Met as made-thm
 use Rattle.stream_mut.proofs.after_burst as after-burst
 use Rattle.stream_mut.proofs.after_burst.Statement as stated
 use Rattle.stream_mut.proofs.after_burst.Code as code
+use Rattle.stream_mut.proofs.burst.Symbol.{name as #burst}
+use Rattle.stream_mut.proofs.with_answer.Symbol.{name as #made}
+use Rattle.stream_mut.proofs.after_burst.Key.{name as #after-burst}
 
 abbrev stayed : Stays (after-burst.ended .signature .params) (after-burst.ended .kept)
 stayed = (stay-none (λ _. T.the-row) yes, (stay-none-slice (0 ∷ []) tt (plain (λ _. u8)) yes, tt))

@@ -54,6 +54,9 @@ use Rattle.stream_mut.proofs.with_reply.Met as made-thm
 use Rattle.stream_mut.proofs.after_end as after-end
 use Rattle.stream_mut.proofs.after_end.Statement as stated
 use Rattle.stream_mut.proofs.after_end.Code as code
+use Rattle.stream_mut.proofs.end.Symbol.{name as #end}
+use Rattle.stream_mut.proofs.with_reply.Symbol.{name as #made}
+use Rattle.stream_mut.proofs.after_end.Key.{name as #after-end}
 
 abbrev stayed : Stays (after-end.ended .signature .params) (after-end.ended .kept)
 stayed = (stay-none (λ _. T.the-row) yes, tt)

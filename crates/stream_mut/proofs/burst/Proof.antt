@@ -54,6 +54,9 @@ use Rattle.stream.proofs.answer_of.Met as answer-thm
 use Rattle.stream_mut.proofs.burst as burst
 use Rattle.stream_mut.proofs.burst.Statement as stated
 use Rattle.stream_mut.proofs.burst.Code as code
+use Rattle.stream.proofs.step.Symbol.{name as #step}
+use Rattle.stream.proofs.answer_of.Symbol.{name as #answer}
+use Rattle.stream_mut.proofs.burst.Key.{name as #burst}
 
 abbrev stayed : Stays (burst.ended .signature .params) (burst.ended .kept)
 stayed = (stay-ref (0 ∷ []) tt (plain (λ _. T.the-row)), (stay-none-slice (1 ∷ []) tt (plain (λ _. u8)) yes, tt))

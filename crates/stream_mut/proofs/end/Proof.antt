@@ -50,6 +50,9 @@ use Rattle.stream.proofs.reply.Met as reply-thm
 use Rattle.stream_mut.proofs.end as end
 use Rattle.stream_mut.proofs.end.Statement as stated
 use Rattle.stream_mut.proofs.end.Code as code
+use Rattle.stream.proofs.close.Symbol.{name as #close}
+use Rattle.stream.proofs.reply.Symbol.{name as #reply}
+use Rattle.stream_mut.proofs.end.Key.{name as #end}
 
 abbrev stayed : Stays (end.ended .signature .params) (end.ended .kept)
 stayed = (stay-ref (0 ∷ []) tt (plain (λ _. T.the-row)), tt)
