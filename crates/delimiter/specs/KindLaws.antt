@@ -1,4 +1,4 @@
--- The tests for delimiters and number lines agree with what these are, in both directions. A delimiter is neither a number line nor blank.
+-- The tests for delimiters and number lines agree with what these are, in both directions. A delimiter is not blank.
 use mathlib.Core.Path.{_≡_, refl, sym, _∙_}
 use mathlib.Core.Bool.{Bool, true, false, _&&_, and-assoc}
 use mathlib.Core.List.{List, [], _∷_, _++_}
@@ -117,7 +117,7 @@ datasetNumber-sound l v n e p = by (allBlank (drop 6 l)) refl e
         rw take-append-drop at (number-line (take 6 l) (drop 6 l) k s p (omega arith) (allBlank-sound (drop 6 l) b))
     by false b h = absurd (omega arith)
 
--- A delimiter is neither a number line nor blank.
+-- A delimiter is not blank.
 
 pub delimiter-not-blank : (l : List ℕ) → Delimiter l → allBlank l ≡ false
 unfolding allBlank

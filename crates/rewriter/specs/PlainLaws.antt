@@ -1,4 +1,4 @@
--- A dataset number spelled plainly is a number line of that number.
+-- The columns of a number spelled plainly: blanks for 0, otherwise its last digit at their end; allowed bytes all of them.
 use mathlib.Core.Path.{_≡_, refl}
 use mathlib.Core.List.{List, [], _∷_, _++_}
 use Prim.Native.Nat.{ℕ, zero, suc, _+_, _/_, _%_, _<_}
@@ -9,7 +9,7 @@ use Rattle.text.specs.BlankLaws.{blanks-append}
 use Rattle.line.specs.Line.{Allowed, Allowed.none as no-byte, Allowed.more as byte}
 use Rattle.rewriter.specs.Rewriter.{digitOrBlank, plainIn, plainNumber}
 
--- 0 is blanks, any other number is spelled
+-- 0 is blanks, any other number ends in its last digit
 pub plain-blank : (w : ℕ) → Blanks (plainIn w 0)
 unfolding plainIn digitOrBlank
 plain-blank zero = none

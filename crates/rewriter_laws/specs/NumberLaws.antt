@@ -1,4 +1,4 @@
--- A number has one plain spelling in so many columns. A delimiter and a number line have at least six columns.
+-- A number has one plain spelling in so many columns, which is its number line and is read back. A delimiter and a number line have at least six columns.
 use mathlib.Core.Path.{_≡_, refl, sym, ap, subst, _∙_}
 use mathlib.Core.Logic.{⊎-elim}
 use mathlib.Core.Bool.{Bool, false}
