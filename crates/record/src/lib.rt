@@ -5,7 +5,7 @@ ghost use lib.ListN.{length, take, drop};
 ghost use Rattle.codes.specs.Form.{formOf};
 ghost use Rattle.layout.specs.Columns.{total};
 ghost use Rattle.field.specs.Field.{mayBlank, fieldNumber};
-ghost use Rattle.record_table.specs.Records.{recordOf, dataRow, fieldList};
+ghost use Rattle.record_table.specs.Records.{dataForm, unitFactors, recordOf, dataRow, fieldList};
 ghost use Rattle.record.specs.Check.{fieldsFault, firstNonBlank, strayIn, stray, fieldsRefusal, conditionFault, rowRefusal};
 use codes::LAST_FORM;
 use codes::REAL;
@@ -130,7 +130,7 @@ fn check_columns(line: &[u8; 80], forms: &[u8], widths: &[u8]) -> Refusal
 
 // 58's line 7: with spacing 0 the minimum and the increment must be zero, or 14 at the earlier of them that is not.
 fn check_data_form(line: &[u8; 80]) -> Refusal
-    ensures { λ r. ⌜ r ≡ conditionFault (recordOf 3) (now (line .entry)) ⌝ }
+    ensures { λ r. ⌜ r ≡ conditionFault (recordOf dataForm) (now (line .entry)) ⌝ }
 {
     let columns: &[u8] = line;
     if field::is_zero_integer(&columns[20..30]) {
@@ -153,7 +153,7 @@ fn check_data_form(line: &[u8; 80]) -> Refusal
 
 // 164's factors: each must be above zero, or 14 at the first that is not.
 fn check_factors(line: &[u8; 80]) -> Refusal
-    ensures { λ r. ⌜ r ≡ conditionFault (recordOf 10) (now (line .entry)) ⌝ }
+    ensures { λ r. ⌜ r ≡ conditionFault (recordOf unitFactors) (now (line .entry)) ⌝ }
 {
     let columns: &[u8] = line;
     if field::is_above_zero(&columns[0..25]) {

@@ -97,12 +97,15 @@ records =
     ∷ plain (E 15 ∷ E 15 ∷ E 15 ∷ E 15 ∷ E 15 ∷ [])
     ∷ []
 
--- 58's line 7, 82's entries and 1815's lists, by number
+-- 58's line 7, 82's entries, 164's factors and 1815's lists, by number
 abbrev pub dataForm : ℕ
 dataForm = 3
 
 abbrev pub traceEntries : ℕ
 traceEntries = 6
+
+abbrev pub unitFactors : ℕ
+unitFactors = 10
 
 abbrev pub orderLists : ℕ
 orderLists = 29

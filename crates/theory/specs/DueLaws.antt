@@ -5,7 +5,7 @@ use Prim.Native.Nat.{_*_}
 use lib.ListN.{length}
 use Rattle.layout.specs.Layout.{layouts, layoutOf, numbersOf}
 use Rattle.record_table.specs.Row.{Row}
-use Rattle.record_table.specs.Records.{records, recordOf, dataRow}
+use Rattle.record_table.specs.Records.{records, recordOf, dataRow, orderLists}
 use Rattle.theory.specs.Due.{linesFor, numberRows, rowsHolding}
 
 -- "data lines, all full but the last, which holds only what is left": the fields of the lines of eight numbers in case 1
@@ -19,6 +19,6 @@ unfolding numbersOf layoutOf layouts
 three-in-case-3 = refl
 
 -- 1815: "no line at all for a count of 0"
-pub no-orders : length (rowsHolding (recordOf 29) 0) ≡ 0
+pub no-orders : length (rowsHolding (recordOf orderLists) 0) ≡ 0
 unfolding linesFor numberRows recordOf records
 no-orders = refl
