@@ -30,7 +30,7 @@ use Rattle.header.specs.HeaderLaws.{over-refused}
 use Rattle.parts.specs.Parts.{columnsIn}
 use Rattle.rewriter.specs.Rewriter.{headText, plainNumber}
 use Rattle.rewriter.specs.Fair.{plainDelimiter}
-use Rattle.writer_laws.specs.HeaderRun.{Passed, Stood, Taken, Met, ended}
+use Rattle.writer_laws.specs.HeaderRun.{Passed, Stood, Taken, Met, ended, Met.taken, Met.stopped}
 use Rattle.writer_laws.specs.HeaderRunLaws.{not-closed, after-stood, line-met, opened-stood, header-passed}
 use Rattle.writer_laws.specs.LentLaws.{cut-after, over-line, cut-head, opens, numbered}
 use Rattle.writer_laws.specs.HeaderRefused.{twelfthNumber}

@@ -188,5 +188,5 @@ after-burst-spec 𝓤 H 𝓜 𝓖 𝓡 =
     entered 𝓤 H (tripleOf 𝓤 H (𝓖 .A) after-burst.signature (after-burst.spec 𝓤 H (𝓖 .A) (𝓜 .mem) (𝓡 .run)))
     (tables 𝓤 H 𝓜 𝓡 code.env .C) (tables 𝓤 H 𝓜 𝓡 code.env .Λ) #after-burst code.function (code.unfolded 𝓤 H 𝓜 𝓡)
     (after-burst-meets 𝓤 H (𝓖 .A) (givenOf 𝓤 H 𝓜 𝓖) (𝓜 .mem) (𝓡 .run) (tablesOf 𝓤 H 𝓜 (tables 𝓤 H 𝓜 𝓡 code.env))
-    (cited 𝓤 H (BurstC 𝓤 H (𝓖 .A) (𝓜 .mem) (𝓡 .run)) 𝓜 𝓡 code.env #burst burst-def.routine code.calls-standing·burst (burst-thm.met 𝓤 H 𝓜 𝓖 𝓡))
-    (cited 𝓤 H (MadeC 𝓤 H (𝓖 .A) (𝓜 .mem) (𝓡 .run)) 𝓜 𝓡 code.env #made made-def.routine code.calls-standing·with-answer (made-thm.met 𝓤 H 𝓜 𝓖 𝓡)))
+    (cited 𝓤 H (BurstC 𝓤 H (𝓖 .A) (𝓜 .mem) (𝓡 .run)) 𝓜 𝓡 code.env #burst burst-def.routine code.calls-stream-mut·burst (burst-thm.met 𝓤 H 𝓜 𝓖 𝓡))
+    (cited 𝓤 H (MadeC 𝓤 H (𝓖 .A) (𝓜 .mem) (𝓡 .run)) 𝓜 𝓡 code.env #made made-def.routine code.calls-stream-mut·with-answer (made-thm.met 𝓤 H 𝓜 𝓖 𝓡)))
