@@ -66,6 +66,9 @@ bool is_standard(const char *name);
 const char *shown_name(const char *name);
 int open_input(const char *name);
 void close_input(const char *name, int fd);
+
+/* After a read or a write that failed: whether it is to be tried again. Where it would have had to wait, this waits. */
+bool is_ready(int fd, short event);
 ssize_t read_some(int fd, uint8_t *to, size_t room);
 
 /* Reads a file, or says what is wrong with it and keeps no room. */

@@ -3,6 +3,7 @@
 
 #include <errno.h>
 #include <fcntl.h>
+#include <poll.h>
 #include <stdlib.h>
 #include <string.h>
 #include <unistd.h>
@@ -28,12 +29,20 @@ void close_input(const char *name, int fd)
         close(fd);
 }
 
+bool is_ready(int fd, short event)
+{
+    struct pollfd one = {fd, event, 0};
+    if (errno == EINTR)
+        return true;
+    return (errno == EAGAIN || errno == EWOULDBLOCK) && (poll(&one, 1, -1) > 0 || errno == EINTR);
+}
+
 ssize_t read_some(int fd, uint8_t *to, size_t room)
 {
     ssize_t n;
     do
         n = read(fd, to, room);
-    while (n < 0 && errno == EINTR);
+    while (n < 0 && is_ready(fd, POLLIN));
     return n;
 }
 

@@ -3,6 +3,7 @@
 
 #include <errno.h>
 #include <fcntl.h>
+#include <poll.h>
 #include <signal.h>
 #include <stdlib.h>
 #include <string.h>
@@ -12,20 +13,25 @@
 #include <sys/xattr.h>
 #endif
 
-/* Where a file is put: the path, with no link at its end, the folder, with its slash, and the file there, if any. */
+/*
+ * Where a file is put: the path, with no link at its end, the folder, with its slash, and the file there, if any; and
+ * whether it is the folder that keeps it from being put there.
+ */
 struct place {
     char *path;
     char folder[4200];
     bool is_new;
+    bool is_shut;
     struct stat old;
 };
 
-/* What the new file could not be given: the error, or 0. */
+/* What the new file could not be given: the error, or 0; and whether the old one had bits that no rewritten file gets. */
 struct lost {
     int owner;
     int group;
     int list;
     int mode;
+    bool special;
 };
 
 /* What became of it. Where it failed, errno says why. */
@@ -35,7 +41,7 @@ bool write_all(int fd, const uint8_t *bytes, size_t count)
 {
     while (count > 0) {
         ssize_t n = write(fd, bytes, count);
-        if (n < 0 && errno == EINTR)
+        if (n < 0 && is_ready(fd, POLLOUT))
             continue;
         if (n < 0)
             return false;
@@ -84,6 +90,7 @@ static bool keep_access(int fd, const struct place *p, struct lost *lost)
         mode &= 0700;
     if (fchmod(fd, mode) != 0)
         lost->mode = errno;
+    lost->special = (p->old.st_mode & 07000) != 0;
     return true;
 }
 
@@ -186,7 +193,8 @@ static const char *find_place(const char *name, struct place *p)
 {
     bool is_link;
     p->is_new = lstat(name, &p->old) != 0;
-    if (p->is_new && errno != ENOENT)
+    p->is_shut = p->is_new && errno == EACCES;
+    if (p->is_new && errno != ENOENT && !p->is_shut)
         return strerror(errno);
     is_link = !p->is_new && S_ISLNK(p->old.st_mode);
     p->path = is_link ? realpath(name, NULL) : strdup(name);
@@ -198,7 +206,10 @@ static const char *find_place(const char *name, struct place *p)
         return strerror(EISDIR);
     if (!S_ISREG(p->old.st_mode))
         return "Not a regular file";
-    return access(p->path, W_OK) == 0 ? NULL : strerror(errno);
+    if (access(p->path, W_OK) == 0)
+        return NULL;
+    p->is_shut = errno == EROFS;
+    return p->is_shut ? NULL : strerror(errno);
 }
 
 /* Finds the folder of the path. Gives what is wrong with it, or NULL. */
@@ -213,8 +224,13 @@ static const char *find_folder(struct place *p)
 /* Puts the bytes at a place that was found, and says what went wrong. Gives the exit status. */
 static int put(const char *name, const struct place *p, const uint8_t *bytes, size_t count)
 {
-    struct lost lost = {0, 0, 0, 0};
-    enum outcome outcome = replace(p, bytes, count, &lost);
+    struct lost lost = {0, 0, 0, 0, false};
+    enum outcome outcome;
+    if (p->is_shut) {
+        tell(p->folder, "the folder cannot be written", p->is_new ? EACCES : EROFS);
+        return TROUBLE;
+    }
+    outcome = replace(p, bytes, count, &lost);
     if (outcome == FILE_FAILED)
         return trouble(name, strerror(errno));
     if (outcome == FOLDER_FAILED) {
@@ -230,6 +246,8 @@ static int put(const char *name, const struct place *p, const uint8_t *bytes, si
         tell(name, "the access list is not kept, and group and others may not use the file", lost.list);
     if (lost.mode != 0)
         tell(name, "the mode is not set", lost.mode);
+    if (lost.special)
+        tell(name, "set-user-ID, set-group-ID and sticky are not kept", 0);
     return ACCEPTED;
 }
 

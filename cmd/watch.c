@@ -109,12 +109,13 @@ static bool take_in(struct watch *w, int fd)
     return true;
 }
 
-/* A regular file that is followed: its name, as it is open, which one it is, and the system's notice of it. */
+/* A regular file that is followed: its name, as it is open, which one it is, when it was written last, and the system's notice of it. */
 struct followed {
     const char *name;
     int fd;
     dev_t device;
     ino_t inode;
+    struct timespec written;
     int notice;
 };
 
@@ -142,8 +143,8 @@ static void wait_for_notice(int notice, int64_t due)
     int64_t left = due - now();
     if (left > LOOK)
         left = LOOK;
-    if (poll(&input, 1, left > 0 ? (int)left : 0) > 0)
-        read_some(notice, events, sizeof events);
+    if (poll(&input, 1, left > 0 ? (int)left : 0) > 0 && read(notice, events, sizeof events) < 0)
+        return;
 }
 
 /* What a look at a file finds. */
@@ -168,11 +169,23 @@ static bool is_same(const struct followed *f, const struct stat *s)
     return s->st_dev == f->device && s->st_ino == f->inode;
 }
 
+/* Whether the file was written since it was asked last, in place too. */
+static bool was_written(struct followed *f)
+{
+    struct stat s;
+    struct timespec before = f->written;
+    if (fstat(f->fd, &s) != 0)
+        return false;
+    f->written = s.st_mtim;
+    return s.st_mtim.tv_sec != before.tv_sec || s.st_mtim.tv_nsec != before.tv_nsec;
+}
+
 static void attach(struct followed *f, int fd, const struct stat *s)
 {
     f->fd = fd;
     f->device = s->st_dev;
     f->inode = s->st_ino;
+    f->written = s->st_mtim;
     f->notice = ask_notice(f->name);
 }
 
@@ -240,11 +253,14 @@ static enum found look_at_end(const struct followed *f, struct watch *w)
     return ENDED;
 }
 
-/* Looks at a file that was read to its present end, and at all of it where that is to be its end. */
+/* Looks at a file that was read to its present end, and at all of it where that is to be its end and nobody writes meanwhile. */
 static enum found look(struct followed *f, struct watch *w, bool is_quiet)
 {
     enum found found = is_shorter(f->fd, w->total) ? SHORTER : look_at_name(f);
-    return found == NOTHING && is_quiet ? look_at_end(f, w) : found;
+    if (found != NOTHING || !is_quiet)
+        return found;
+    found = look_at_end(f, w);
+    return found == ENDED && was_written(f) ? MORE : found;
 }
 
 /* Says what became of a file, and watches it from its start. */
@@ -268,7 +284,7 @@ static bool follow(struct watch *w, struct followed *f)
             return false;
         if (room_left(w) == 0)
             return true;
-        if (w->total > before)
+        if (was_written(f) || w->total > before)
             last = now();
         found = look(f, w, now() - last >= quiet_time);
         if (found == ENDED || found == FAILED)
@@ -286,10 +302,17 @@ static bool follow(struct watch *w, struct followed *f)
     }
 }
 
+/* Whether the name is one of those that the system has for standard input. */
+static bool is_input(const char *name)
+{
+    return is_standard(name) || strcmp(name, "/dev/stdin") == 0 || strcmp(name, "/dev/fd/0") == 0 ||
+           strcmp(name, "/proc/self/fd/0") == 0;
+}
+
 /* Whether it is followed past its present end: a regular file that has a name of its own. */
 static bool is_followed(const char *name, const struct stat *s)
 {
-    return quiet_time > 0 && S_ISREG(s->st_mode) && !is_standard(name) && strcmp(name, "/dev/stdin") != 0;
+    return quiet_time > 0 && S_ISREG(s->st_mode) && !is_input(name);
 }
 
 /* Opens what is watched, and with -w waits until it is there. */
