@@ -89,7 +89,9 @@ module _ (file rows ys : List ℕ) (n at i : ℕ) (e : Extent) (t : Turn file n 
   pub rows-turn : take (i + 6) laid ++ rowsOf (remaining file (e .through) (e .past)) ≡ take i rows ++ rowsOf (remaining file n at)
   rows-turn =
       rw (laid-parts, take-at (take i rows ++ ys) (drop (i + 6) rows) (i + 6) laid-length, y, entryAt-own file n at e t, append-assoc)
-      (ap (λ (x : List ℕ). take i rows ++ x) (ap (λ (x : List Part). entry (t .first .set) ++ rowsOf x) (sym (t .others)) ∙ sym (rowsOf-cons (remaining file n at) (t .first .set) (t .first .others) (t .first .sets))))
+      (ap (λ (x : List ℕ). take i rows ++ x)
+      (ap (λ (x : List Part). entry (t .first .set) ++ rowsOf x) (sym (t .others))
+      ∙ sym (rowsOf-cons (remaining file n at) (t .first .set) (t .first .others) (t .first .sets))))
 
   pub rows-kept : (rows₀ : List ℕ) → drop i rows ≡ drop i rows₀ → drop (i + 6) laid ≡ drop (i + 6) rows₀
   rows-kept rows₀ k =
@@ -162,11 +164,15 @@ module _ (file before : List ℕ) (r : Reply) (j : r ≡ judged file) where
     unfolding listReply listRows
     list-short h =
         let l : length before < 6 * length (partsOf file) = rw q at h in
-        (rw (le-ltb 0 (judged file .number) accepted, lt-ltb (length before) (6 * length (partsOf file)) l) refl, rw (le-ltb 0 (judged file .number) accepted, lt-ltb (length before) (6 * length (partsOf file)) l) refl)
+        let none = le-ltb 0 (judged file .number) accepted in
+        let short = lt-ltb (length before) (6 * length (partsOf file)) l in
+        (rw (none, short) refl, rw (none, short) refl)
 
     pub list-done : (rows : List ℕ) → 6 * k ≤ length before → rows ≡ rowsOf (partsOf file) ++ drop (6 * length (partsOf file)) before
         → Listed file before (reply 0 k) rows
     unfolding listReply listRows
     list-done rows h e =
         let l : 6 * length (partsOf file) ≤ length before = rw q at h in
-        (rw (le-ltb 0 (judged file .number) accepted, le-ltb (length before) (6 * length (partsOf file)) l, q) refl, rw (le-ltb 0 (judged file .number) accepted, le-ltb (length before) (6 * length (partsOf file)) l) e)
+        let none = le-ltb 0 (judged file .number) accepted in
+        let room = le-ltb (length before) (6 * length (partsOf file)) l in
+        (rw (none, room, q) refl, rw (none, room) e)

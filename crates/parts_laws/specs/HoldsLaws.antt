@@ -159,7 +159,10 @@ lines-stand (Lines.more {s} {ss} first numbered last before body later b d v l c
     let ll : SetLines s (columnsOf (a .own)) = subst (SetLines s) (sym (a .of-own)) l in
     let cc′ : Delimiter (filled (columns true (a .closing))) = subst (λ (x : List ℕ). Delimiter (filled x)) (sym (a .of-closing)) c in
     let f : partsFrom outside n at (a .blanks ++ (a .opening ∷ a .numbered ∷ (a .own ++ (a .closing ∷ a .later)))) ≡ p ∷ partsFrom outside (throughOf p) (pastOf p) (a .later)
-    = first-part n at (a .blanks) (a .opening) (a .numbered) (a .own) (a .closing) (a .later) p (blank-open (a .blanks) bb) (line-closes (a .opening) dd) (inside-open (a .own) (set-none ll)) (line-closes (a .closing) cc′) refl in
+    = first-part n at (a .blanks) (a .opening) (a .numbered) (a .own) (a .closing) (a .later) p
+    (blank-open (a .blanks) bb) (line-closes (a .opening) dd) (inside-open (a .own) (set-none ll)) (line-closes (a .closing) cc′) refl in
     let t : AtPlaces n at (s ∷ ss) (p ∷ partsFrom outside (throughOf p) (pastOf p) (a .later)) (a .blanks ++ (a .opening ∷ a .numbered ∷ (a .own ++ (a .closing ∷ a .later))))
-    = AtPlaces.more (a .blanks) (a .later) bb refl refl (record { opening = dd; number = vv; lines = ll; closing = cc′; short = own }) (lines-stand w past (throughOf p) (pastOf p) (a .later) (a .of-later)) in
-    subst (λ (x : List (List ℕ)). AtPlaces n at (s ∷ ss) (partsFrom outside n at x) x) (sym (a .whole)) (subst (λ (x : List Part). AtPlaces n at (s ∷ ss) x (a .blanks ++ (a .opening ∷ a .numbered ∷ (a .own ++ (a .closing ∷ a .later))))) (sym f) t)
+    = AtPlaces.more (a .blanks) (a .later) bb refl refl (record { opening = dd; number = vv; lines = ll; closing = cc′; short = own })
+    (lines-stand w past (throughOf p) (pastOf p) (a .later) (a .of-later)) in
+    subst (λ (x : List (List ℕ)). AtPlaces n at (s ∷ ss) (partsFrom outside n at x) x) (sym (a .whole))
+    (subst (λ (x : List Part). AtPlaces n at (s ∷ ss) x (a .blanks ++ (a .opening ∷ a .numbered ∷ (a .own ++ (a .closing ∷ a .later))))) (sym f) t)

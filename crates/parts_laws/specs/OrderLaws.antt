@@ -69,14 +69,18 @@ module _ {s : Set} {p : Parts.Part} (h : Holds s p) (e : s .number ≡ 58) where
   pub record Seated (j : ℕ) : Type 0 where
     pub line : headerLines + lineOf (fieldsOf (Function.partCase p)) j < length (p .body)
     pub past : fieldPast (layoutOf (Function.partCase p) .widths) (fieldOf (fieldsOf (Function.partCase p)) j) ≤ length (getD (p .body) (headerLines + lineOf (fieldsOf (Function.partCase p)) j) [])
-    pub some : fieldStart (layoutOf (Function.partCase p) .widths) (fieldOf (fieldsOf (Function.partCase p)) j) < fieldPast (layoutOf (Function.partCase p) .widths) (fieldOf (fieldsOf (Function.partCase p)) j)
+    pub some : fieldStart (layoutOf (Function.partCase p) .widths) (fieldOf (fieldsOf (Function.partCase p)) j)
+        < fieldPast (layoutOf (Function.partCase p) .widths) (fieldOf (fieldsOf (Function.partCase p)) j)
 
   pub body-length : length (p .body) ≡ headerLines + linesFor (fieldsOf (setCase s)) (storedCount s)
   body-length = sym (length-map (p .body) (columns true)) ∙ set-data (h .lines) e .count
 
   start-rise : (k : ℕ) → Parts.lineStart p headerLines ≤ Parts.lineStart p (headerLines + k)
   unfolding Parts.lineStart
-  start-rise k = let m : Parts.bytesIn (take headerLines (p .body)) ≤ Parts.bytesIn (take (headerLines + k) (p .body)) = bytesIn-rise headerLines (headerLines + k) (p .body) (omega arith) in omega arith
+  start-rise k =
+      let b : List (List ℕ) = p .body in
+      let m : Parts.bytesIn (take headerLines b) ≤ Parts.bytesIn (take (headerLines + k) b) = bytesIn-rise headerLines (headerLines + k) b (omega arith) in
+      omega arith
 
   pub seated : (j : ℕ) → j < storedCount s → Seated j
   unfolding ownColumns Parts.lineOf fieldPast
@@ -88,7 +92,11 @@ module _ {s : Set} {p : Parts.Part} (h : Holds s p) (e : s .number ≡ 58) where
       let x : Spelled (storedItem s j) (ownColumns (Function.partCase p) p j) = subst (λ (y : ℕ). Spelled (storedItem s j) (ownColumns y p j)) (sym q) (stored-spelled h e j l) in
       let v = realOf-complete (x .spelling) in
       let w : 0 < getD (layoutOf (Function.partCase p) .widths) (fieldOf (fieldsOf (Function.partCase p)) j) 0 = value-some _ _ _ v in
-      let r = reaches (columns true (getD (p .body) (headerLines + lineOf (fieldsOf (Function.partCase p)) j) [])) (fieldStart (layoutOf (Function.partCase p) .widths) (fieldOf (fieldsOf (Function.partCase p)) j)) (getD (layoutOf (Function.partCase p) .widths) (fieldOf (fieldsOf (Function.partCase p)) j) 0) _ (fieldPast-inside (Function.partCase p) (fieldOf (fieldsOf (Function.partCase p)) j)) v in
+      let c : ℕ = Function.partCase p in
+      let row : List ℕ = getD (p .body) (headerLines + lineOf (fieldsOf c) j) [] in
+      let k : ℕ = fieldOf (fieldsOf c) j in
+      let ws : List ℕ = layoutOf c .widths in
+      let r = reaches (columns true row) (fieldStart ws k) (getD ws k 0) _ (fieldPast-inside c k) v in
       record {
         line = omega (arith, body-length);
         past = omega (arith, r, columns-within true (getD (p .body) (headerLines + lineOf (fieldsOf (Function.partCase p)) j) []));
@@ -110,8 +118,9 @@ module _ {s : Set} {p : Parts.Part} (h : Holds s p) (e : s .number ≡ 58) where
   columns-apart i j o l =
       let b : 0 < length (layoutOf (Function.partCase p) .widths) = subst (λ (y : ℕ). 0 < length (layoutOf y .widths)) (sym (case-held h e)) (fieldsOf-some (setCase s) (stored-case s j l)) in
       let t = seated i (omega arith) in
+      let n : ℕ = length (layoutOf (Function.partCase p) .widths) in
       ⊎-elim
-      (λ q. omega (arith, t .past, lines-apart p (headerLines + lineOf (length (layoutOf (Function.partCase p) .widths)) i) (headerLines + lineOf (length (layoutOf (Function.partCase p) .widths)) j) (t .line) (omega arith)))
+      (λ q. omega (arith, t .past, lines-apart p (headerLines + lineOf n i) (headerLines + lineOf n j) (t .line) (omega arith)))
       (λ q. rw (q .0) (omega (arith, q .1)))
       (stored-apart (layoutOf (Function.partCase p) .widths) i j b o)
 

@@ -107,7 +107,8 @@ module _ (iss : List (List Item)) (css : List (List ℕ)) (c total : ℕ) (e : l
   typed-data : (k : ℕ) → k < linesFor (fieldsOf c) total → Written (firstFields (total - k * fieldsOf c) (dataRow c)) (getD iss (headerLines + k) []) (filled (getD css (headerLines + k) []))
   typed-data k h =
       let m : k < linesFor (length (dataRow c .fields)) total = rw (dataRow-length c) h in
-      rw (dataRow-length c) at (subst (λ (r : Row). Written r (getD iss (headerLines + k) []) (filled (getD css (headerLines + k) []))) (data-row iss c total e k m) (typed-line (headerLines + k) l (data-rows iss c total e k m)))
+      let w = typed-line (headerLines + k) l (data-rows iss c total e k m) in
+      rw (dataRow-length c) at (subst (λ (r : Row). Written r (getD iss (headerLines + k) []) (filled (getD css (headerLines + k) []))) (data-row iss c total e k m) w)
 
   typed-count : length css ≡ headerLines + linesFor (fieldsOf c) total
   unfolding setRows kindOf sequence typedSets
@@ -130,5 +131,5 @@ stored-spelled {s} {p} h e j l =
     let d = set-data (h .lines) e in
     let q : lineOf (fieldsOf (setCase s)) j * fieldsOf (setCase s) + fieldOf (fieldsOf (setCase s)) j ≡ j = stored-at (fieldsOf (setCase s)) j in
     rw (lineOf-columns p (headerLines + lineOf (fieldsOf (setCase s)) j))
-    (data-field (filled (getD (columnsOf (p .body)) (headerLines + lineOf (fieldsOf (setCase s)) j) [])) (setCase s) (storedCount s - lineOf (fieldsOf (setCase s)) j * fieldsOf (setCase s)) (fieldOf (fieldsOf (setCase s)) j) (getD (s .lines) (headerLines + lineOf (fieldsOf (setCase s)) j) [])
-    (d .written (lineOf (fieldsOf (setCase s)) j) (line-enough (fieldsOf (setCase s)) (storedCount s) j b l)) (omega arith) (fieldOf-inside (fieldsOf (setCase s)) j b))
+    (data-field (filled (getD (columnsOf (p .body)) (headerLines + k) [])) (setCase s) (storedCount s - k * n) (fieldOf n j) (getD (s .lines) (headerLines + k) [])
+    (d .written k (line-enough n (storedCount s) j b l)) (omega arith) (fieldOf-inside (fieldsOf (setCase s)) j b))

@@ -73,6 +73,7 @@ part-bytes bytes k p qs s e =
     = sym (cut-joined bytes) ∙ ap (λ (x : List (List ℕ)). joined x (cut bytes .rest)) (c .whole)
     ∙ joined-append (c .before) (linesOf p ++ c .after) (cut bytes .rest) ∙ rw (joined-append (linesOf p) (c .after) (cut bytes .rest)) refl in
     let a : length (joined (c .before) []) ≡ p .bytes = joined-length (c .before) ∙ omega (arith, c .bytes) in
-    let d : drop (p .bytes) bytes ≡ joined (linesOf p) [] ++ joined (c .after) (cut bytes .rest) = ap (drop (p .bytes)) t ∙ drop-at (joined (c .before) []) (joined (linesOf p) [] ++ joined (c .after) (cut bytes .rest)) (p .bytes) a in
+    let d : drop (p .bytes) bytes ≡ joined (linesOf p) [] ++ joined (c .after) (cut bytes .rest)
+    = ap (drop (p .bytes)) t ∙ drop-at (joined (c .before) []) (joined (linesOf p) [] ++ joined (c .after) (cut bytes .rest)) (p .bytes) a in
     let w : length (joined (linesOf p) []) ≡ (p .bytes + bytesIn (linesOf p)) - p .bytes = joined-length (linesOf p) ∙ omega arith in
     rw d (take-at (joined (linesOf p) []) (joined (c .after) (cut bytes .rest)) ((p .bytes + bytesIn (linesOf p)) - p .bytes) w)

@@ -92,13 +92,15 @@ module _ {s : Set} {p : Parts.Part} (file : List ℕ) (ps : List Parts.Part) (w 
   columns-at m = List·getD-map (columns true) (p .body) m []
 
   -- a column of a data line that is no blank is a stored number's
-  owned-column : (k a : ℕ) → headerLines + k < length (p .body) → (getD (filled (columns true (getD (p .body) (headerLines + k) []))) a 32 ≡ 32 → ⊥) → Owned p (storedCount s) (Parts.lineStart p (headerLines + k) + a)
+  owned-column : (k a : ℕ) → headerLines + k < length (p .body) → (getD (filled (columns true (getD (p .body) (headerLines + k) []))) a 32 ≡ 32 → ⊥)
+      → Owned p (storedCount s) (Parts.lineStart p (headerLines + k) + a)
   unfolding Function.firstByte Function.pastByte Function.dataLine fieldsOf
   owned-column k a l n =
       let q : Function.partCase p ≡ setCase s = case-held h e in
       let d = set-data (h .lines) e in
       let y = d .written k (omega (arith, body-length h e)) in
-      let c = data-covered (filled (getD (columnsOf (p .body)) (headerLines + k) [])) (setCase s) (storedCount s - k * fieldsOf (setCase s)) (getD (s .lines) (headerLines + k) []) y a (λ z. n (rw (columns-at (headerLines + k)) at z)) in
+      let row : List ℕ = filled (getD (columnsOf (p .body)) (headerLines + k) []) in
+      let c = data-covered row (setCase s) (storedCount s - k * fieldsOf (setCase s)) (getD (s .lines) (headerLines + k) []) y a (λ z. n (rw (columns-at (headerLines + k)) at z)) in
       let f : ℕ = c .0 .field in
       let g = stored-place (length (layoutOf (setCase s) .widths)) k (c .0 .field) (c .0 .some) in
       let j : ℕ = c .0 .field + k * length (layoutOf (setCase s) .widths) in
@@ -142,6 +144,8 @@ module _ {s : Set} {p : Parts.Part} (file : List ℕ) (ps : List Parts.Part) (w 
       → Owned p (storedCount s) x
   byte-owned x a b blank lf cr =
       let i = line-of x a b in
-      let g : headerLines ≤ i .line = ⊎-elim (λ (q : i .line < headerLines). absurd (omega (arith, lines-apart p (i .line) headerLines (i .some) q, line-past x i))) (λ (q : headerLines ≤ i .line). q) (below-or-not (i .line) headerLines) in
+      let g : headerLines ≤ i .line
+      = ⊎-elim (λ (q : i .line < headerLines). absurd (omega (arith, lines-apart p (i .line) headerLines (i .some) q, line-past x i)))
+      (λ (q : headerLines ≤ i .line). q) (below-or-not (i .line) headerLines) in
       let z : Parts.lineStart p (i .line) + (x - Parts.lineStart p (i .line)) ≡ x = omega (arith, line-from x i) in
       rw z at (owned-at (i .line) (x - Parts.lineStart p (i .line)) g (i .some) (omega (arith, line-past x i)) (rw z blank) (rw z lf) (rw z cr))

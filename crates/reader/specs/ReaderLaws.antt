@@ -127,7 +127,9 @@ module _ (file : List ℕ) (p : Part) (ps : List Part) (s : Somewhere file p ps)
 
   value-by : (t : Bool) (i : ℕ) → isFunction p && ltb (partCase p) 8 ≡ t → valueBy file (pick t own nothing) i ≡ valueFrom file (p ∷ ps) i
   unfolding valueBy valueAt valueWith valuesIn
-  value-by true i e = rw (and-right (isFunction p) (ltb (partCase p) 8) e, reads-same (realAt file own) (realIn file p) (i * numbersOf (partCase p)) (i * numbersOf (partCase p)) (numbersOf (partCase p)) (λ r l. real-own (i * numbersOf (partCase p) + r))) refl
+  value-by true i e =
+      let n : ℕ = numbersOf (partCase p) in
+      rw (and-right (isFunction p) (ltb (partCase p) 8) e, reads-same (realAt file own) (realIn file p) (i * n) (i * n) n (λ r l. real-own (i * n + r))) refl
   value-by false i e = rw (values-none p e, le-ltb i 0 (omega arith)) refl
 
   inside-by : (t : Bool) → isFunction p && ltb (partCase p) 8 ≡ t → ((pick t own nothing) .body ≤ length file) × ((pick t own nothing) .case < 8)

@@ -163,7 +163,9 @@ module _ (file : List ℕ) (n at : ℕ) (e : Extent) where
 pub turn-length : (file : List ℕ) (n at : ℕ) (e : Extent) → Turn file n at e
     → length (rewritten (remaining file n at)) ≡ (length (bodyText (e .closing) (e .body) file) + 21) + length (rewritten (remaining file (e .through) (e .past)))
 turn-length file n at e t =
-    omega (arith, ap length (turn-text file n at e t), length-append (setText (e .number) (linesIn (e .closing) (e .body) file)) (rewritten (remaining file (e .through) (e .past))), setText-length (e .number) (linesIn (e .closing) (e .body) file))
+    let ls : List (List ℕ) = linesIn (e .closing) (e .body) file in
+    let rest : List ℕ = rewritten (remaining file (e .through) (e .past)) in
+    omega (arith, ap length (turn-text file n at e t), length-append (setText (e .number) ls) rest, setText-length (e .number) ls)
 
 -- the set that stands there, put into the buffer
 module _ (file out : List ℕ) (fits : length (rewrittenFile file) ≤ length out) (n at : ℕ) (e : Extent) (t : Turn file n at e) (past : ℕ) (now : List ℕ)

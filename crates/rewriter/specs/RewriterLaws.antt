@@ -18,7 +18,8 @@ use Rattle.delimiter.specs.Kind.{isDelimiter, thenBlank}
 use Rattle.parts.specs.Parts.{closes, part, PartState, outside, opened, inside, partsFrom, partsOf}
 use Rattle.output.specs.Output.{ended}
 use Rattle.rewriter.specs.Rewriter.{keptOf, linesText}
-use Rattle.rewriter.specs.Fair.{Fair, FairLines, FairLines.none as no-line, FairLines.more as line, Inner, Inner.none as empty, Inner.more as inner, FairSets, FairSets.none as no-set, FairSets.more as set, FairStand, plainDelimiter}
+use Rattle.rewriter.specs.Fair.{Fair, FairLines, FairLines.none as no-line, FairLines.more as line}
+use Rattle.rewriter.specs.Fair.{Inner, Inner.none as empty, Inner.more as inner, FairSets, FairSets.none as no-set, FairSets.more as set, FairStand, plainDelimiter}
 
 -- such a line is refused for nothing by itself
 pub fair-passed : (l : List ℕ) → lineFault true (columns true l) ≡ passed → Fair l
@@ -38,7 +39,10 @@ pub filled-text : {t l : List ℕ} → TextIn t l → length l ≤ 80 → filled
 filled-text (text-in {t} bl u b) h =
     let n : length (t ++ bl) ≡ length t + length bl = length-append t bl in
     let k : 80 - length t ≡ length bl + (80 - length (t ++ bl)) = omega arith in
-    filled-short t (omega arith) ∙ rw k (sym (filled-short (t ++ bl) h ∙ append-assoc t bl _ ∙ ap (λ (x : List ℕ). t ++ x) (ap (λ (x : List ℕ). x ++ replicate (80 - length (t ++ bl)) 32) (blanks-all b) ∙ replicate-append-replicate {A = ℕ} (length bl) (80 - length (t ++ bl)) 32)))
+    let m : ℕ = 80 - length (t ++ bl) in
+    let blanks : bl ++ replicate m 32 ≡ replicate (length bl + m) 32
+    = ap (λ (x : List ℕ). x ++ replicate m 32) (blanks-all b) ∙ replicate-append-replicate {A = ℕ} (length bl) m 32 in
+    filled-short t (omega arith) ∙ rw k (sym (filled-short (t ++ bl) h ∙ append-assoc t bl _ ∙ ap (λ (x : List ℕ). t ++ x) blanks))
 
 module _ (l : List ℕ) (f : Fair l) where
   pub kept-allowed : Allowed (keptOf l)

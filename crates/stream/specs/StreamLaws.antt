@@ -26,7 +26,8 @@ use Rattle.judge.specs.JudgeLaws.{over-refused}
 use Rattle.judge.specs.Refusal.{LineNumber}
 use Rattle.judge.specs.LinesLaws.{one-run, one-more, outcome-number, judged-number}
 use Rattle.stream.specs.declared.Stream.{Stream}
-use Rattle.stream.specs.Stream.{push, pushAll, squeezed, Seen, inLimit, past, kept, stepOf, isStrange, isPast, openLen, openOf, seen, Stepped, closed, freshRecord, judgedOn, atTotal, Running, OpenJudged, Open, made}
+use Rattle.stream.specs.Stream.{push, pushAll, squeezed, Seen, inLimit, past, kept, stepOf, isStrange, isPast}
+use Rattle.stream.specs.Stream.{openLen, openOf, seen, Stepped, closed, freshRecord, judgedOn, atTotal, Running, OpenJudged, Open, made}
 use Rattle.stream.specs.SqueezeLaws.{push-append, squeezed-again, run-squeezed}
 
 or-left : (a b : Bool) → a || b ≡ false → a ≡ false
@@ -120,7 +121,8 @@ module _ (s : State) (n : ℕ) (q b : List ℕ) (total : ℕ) (o : Open q) (shor
   judged-still h = rw (cut-still q b o h) (ap (λ (x : List ℕ). inLimit (going s n) x total) (squeezed-more q b short))
 
   module _ (h : lineLen b < length b) where
-    first-line : judgedOn s n (q ++ b) total ≡ kept (over runStep (onOutcome n (lineStep s (pushAll q (take (lineLen b) b)))) (cut (drop (lineLen b + 1) b) .lines)) (cut (drop (lineLen b + 1) b) .rest) total
+    first-line : judgedOn s n (q ++ b) total
+        ≡ kept (over runStep (onOutcome n (lineStep s (pushAll q (take (lineLen b) b)))) (cut (drop (lineLen b + 1) b) .lines)) (cut (drop (lineLen b + 1) b) .rest) total
     unfolding judgedOn over
     first-line =
         rw (cut-first q b o h, ← squeezed-more q (take (lineLen b) b) short)
@@ -218,7 +220,8 @@ module _ (s : State) (n t : ℕ) (p : List ℕ) (h : ℕ) (limit : t ≤ 1677721
   made-refused k z = seen-refused (made s n k t p h) (not-past (made s n k t p h) limit few (line-known k z)) (omega (arith, z .0))
 
 -- a burst on a record that is neither past the limit nor refused: no LF comes, or the open line's end
-module _ (c : Stream) (b : List ℕ) (total : ℕ) (few : c .lines + length b ≤ total) (limit : total ≤ 16777216) (e : ℕ) (at : e ≡ lineLen b) (p : List ℕ) (h : ℕ) (m : h ≤ 82) (pushed : take h p ≡ pushAll (openOf c) (take e b)) where
+module _ (c : Stream) (b : List ℕ) (total : ℕ) (few : c .lines + length b ≤ total) (limit : total ≤ 16777216)
+    (e : ℕ) (at : e ≡ lineLen b) (p : List ℕ) (h : ℕ) (m : h ≤ 82) (pushed : take h p ≡ pushAll (openOf c) (take e b)) where
   pub burst-still : length b ≤ e → seen (made (c .state) (c .lines) 0 total p h) ≡ judgedOn (c .state) (c .lines) (openOf c ++ b) total
   burst-still l =
       let all : take e b ≡ b = take-all e b l in
@@ -365,7 +368,10 @@ module _ (c : Stream) (b : List ℕ) where
 
       pub stepped-going : (r : Stream) → c .number ≤ 0 → seen r ≡ judgedOn (c .state) (c .lines) (openOf c ++ b) total → r .ended ≡ false → Stepped c b r
       unfolding judgedOn
-      stepped-going r z q k = stepped r (q ∙ rw (t .within l .1) (sym (step-going c b stays (rw (t .within l .1) at l) (omega arith)))) (λ p. kept-within (over runStep (going (c .state) (c .lines)) (cut (openOf c ++ b) .lines)) (cut (openOf c ++ b) .rest) total (sym q ∙ p)) (k ∙ sym e)
+      stepped-going r z q k =
+          stepped r (q ∙ rw (t .within l .1) (sym (step-going c b stays (rw (t .within l .1) at l) (omega arith))))
+          (λ p. kept-within (over runStep (going (c .state) (c .lines)) (cut (openOf c ++ b) .lines)) (cut (openOf c ++ b) .rest) total (sym q ∙ p))
+          (k ∙ sym e)
 
 -- what a fresh record says
 pub fresh-says : (seen freshRecord ≡ inLimit (going start 0) [] 0) × (freshRecord .ended ≡ false)

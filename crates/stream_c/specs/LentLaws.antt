@@ -20,7 +20,8 @@ use Rattle.stream.specs.declared.Stream.{Stream}
 use Rattle.stream.specs.Stream.{seen, closed, Stepped, answerOf, paper, endReply, freshRecord}
 use Rattle.output.specs.Output.{placed}
 use Rattle.output.specs.OutputLaws.{placed-then, placed-first}
-use Rattle.stream_c.specs.Lent.{numbersRoom, lineRoom, placeOf, streamOf, placeNumbers, countNumbers, unusedNumbers, unusedBytes, byteOf, numbersOf, Fits, numbersAfter, lineAfter, isShort, startReply, startNumbers, startLine, endOf, endNumbers, Burst, same}
+use Rattle.stream_c.specs.Lent.{numbersRoom, lineRoom, placeOf, streamOf, placeNumbers, countNumbers, unusedNumbers, unusedBytes, byteOf, numbersOf, Fits}
+use Rattle.stream_c.specs.Lent.{numbersAfter, lineAfter, isShort, startReply, startNumbers, startLine, endOf, endNumbers, Burst, same}
 
 -- four numbers laid one after the other, and six
 pub four-laid : (l : List ℕ) → 4 ≤ length l → set (set (set (set l 0 0) 1 0) 2 0) 3 0 ≡ unusedNumbers ++ drop 4 l

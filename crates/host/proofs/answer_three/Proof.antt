@@ -46,7 +46,13 @@ returns-2 c =
     let at-bits2 = at-put-bytes2 .before in
     let at-put-bytes = at-bits2 .before .before .before .before in
     let at-bits = at-put-bytes .before in
-    answered _ _ _ _ (omega arith) (c .bare2 .ensures) (laid-three _ _ _ _ (at-bits .bits .ensures) (at-put-bytes .put-bytes .ensures) _ _ _ (at-bits2 .bits2 .ensures) (at-put-bytes2 .put-bytes2 .ensures) _ _ _ (at-bits3 .bits3 .ensures) (c .before .before .before .put-bytes3 .ensures))
+    let bits = at-bits .bits .ensures in
+    let put = at-put-bytes .put-bytes .ensures in
+    let bits2 = at-bits2 .bits2 .ensures in
+    let put2 = at-put-bytes2 .put-bytes2 .ensures in
+    let bits3 = at-bits3 .bits3 .ensures in
+    let put3 = c .before .before .before .put-bytes3 .ensures in
+    answered _ _ _ _ (omega arith) (c .bare2 .ensures) (laid-three _ _ _ _ bits put _ _ _ bits2 put2 _ _ _ bits3 put3)
 
 pub answer-three-spec : {M : Type 1} → statement M
 answer-three-spec =

@@ -38,7 +38,11 @@ returns-2 c =
     let at-bits2 = c .before .before .before .before in
     let at-put-bytes = at-bits2 .before .before .before .before in
     let at-bits = at-put-bytes .before in
-    answered _ _ _ _ (omega arith) (c .bare2 .ensures) (laid-two _ _ _ _ (at-bits .bits .ensures) (at-put-bytes .put-bytes .ensures) _ _ _ (at-bits2 .bits2 .ensures) (c .before .before .before .put-bytes2 .ensures))
+    let bits = at-bits .bits .ensures in
+    let put = at-put-bytes .put-bytes .ensures in
+    let bits2 = at-bits2 .bits2 .ensures in
+    let put2 = c .before .before .before .put-bytes2 .ensures in
+    answered _ _ _ _ (omega arith) (c .bare2 .ensures) (laid-two _ _ _ _ bits put _ _ _ bits2 put2)
 
 pub answer-two-spec : {M : Type 1} → statement M
 answer-two-spec =

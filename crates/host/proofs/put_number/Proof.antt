@@ -36,7 +36,12 @@ returns c =
     let at-put-bytes3 = at-scale-bits .before .before .before .before in
     let at-put-bytes2 = at-put-bytes3 .before .before .before .before in
     let at-put-bytes = at-put-bytes2 .before .before .before .before in
-    laid-number _ _ _ _ _ _ _ _ _ _ _ _ (at-put-bytes .put-bytes .ensures) (at-put-bytes2 .put-bytes2 .ensures) (at-put-bytes3 .put-bytes3 .ensures) (at-put-bytes4 .put-bytes4 .ensures ∙ rw (at-scale-bits .scale-bits .ensures) refl) (c .before .before .put-bytes5 .ensures ∙ rw (c .before .before .before .sign-byte .ensures) refl)
+    let first = at-put-bytes .put-bytes .ensures in
+    let second = at-put-bytes2 .put-bytes2 .ensures in
+    let third = at-put-bytes3 .put-bytes3 .ensures in
+    laid-number _ _ _ _ _ _ _ _ _ _ _ _ first second third
+    (at-put-bytes4 .put-bytes4 .ensures ∙ rw (at-scale-bits .scale-bits .ensures) refl)
+    (c .before .before .put-bytes5 .ensures ∙ rw (c .before .before .before .sign-byte .ensures) refl)
 
 pub put-number-spec : {M : Type 1} → statement M
 put-number-spec =

@@ -1,10 +1,12 @@
 -- `parts::next_set` meets its contract.
 use mathlib.Core.Path.{_≡_, _∙_}
+use mathlib.Core.List.{List}
 use Prim.{tt}
-use Prim.Native.Nat.{_≤_, _-_, _+_}
+use Prim.Native.Nat.{ℕ, _≤_, _-_, _+_}
 use lib.ListN.{length, drop}
 use Rattle.laws.specs.Cut.{cut, lineLen}
 use Rattle.line.specs.LineLaws.{lineLen-within}
+use Rattle.parts.specs.declared.Seen.{Seen}
 use Rattle.parts.specs.Parts.{outside, partsFrom}
 use Rattle.parts.specs.Scan.{firstOf, scanFrom}
 use Rattle.parts.specs.ScanLaws.{scan-parts, scan-closes, scan-next, scan-ends}
@@ -12,8 +14,16 @@ use borrow.Author.Needs.{needs}
 use Rattle.parts.proofs.next_set.Statement.{statement}
 use Rattle.parts.proofs.next_set.Tie as tie
 
+-- the lines before the byte at close no set, and the line there ends at the byte end
+record Going (file : List ℕ) (from before : ℕ) (s : Seen) (lines at end : ℕ) : Type 0 where
+  within : at ≤ length file
+  ends : end ≡ at + lineLen (drop at file)
+  inside : end ≤ length file
+  few : lines ≤ at
+  same : scanFrom s lines at (cut (drop at file) .lines) ≡ firstOf (partsFrom outside before from (cut (drop from file) .lines))
+
 abbrev Inv-loop : tie.InvT-loop
-Inv-loop file from before s₀ lines₀ at₀ end₀ s lines at end = (at ≤ length file) × ((end ≡ at + lineLen (drop at file)) × ((end ≤ length file) × ((lines ≤ at) × (scanFrom s lines at (cut (drop at file) .lines) ≡ firstOf (partsFrom outside before from (cut (drop from file) .lines))))))
+Inv-loop file from before s₀ lines₀ at₀ end₀ s lines at end = Going file from before s lines at end
 
 abbrev μ-loop : tie.MeasureT-loop
 μ-loop file from before s₀ lines₀ at₀ end₀ s lines at end = length file - at
@@ -22,7 +32,14 @@ find-end-requires : tie.Need-find-end-requires Inv-loop μ-loop
 find-end-requires c κs = search needs
 
 loop-holds : tie.Need-loop-holds Inv-loop μ-loop
-loop-holds c = (search needs, (c .find-end .ensures, (rw (c .find-end .ensures) (lineLen-within _ _ (search needs)), (search needs, scan-parts outside _ _ _ tt))))
+loop-holds c =
+    record {
+      within = search needs;
+      ends = c .find-end .ensures;
+      inside = rw (c .find-end .ensures) (lineLen-within _ _ (search needs));
+      few = search needs;
+      same = scan-parts outside _ _ _ tt;
+    }
 
 sub-closes-set : tie.Need-sub-closes-set Inv-loop μ-loop
 sub-closes-set c = search needs
@@ -46,7 +63,9 @@ returns : tie.Need-returns Inv-loop μ-loop
 returns c =
     let at-loop = c .before .before .before .before in
     let at-start = at-loop .before .before .before in
-    scan-closes _ _ (at-start .args .file .now) _ _ (at-loop .loop .inv .0) (at-loop .loop .inv .1 .0) _ (c .before .closes-set .ensures) (c .if1 .taken) (c .before .before .before .loop-test .taken) ∙ at-loop .loop .inv .1 .1 .1 .1
+    let inv = at-loop .loop .inv in
+    let more = c .before .before .before .loop-test .taken in
+    scan-closes _ _ (at-start .args .file .now) _ _ (inv .within) (inv .ends) _ (c .before .closes-set .ensures) (c .if1 .taken) more ∙ inv .same
 
 sub-seen-step : tie.Need-sub-seen-step Inv-loop μ-loop
 sub-seen-step c = search needs
@@ -78,12 +97,23 @@ loop-again c =
     let at-loop-test = at-closes-set .before .before in
     let at-loop = at-loop-test .before in
     let at-start = at-loop .before .before .before in
-    (search needs, (c .find-end2 .ensures, (rw (c .find-end2 .ensures) (lineLen-within _ _ (search needs)), (search needs, scan-next _ _ (at-start .args .file .now) _ _ (at-loop .loop .inv .0) (at-loop .loop .inv .1 .0) _ _ (at-closes-set .closes-set .ensures) (c .before .before .before .if1 .left) (c .before .seen-step .ensures) (at-loop-test .loop-test .taken) ∙ at-loop .loop .inv .1 .1 .1 .1))))
+    let inv = at-loop .loop .inv in
+    let stays = c .before .before .before .if1 .left in
+    let stepped = c .before .seen-step .ensures in
+    let next = scan-next _ _ (at-start .args .file .now) _ _ (inv .within) (inv .ends) _ _ (at-closes-set .closes-set .ensures) stays stepped (at-loop-test .loop-test .taken) in
+    record {
+      within = search needs;
+      ends = c .find-end2 .ensures;
+      inside = rw (c .find-end2 .ensures) (lineLen-within _ _ (search needs));
+      few = search needs;
+      same = next ∙ inv .same;
+    }
 
 returns-2 : tie.Need-returns-2 Inv-loop μ-loop
 returns-2 c =
     let at-start = c .before .before .before .before in
-    scan-ends _ _ (at-start .args .file .now) _ _ (c .before .loop .inv .0) (c .before .loop .inv .1 .0) (c .loop-test .left) ∙ c .before .loop .inv .1 .1 .1 .1
+    let inv = c .before .loop .inv in
+    scan-ends _ _ (at-start .args .file .now) _ _ (inv .within) (inv .ends) (c .loop-test .left) ∙ inv .same
 
 pub next-set-spec : {M : Type 1} → statement M
 next-set-spec =

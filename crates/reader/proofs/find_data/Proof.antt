@@ -48,7 +48,11 @@ returns-5 c =
     let at-if2 = c .before .before .before .before .before in
     let at-find-set = at-if2 .before .before in
     let at-if1 = at-find-set .before in
-    data-found _ _ _ (at-if1 .if1 .left) (at-find-set .find-set .ensures) (not-false _ (at-if2 .if2 .left)) (c .before .before .before .if3 .left) _ (c .before .before .case-in .ensures) (c .before .if4 .left) _ (c .count-in .ensures)
+    let set = at-find-set .find-set .ensures in
+    let found = not-false _ (at-if2 .if2 .left) in
+    let given = c .before .before .before .if3 .left in
+    let case = c .before .before .case-in .ensures in
+    data-found _ _ _ (at-if1 .if1 .left) set found given _ case (c .before .if4 .left) _ (c .count-in .ensures)
 
 pub find-data-spec : {M : Type 1} → statement M
 find-data-spec =

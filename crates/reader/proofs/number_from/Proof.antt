@@ -20,7 +20,9 @@ numbers-of-requires c κs = search needs
 mul-stored : tie.Need-mul-stored
 mul-stored c =
     let at-find-data = c .before .before in
-    let h : at-find-data .find-data .result .count * c .numbers-of .result ≤ at-find-data .find-data .result .count * 3 = start-most _ _ _ (data-inside _ _ _ (at-find-data .find-data .ensures) .1) (c .numbers-of .ensures) in search needs
+    let found = at-find-data .find-data in
+    let few = data-inside _ _ _ (found .ensures) .1 in
+    let h : found .result .count * c .numbers-of .result ≤ found .result .count * 3 = start-most _ _ _ few (c .numbers-of .ensures) in search needs
 
 no-number-requires : tie.Need-no-number-requires
 no-number-requires c κs = search needs
@@ -57,7 +59,11 @@ returns-2 c =
     let at-if1 = at-span-of .before in
     let at-numbers-of = at-if1 .before in
     let at-find-data = at-numbers-of .before .before in
-    ap (shownOf _ _) (sym (c .before .n .given .1)) ∙ number-shown _ _ _ (at-find-data .find-data .ensures) _ _ _ _ (at-numbers-of .numbers-of .ensures) (at-if1 .if1 .left) (at-span-of .span-of .ensures) (c .before .before .before .read-in .ensures)
+    let found = at-find-data .find-data .ensures in
+    let numbers = at-numbers-of .numbers-of .ensures in
+    let span = at-span-of .span-of .ensures in
+    let read = c .before .before .before .read-in .ensures in
+    ap (shownOf _ _) (sym (c .before .n .given .1)) ∙ number-shown _ _ _ found _ _ _ _ numbers (at-if1 .if1 .left) span read
 
 returns-3 : tie.Need-returns-3
 returns-3 c =
@@ -65,7 +71,11 @@ returns-3 c =
     let at-if1 = at-span-of .before in
     let at-numbers-of = at-if1 .before in
     let at-find-data = at-numbers-of .before .before in
-    c .no-number2 .ensures ∙ ap (shownOf _ _) (sym (c .before .enum-told .given .1)) ∙ number-shown _ _ _ (at-find-data .find-data .ensures) _ _ _ _ (at-numbers-of .numbers-of .ensures) (at-if1 .if1 .left) (at-span-of .span-of .ensures) (c .before .before .before .read-in .ensures)
+    let found = at-find-data .find-data .ensures in
+    let numbers = at-numbers-of .numbers-of .ensures in
+    let span = at-span-of .span-of .ensures in
+    let read = c .before .before .before .read-in .ensures in
+    c .no-number2 .ensures ∙ ap (shownOf _ _) (sym (c .before .enum-told .given .1)) ∙ number-shown _ _ _ found _ _ _ _ numbers (at-if1 .if1 .left) span read
 
 returns-4 : tie.Need-returns-4
 returns-4 c =
@@ -73,7 +83,11 @@ returns-4 c =
     let at-if1 = at-span-of .before in
     let at-numbers-of = at-if1 .before in
     let at-find-data = at-numbers-of .before .before in
-    c .no-number3 .ensures ∙ ap (shownOf _ _) (sym (c .before .enum-told2 .given .1)) ∙ number-shown _ _ _ (at-find-data .find-data .ensures) _ _ _ _ (at-numbers-of .numbers-of .ensures) (at-if1 .if1 .left) (at-span-of .span-of .ensures) (c .before .before .before .read-in .ensures)
+    let found = at-find-data .find-data .ensures in
+    let numbers = at-numbers-of .numbers-of .ensures in
+    let span = at-span-of .span-of .ensures in
+    let read = c .before .before .before .read-in .ensures in
+    c .no-number3 .ensures ∙ ap (shownOf _ _) (sym (c .before .enum-told2 .given .1)) ∙ number-shown _ _ _ found _ _ _ _ numbers (at-if1 .if1 .left) span read
 
 pub number-from-spec : {M : Type 1} → statement M
 number-from-spec =

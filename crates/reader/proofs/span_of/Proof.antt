@@ -32,7 +32,9 @@ field-start-requires c κs = search needs
 add-first : tie.Need-add-first
 add-first c =
     let at-start = c .before .before .before .before in
-    let h : c .field-start .result + getD (layoutOf (at-start .args .d .case) .widths) (at-start .args .j % c .before .before .fields-of .result) 0 ≤ 80 = rw (c .field-start .ensures) (field-inside _ _) in search needs
+    let fields = c .before .before .fields-of .result in
+    let width = getD (layoutOf (at-start .args .d .case) .widths) (at-start .args .j % fields) 0 in
+    let h : c .field-start .result + width ≤ 80 = rw (c .field-start .ensures) (field-inside _ _) in search needs
 
 field-width-requires : tie.Need-field-width-requires
 field-width-requires c κs = search needs

@@ -45,7 +45,10 @@ returns-2 c =
     let at-if1 = c .before .before .before .before in
     let at-read-at = at-if1 .before in
     let at-numbers-of = at-read-at .before in
-    c .two .ensures ∙ value-two _ _ _ (search needs) _ (at-numbers-of .numbers-of .ensures) _ _ (at-if1 .if1 .left) (c .before .before .if2 .taken) (at-read-at .read-at .ensures) (c .before .before .before .read-at2 .ensures)
+    let numbers = at-numbers-of .numbers-of .ensures in
+    let first = at-read-at .read-at .ensures in
+    let second = c .before .before .before .read-at2 .ensures in
+    c .two .ensures ∙ value-two _ _ _ (search needs) _ numbers _ _ (at-if1 .if1 .left) (c .before .before .if2 .taken) first second
 
 add-read-at-2 : tie.Need-add-read-at-2
 add-read-at-2 c =
@@ -67,7 +70,11 @@ returns-3 c =
     let at-if1 = c .before .before .before .before in
     let at-read-at = at-if1 .before in
     let at-numbers-of = at-read-at .before in
-    c .three .ensures ∙ value-three _ _ _ (search needs) _ (at-numbers-of .numbers-of .ensures) _ _ _ (at-if1 .if1 .left) (c .before .before .if2 .left) (at-read-at .read-at .ensures) (c .before .before .before .read-at2 .ensures) (c .before .read-at3 .ensures)
+    let numbers = at-numbers-of .numbers-of .ensures in
+    let first = at-read-at .read-at .ensures in
+    let second = c .before .before .before .read-at2 .ensures in
+    let third = c .before .read-at3 .ensures in
+    c .three .ensures ∙ value-three _ _ _ (search needs) _ numbers _ _ _ (at-if1 .if1 .left) (c .before .before .if2 .left) first second third
 
 pub value-at-spec : {M : Type 1} → statement M
 value-at-spec =

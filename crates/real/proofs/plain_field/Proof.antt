@@ -108,14 +108,15 @@ finish-requires c κs = search needs
 returns-5 : tie.Need-returns-5
 returns-5 c =
     let at-if3 = c .before .before .before .before in
-    let at-5-back = at-if3 .before in
-    let b = at-5-back in
+    let b = at-if3 .before in
+    let at-if2 = b .before .before .before .before .before .before in
+    let at-is-plain = at-if2 .before in
     let few = b .before .before .push-digits2 .ensures (at-if3 .if3 .left) in
-    let plain = rw (b .before .before .before .before .before .before .before .is-plain .ensures) at (not-false (b .before .before .before .before .before .before .before .is-plain .result) (b .before .before .before .before .before .before .if2 .left)) in
+    let plain = rw (at-is-plain .is-plain .ensures) at (not-false (at-is-plain .is-plain .result) (at-if2 .if2 .left)) in
     let small = c .before .before .before .if4 .left in
     inr
     (c .finish .ensures
-    ∙ plain-real _ _ (b .before .before .before .before .before .before .before .before .before .before .before .before .before .if1 .left) plain
+    ∙ plain-real _ _ (at-is-plain .before .before .before .before .before .before .if1 .left) plain
     (b .before .before .before .push-digits .ensures (omega (arith, few .first)))
     few
     (b .push-digits3 .ensures (omega (arith, small)))

@@ -42,7 +42,9 @@ check-columns-requires-2 : tie.Need-check-columns-requires-2
 check-columns-requires-2 c κs =
     let at-line-widths = c .before .before .before in
     let at-start = at-line-widths .before in
-    (simp length-take (omega (arith, data-six _ _ (at-line-widths .line-widths .ensures))), le-trans (total-take (at-line-widths .line-widths .result) (at-start .args .fields)) (data-fits _ _ (at-line-widths .line-widths .ensures)))
+    let line = at-line-widths .line-widths in
+    let few = total-take (line .result) (at-start .args .fields) in
+    (simp length-take (omega (arith, data-six _ _ (line .ensures))), le-trans few (data-fits _ _ (line .ensures)))
 
 returns-2 : tie.Need-returns-2
 returns-2 c =

@@ -1,7 +1,8 @@
 -- `record::check_fields` meets its contract.
 use Rattle.record.specs.CheckLaws.{field-fits, fields-fit, fieldsFault-stop, fieldsFault-here, fieldsFault-on, fieldsFault-end}
 use mathlib.Core.Path.{_≡_, refl, sym, _∙_}
-use Prim.Native.Nat.{_≤_, _-_, _+_}
+use mathlib.Core.List.{List}
+use Prim.Native.Nat.{ℕ, _≤_, _-_, _+_}
 use lib.ListN.{length, drop}
 use Rattle.layout.specs.Columns.{total}
 use Rattle.record.specs.Check.{fieldsFault}
@@ -11,14 +12,20 @@ use native.Mathlib.Omega.{arith}
 use Rattle.record.proofs.check_fields.Statement.{statement}
 use Rattle.record.proofs.check_fields.Tie as tie
 
+-- k fields are passed without a fault, the next begins at the column at
+record Going (line forms widths : List ℕ) (at k : ℕ) : Type 0 where
+  within : k ≤ length widths
+  fit : at + total (drop k widths) ≤ 80
+  same : fieldsFault (fieldList (drop k forms) (drop k widths)) at line ≡ fieldsFault (fieldList forms widths) 0 line
+
 abbrev Inv-loop : tie.InvT-loop
-Inv-loop line forms widths at₀ k₀ at k = (k ≤ length widths) × ((at + total (drop k widths) ≤ 80) × (fieldsFault (fieldList (drop k forms) (drop k widths)) at line ≡ fieldsFault (fieldList forms widths) 0 line))
+Inv-loop line forms widths at₀ k₀ at k = Going line forms widths at k
 
 abbrev μ-loop : tie.MeasureT-loop
 μ-loop line forms widths at₀ k₀ at k = length widths - k
 
 loop-holds : tie.Need-loop-holds Inv-loop μ-loop
-loop-holds c = (search needs, (search needs, refl))
+loop-holds c = record { within = search needs; fit = search needs; same = refl }
 
 shared-slice-read-index : tie.Need-shared-slice-read-index Inv-loop μ-loop
 shared-slice-read-index c = search needs
@@ -30,7 +37,8 @@ returns : tie.Need-returns Inv-loop μ-loop
 returns c =
     let at-loop = c .before .before .before .before in
     let at-pre = at-loop .before .before .before in
-    sym (sym (at-loop .loop .inv .1 .1) ∙ fieldsFault-stop _ _ _ _ _ _ (c .before .before .before .loop-test .taken) (at-pre .pre .0) (c .before .index .ensures) (c .if1 .taken))
+    let more = c .before .before .before .loop-test .taken in
+    sym (sym (at-loop .loop .inv .same) ∙ fieldsFault-stop _ _ _ _ _ _ more (at-pre .pre .0) (c .before .index .ensures) (c .if1 .taken))
 
 shared-slice-read-number-at : tie.Need-shared-slice-read-number-at Inv-loop μ-loop
 shared-slice-read-number-at c = search needs
@@ -40,7 +48,9 @@ number-at-requires c κs =
     let at-loop-test = c .before .before .before .before in
     let at-loop = at-loop-test .before in
     let at-start = at-loop .before .before .before in
-    field-fits (at-start .args .forms .now) (at-start .args .widths .now) (at-start .args .line .now) _ _ _ (at-loop-test .loop-test .taken) (at-start .pre .0) (c .before .before .index .ensures) (at-loop .loop .inv .1 .0)
+    let args = at-start .args in
+    let width = c .before .before .index .ensures in
+    field-fits (args .forms .now) (args .widths .now) (args .line .now) _ _ _ (at-loop-test .loop-test .taken) (at-start .pre .0) width (at-loop .loop .inv .fit)
 
 add-t13 : tie.Need-add-t13 Inv-loop μ-loop
 add-t13 c = omega arith
@@ -51,7 +61,10 @@ returns-2 c =
     let at-loop-test = at-index .before .before in
     let at-loop = at-loop-test .before in
     let at-pre = at-loop .before .before .before in
-    sym (sym (at-loop .loop .inv .1 .1) ∙ fieldsFault-here _ _ _ _ _ _ (at-loop-test .loop-test .taken) (at-pre .pre .0) (at-index .index .ensures) (c .before .before .before .if1 .left) _ (c .before .number-at .ensures) (c .if2 .taken))
+    let more = at-loop-test .loop-test .taken in
+    let width = at-index .index .ensures in
+    let wide = c .before .before .before .if1 .left in
+    sym (sym (at-loop .loop .inv .same) ∙ fieldsFault-here _ _ _ _ _ _ more (at-pre .pre .0) width wide _ (c .before .number-at .ensures) (c .if2 .taken))
 
 add-at : tie.Need-add-at Inv-loop μ-loop
 add-at c =
@@ -59,7 +72,9 @@ add-at c =
     let at-loop-test = at-index .before .before in
     let at-loop = at-loop-test .before in
     let at-start = at-loop .before .before .before in
-    let f = field-fits (at-start .args .forms .now) (at-start .args .widths .now) (at-start .args .line .now) _ _ _ (at-loop-test .loop-test .taken) (at-start .pre .0) (at-index .index .ensures) (at-loop .loop .inv .1 .0) in omega arith
+    let args = at-start .args in
+    let more = at-loop-test .loop-test .taken in
+    let f = field-fits (args .forms .now) (args .widths .now) (args .line .now) _ _ _ more (at-start .pre .0) (at-index .index .ensures) (at-loop .loop .inv .fit) in omega arith
 
 add-k : tie.Need-add-k Inv-loop μ-loop
 add-k c = search needs
@@ -73,10 +88,20 @@ loop-again c =
     let at-loop-test = at-index .before .before in
     let at-loop = at-loop-test .before in
     let at-start = at-loop .before .before .before in
-    (search needs, (fields-fit (at-start .args .forms .now) (at-start .args .widths .now) (at-start .args .line .now) _ _ _ (at-loop-test .loop-test .taken) (at-start .pre .0) (at-index .index .ensures) (at-loop .loop .inv .1 .0), sym (fieldsFault-on _ _ _ _ _ _ (at-loop-test .loop-test .taken) (at-start .pre .0) (at-index .index .ensures) (c .before .before .before .if1 .left) _ (c .before .number-at .ensures) (c .if2 .left)) ∙ at-loop .loop .inv .1 .1))
+    let args = at-start .args in
+    let more = at-loop-test .loop-test .taken in
+    let forms = at-start .pre .0 in
+    let width = at-index .index .ensures in
+    let wide = c .before .before .before .if1 .left in
+    let inv = at-loop .loop .inv in
+    record {
+      within = search needs;
+      fit = fields-fit (args .forms .now) (args .widths .now) (args .line .now) _ _ _ more forms width (inv .fit);
+      same = sym (fieldsFault-on _ _ _ _ _ _ more forms width wide _ (c .before .number-at .ensures) (c .if2 .left)) ∙ inv .same;
+    }
 
 returns-3 : tie.Need-returns-3 Inv-loop μ-loop
-returns-3 c = sym (sym (c .before .loop .inv .1 .1) ∙ fieldsFault-end _ _ _ _ _ (c .loop-test .left))
+returns-3 c = sym (sym (c .before .loop .inv .same) ∙ fieldsFault-end _ _ _ _ _ (c .loop-test .left))
 
 pub check-fields-spec : {M : Type 1} → statement M
 check-fields-spec =

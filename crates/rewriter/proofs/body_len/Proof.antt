@@ -1,6 +1,7 @@
 -- `rewriter::body_len` meets its contract.
 use mathlib.Core.Path.{_≡_, ap}
-use Prim.Native.Nat.{_≤_, _+_, _-_}
+use mathlib.Core.List.{List}
+use Prim.Native.Nat.{ℕ, _≤_, _+_, _-_}
 use lib.ListN.{length}
 use Rattle.rewriter.specs.Body.{bodyText}
 use Rattle.rewriter.specs.BodyLaws.{body-stops, body-ends, body-line-length, body-most}
@@ -9,14 +10,20 @@ use native.Mathlib.Omega.{arith}
 use Rattle.rewriter.proofs.body_len.Statement.{statement}
 use Rattle.rewriter.proofs.body_len.Tie as tie
 
+-- the lines before the byte at are measured
+record Measured (file : List ℕ) (from closing n at : ℕ) : Type 0 where
+  within : at ≤ length file
+  measured : n + length (bodyText closing at file) ≡ length (bodyText closing from file)
+  began : from ≤ length file
+
 abbrev Inv-loop : tie.InvT-loop
-Inv-loop file from closing n₀ at₀ n at = (at ≤ length file) × ((n + length (bodyText closing at file) ≡ length (bodyText closing from file)) × (from ≤ length file))
+Inv-loop file from closing n₀ at₀ n at = Measured file from closing n at
 
 abbrev μ-loop : tie.MeasureT-loop
 μ-loop file from closing n₀ at₀ n at = length file - at
 
 loop-holds : tie.Need-loop-holds Inv-loop μ-loop
-loop-holds c = (search needs, (search needs, search needs))
+loop-holds c = record { within = search needs; measured = search needs; began = search needs }
 
 find-end-requires : tie.Need-find-end-requires Inv-loop μ-loop
 find-end-requires c κs = search needs
@@ -25,7 +32,10 @@ returns : tie.Need-returns Inv-loop μ-loop
 returns c =
     let at-loop = c .before .before .before in
     let at-start = at-loop .before .before in
-    omega (arith, at-loop .loop .inv .1 .0, ap length (body-ends (at-start .args .closing) (at-start .args .file .now) (at-loop .loop .at) _ (at-loop .loop .inv .0) (c .before .find-end .ensures) (c .if1 .taken)))
+    let args = at-start .args in
+    let inv = at-loop .loop .inv in
+    let none = body-ends (args .closing) (args .file .now) (at-loop .loop .at) _ (inv .within) (c .before .find-end .ensures) (c .if1 .taken) in
+    omega (arith, inv .measured, ap length none)
 
 sub-kept-len : tie.Need-sub-kept-len Inv-loop μ-loop
 sub-kept-len c = search needs
@@ -44,14 +54,24 @@ add-n c =
     let at-loop-test = c .before .before .before .before in
     let at-loop = at-loop-test .before in
     let at-start = at-loop .before .before in
-    omega (arith, at-loop .loop .inv, body-line-length (at-start .args .closing) (at-start .args .file .now) (at-loop .loop .at) _ _ (at-loop-test .loop-test .taken) (at-loop .loop .inv .0) (c .before .before .before .find-end .ensures) (c .before .before .if1 .left) (c .kept-len .ensures), body-most (at-start .args .closing) (at-start .args .from) (at-start .args .file .now) (at-loop .loop .inv .1 .1))
+    let args = at-start .args in
+    let more = at-loop-test .loop-test .taken in
+    let end = c .before .before .before .find-end .ensures in
+    let inv = at-loop .loop .inv in
+    let row = body-line-length (args .closing) (args .file .now) (at-loop .loop .at) _ _ more (inv .within) end (c .before .before .if1 .left) (c .kept-len .ensures) in
+    omega (arith, inv .measured, row, body-most (args .closing) (args .from) (args .file .now) (inv .began))
 
 add-n-2 : tie.Need-add-n-2 Inv-loop μ-loop
 add-n-2 c =
     let at-loop-test = c .before .before .before .before in
     let at-loop = at-loop-test .before in
     let at-start = at-loop .before .before in
-    omega (arith, at-loop .loop .inv, body-line-length (at-start .args .closing) (at-start .args .file .now) (at-loop .loop .at) _ _ (at-loop-test .loop-test .taken) (at-loop .loop .inv .0) (c .before .before .before .find-end .ensures) (c .before .before .if1 .left) (c .kept-len .ensures), body-most (at-start .args .closing) (at-start .args .from) (at-start .args .file .now) (at-loop .loop .inv .1 .1))
+    let args = at-start .args in
+    let more = at-loop-test .loop-test .taken in
+    let end = c .before .before .before .find-end .ensures in
+    let inv = at-loop .loop .inv in
+    let row = body-line-length (args .closing) (args .file .now) (at-loop .loop .at) _ _ more (inv .within) end (c .before .before .if1 .left) (c .kept-len .ensures) in
+    omega (arith, inv .measured, row, body-most (args .closing) (args .from) (args .file .now) (inv .began))
 
 add-at : tie.Need-add-at Inv-loop μ-loop
 add-at c = search needs
@@ -64,12 +84,17 @@ loop-again c =
     let at-loop-test = c .before .before .before .before in
     let at-loop = at-loop-test .before in
     let at-start = at-loop .before .before in
-    (search needs, (omega (arith, at-loop .loop .inv, body-line-length (at-start .args .closing) (at-start .args .file .now) (at-loop .loop .at) _ _ (at-loop-test .loop-test .taken) (at-loop .loop .inv .0) (c .before .before .before .find-end .ensures) (c .before .before .if1 .left) (c .kept-len .ensures)), search needs))
+    let args = at-start .args in
+    let more = at-loop-test .loop-test .taken in
+    let end = c .before .before .before .find-end .ensures in
+    let inv = at-loop .loop .inv in
+    let row = body-line-length (args .closing) (args .file .now) (at-loop .loop .at) _ _ more (inv .within) end (c .before .before .if1 .left) (c .kept-len .ensures) in
+    record { within = search needs; measured = omega (arith, inv .measured, row); began = search needs }
 
 returns-2 : tie.Need-returns-2 Inv-loop μ-loop
 returns-2 c =
     let at-start = c .before .before .before in
-    omega (arith, c .before .loop .inv .1 .0, ap length (body-stops (at-start .args .closing) (at-start .args .file .now) (c .before .loop .at) (c .loop-test .left)))
+    omega (arith, c .before .loop .inv .measured, ap length (body-stops (at-start .args .closing) (at-start .args .file .now) (c .before .loop .at) (c .loop-test .left)))
 
 pub body-len-spec : {M : Type 1} → statement M
 body-len-spec =

@@ -1,7 +1,7 @@
 -- `rewriter::plain_number` meets its contract.
 use mathlib.Core.Path.{_≡_, refl, _∙_}
-use mathlib.Core.List.{_++_}
-use Prim.Native.Nat.{_≤_}
+use mathlib.Core.List.{List, _++_}
+use Prim.Native.Nat.{ℕ, _≤_}
 use lib.ListN.{length, drop, replicate, length-set}
 use Rattle.rewriter.specs.Rewriter.{plainIn, plainNumber}
 use Rattle.rewriter.specs.PutLaws.{plain-next, plain-start, plain-done}
@@ -9,14 +9,20 @@ use borrow.Author.Needs.{needs}
 use Rattle.rewriter.proofs.plain_number.Statement.{statement}
 use Rattle.rewriter.proofs.plain_number.Tie as tie
 
+-- the columns from i on hold their digits, the others those of rest to come
+record Going (row : List ℕ) (v i rest : ℕ) : Type 0 where
+  within : i ≤ 6
+  wide : length row ≡ 6
+  spelled : plainIn i rest ++ drop i row ≡ plainNumber v
+
 abbrev Inv-loop : tie.InvT-loop
-Inv-loop row₀ v i₀ rest₀ row i rest = (i ≤ 6) × ((length row ≡ 6) × (plainIn i rest ++ drop i row ≡ plainNumber v))
+Inv-loop row₀ v i₀ rest₀ row i rest = Going row v i rest
 
 abbrev μ-loop : tie.MeasureT-loop
 μ-loop row₀ v i₀ rest₀ row i rest = i
 
 loop-holds : tie.Need-loop-holds Inv-loop μ-loop
-loop-holds c = (search needs, (refl, plain-start _ (replicate 6 32) refl))
+loop-holds c = record { within = search needs; wide = refl; spelled = plain-start _ (replicate 6 32) refl }
 
 sub-i : tie.Need-sub-i Inv-loop μ-loop
 sub-i c = search needs
@@ -33,10 +39,15 @@ loop-less c = search needs
 loop-again : tie.Need-loop-again Inv-loop μ-loop
 loop-again c =
     let at-loop = c .before .before in
-    (search needs, (simp length-set (at-loop .loop .inv .1 .0), rw (c .digit-or-blank .ensures) (plain-next _ _ _ (c .before .loop-test .taken) (search needs)) ∙ at-loop .loop .inv .1 .1))
+    let inv = at-loop .loop .inv in
+    record {
+      within = search needs;
+      wide = simp length-set (inv .wide);
+      spelled = rw (c .digit-or-blank .ensures) (plain-next _ _ _ (c .before .loop-test .taken) (search needs)) ∙ inv .spelled;
+    }
 
 returns : tie.Need-returns Inv-loop μ-loop
-returns c = plain-done _ _ _ (c .loop-test .left) ∙ c .before .loop .inv .1 .1
+returns c = plain-done _ _ _ (c .loop-test .left) ∙ c .before .loop .inv .spelled
 
 pub plain-number-spec : {M : Type 1} → statement M
 plain-number-spec =

@@ -1,5 +1,6 @@
 -- `rewriter::put_body` meets its contract.
-use Prim.Native.Nat.{_≤_, _+_, _-_}
+use mathlib.Core.List.{List}
+use Prim.Native.Nat.{ℕ, _≤_, _+_, _-_}
 use lib.ListN.{length, take, drop}
 use Rattle.output.specs.Output.{Put, ended}
 use Rattle.output.specs.OutputLaws.{put-start, put-done, put-room, put-next}
@@ -10,25 +11,30 @@ use native.Mathlib.Omega.{arith}
 use Rattle.rewriter.proofs.put_body.Statement.{statement}
 use Rattle.rewriter.proofs.put_body.Tie as tie
 
+-- the lines before the byte line are put, the others are still to come
+record Going (file out₀ : List ℕ) (at from closing past line : ℕ) (out : List ℕ) : Type 0 where
+  within : line ≤ length file
+  put : Put at (bodyText closing from file) out₀ past (bodyText closing line file) out
+
 abbrev Inv-loop : tie.InvT-loop
-Inv-loop out₀ at file from closing past₀ line₀ out past line = (line ≤ length file) × Put at (bodyText closing from file) out₀ past (bodyText closing line file) out
+Inv-loop out₀ at file from closing past₀ line₀ out past line = Going file out₀ at from closing past line out
 
 abbrev μ-loop : tie.MeasureT-loop
 μ-loop out₀ at file from closing past₀ line₀ out past line = length file - line
 
 loop-holds : tie.Need-loop-holds Inv-loop μ-loop
-loop-holds c = (c .before .before .pre .0, put-start _ _ _)
+loop-holds c = record { within = c .before .before .pre .0; put = put-start _ _ _ }
 
 find-end-requires : tie.Need-find-end-requires Inv-loop μ-loop
 find-end-requires c κs = search needs
 
 same-length : tie.Need-same-length Inv-loop μ-loop
-same-length c = c .before .before .before .loop .inv .1 .same
+same-length c = c .before .before .before .loop .inv .put .same
 
 returns : tie.Need-returns Inv-loop μ-loop
 returns c =
     let at-loop = c .before .before .before in
-    put-done _ _ _ _ _ _ (at-loop .loop .inv .1) (body-ends _ _ _ _ (at-loop .loop .inv .0) (c .before .find-end .ensures) (c .if1 .taken))
+    put-done _ _ _ _ _ _ (at-loop .loop .inv .put) (body-ends _ _ _ _ (at-loop .loop .inv .within) (c .before .find-end .ensures) (c .if1 .taken))
 
 sub-kept-len : tie.Need-sub-kept-len Inv-loop μ-loop
 sub-kept-len c = search needs
@@ -69,7 +75,16 @@ put-line-requires c κs =
     let at-loop-test = at-find-end .before in
     let at-loop = at-loop-test .before in
     let at-pre = at-loop .before .before .before in
-    put-room _ _ _ _ _ _ (at-loop .loop .inv .1) (at-pre .pre .1) (ended (take (at-loop .loop .line + at-kept-len .kept-len .result - at-loop .loop .line) (drop (at-loop .loop .line) (at-pre .args .file .now)))) (bodyText (at-pre .args .closing) (at-find-end .find-end .result + 1) (at-pre .args .file .now)) (body-kept (at-pre .args .closing) (at-pre .args .file .now) (at-loop .loop .line) (at-find-end .find-end .result) (at-kept-len .kept-len .result) (at-loop-test .loop-test .taken) (at-loop .loop .inv .0) (at-find-end .find-end .ensures) (at-if1 .if1 .left) (at-kept-len .kept-len .ensures))
+    let file : List ℕ = at-pre .args .file .now in
+    let closing : ℕ = at-pre .args .closing in
+    let line : ℕ = at-loop .loop .line in
+    let end : ℕ = at-find-end .find-end .result in
+    let kept : ℕ = at-kept-len .kept-len .result in
+    let inv = at-loop .loop .inv in
+    let more = at-loop-test .loop-test .taken in
+    let here = body-kept closing file line end kept more (inv .within) (at-find-end .find-end .ensures) (at-if1 .if1 .left) (at-kept-len .kept-len .ensures) in
+    let row : List ℕ = ended (take (line + kept - line) (drop line file)) in
+    put-room _ _ _ _ _ _ (inv .put) (at-pre .pre .1) row (bodyText closing (end + 1) file) here
 
 add-line : tie.Need-add-line Inv-loop μ-loop
 add-line c = search needs
@@ -86,13 +101,26 @@ loop-again c =
     let at-loop-test = at-find-end .before in
     let at-loop = at-loop-test .before in
     let at-pre = at-loop .before .before .before in
-    (search needs, put-next _ _ _ _ _ _ (at-loop .loop .inv .1) (at-pre .pre .1) (ended (take (at-loop .loop .line + at-kept-len .kept-len .result - at-loop .loop .line) (drop (at-loop .loop .line) (at-pre .args .file .now)))) (bodyText (at-pre .args .closing) (at-find-end .find-end .result + 1) (at-pre .args .file .now)) (body-kept (at-pre .args .closing) (at-pre .args .file .now) (at-loop .loop .line) (at-find-end .find-end .result) (at-kept-len .kept-len .result) (at-loop-test .loop-test .taken) (at-loop .loop .inv .0) (at-find-end .find-end .ensures) (at-if1 .if1 .left) (at-kept-len .kept-len .ensures)) _ _ (at-put-line .put-line .ensures .0) (at-put-line .put-line .ensures .1))
+    let file : List ℕ = at-pre .args .file .now in
+    let closing : ℕ = at-pre .args .closing in
+    let line : ℕ = at-loop .loop .line in
+    let end : ℕ = at-find-end .find-end .result in
+    let kept : ℕ = at-kept-len .kept-len .result in
+    let inv = at-loop .loop .inv in
+    let more = at-loop-test .loop-test .taken in
+    let here = body-kept closing file line end kept more (inv .within) (at-find-end .find-end .ensures) (at-if1 .if1 .left) (at-kept-len .kept-len .ensures) in
+    let row : List ℕ = ended (take (line + kept - line) (drop line file)) in
+    let done = at-put-line .put-line .ensures in
+    record {
+      within = search needs;
+      put = put-next _ _ _ _ _ _ (inv .put) (at-pre .pre .1) row (bodyText closing (end + 1) file) here _ _ (done .0) (done .1);
+    }
 
 same-length-2 : tie.Need-same-length-2 Inv-loop μ-loop
-same-length-2 c = c .before .loop .inv .1 .same
+same-length-2 c = c .before .loop .inv .put .same
 
 returns-2 : tie.Need-returns-2 Inv-loop μ-loop
-returns-2 c = put-done _ _ _ _ _ _ (c .before .loop .inv .1) (body-stops _ _ _ (c .loop-test .left))
+returns-2 c = put-done _ _ _ _ _ _ (c .before .loop .inv .put) (body-stops _ _ _ (c .loop-test .left))
 
 pub put-body-spec : {M : Type 1} → statement M
 put-body-spec =

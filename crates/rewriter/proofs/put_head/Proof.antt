@@ -38,7 +38,9 @@ returns c =
     let at-put-line = at-put-line2 .before .before .before .before .before in
     let at-plain-number = at-put-line .before .before .before in
     let at-start = at-plain-number .before .before .before in
-    head-done _ _ (at-start .args .out .now) (at-start .pre) _ _ _ (at-put-line .put-line .ensures .0) (at-put-line .put-line .ensures .1) (at-plain-number .plain-number .ensures) _ _ (at-put-line2 .put-line2 .ensures .0) (at-put-line2 .put-line2 .ensures .1)
+    let first = at-put-line .put-line .ensures in
+    let second = at-put-line2 .put-line2 .ensures in
+    head-done _ _ (at-start .args .out .now) (at-start .pre) _ _ _ (first .0) (first .1) (at-plain-number .plain-number .ensures) _ _ (second .0) (second .1)
 
 pub put-head-spec : {M : Type 1} → statement M
 put-head-spec =

@@ -23,7 +23,9 @@ put-line-requires c κs =
     let at-put-body = c .before .before .before .before in
     let at-put-head = at-put-body .before .before .before .before in
     let at-start = at-put-head .before .before .before .before in
-    closing-room _ _ _ (at-start .args .out .now) (at-start .pre .1) _ _ (at-put-head .put-head .ensures .0) (at-put-head .put-head .ensures .1) _ _ (at-put-body .put-body .ensures .0) (at-put-body .put-body .ensures .1)
+    let head = at-put-head .put-head .ensures in
+    let body = at-put-body .put-body .ensures in
+    closing-room _ _ _ (at-start .args .out .now) (at-start .pre .1) _ _ (head .0) (head .1) _ _ (body .0) (body .1)
 
 same-length : tie.Need-same-length
 same-length c = search needs
@@ -34,7 +36,10 @@ returns c =
     let at-put-body = at-put-line .before .before .before .before .before in
     let at-put-head = at-put-body .before .before .before .before in
     let at-start = at-put-head .before .before .before .before in
-    set-done _ _ _ (at-start .args .out .now) (at-start .pre .1) _ _ (at-put-head .put-head .ensures .0) (at-put-head .put-head .ensures .1) _ _ (at-put-body .put-body .ensures .0) (at-put-body .put-body .ensures .1) _ _ (at-put-line .put-line .ensures .0) (at-put-line .put-line .ensures .1)
+    let head = at-put-head .put-head .ensures in
+    let body = at-put-body .put-body .ensures in
+    let line = at-put-line .put-line .ensures in
+    set-done _ _ _ (at-start .args .out .now) (at-start .pre .1) _ _ (head .0) (head .1) _ _ (body .0) (body .1) _ _ (line .0) (line .1)
 
 pub put-set-spec : {M : Type 1} → statement M
 put-set-spec =

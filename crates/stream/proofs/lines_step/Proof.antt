@@ -36,7 +36,11 @@ returns-2 : tie.Need-returns-2
 returns-2 c =
     let at-judge-lines = c .before .before .before .before .before .before in
     let at-pre = at-judge-lines .before .before in
-    (lines-going _ _ _ _ _ (at-pre .pre .0) (at-pre .pre .1 .0) (at-pre .pre .1 .1) _ (at-judge-lines .judge-lines .ensures) _ _ (c .before .before .before .if1 .left) (c .push-all .ensures .0) (c .push-all .ensures .2 ∙ ap squeezed (tail-part (at-pre .args .burst .now) (at-judge-lines .judge-lines .result .at))), refl)
+    let pre = at-pre .pre in
+    let judged = at-judge-lines .judge-lines in
+    let going = c .before .before .before .if1 .left in
+    let rest = c .push-all .ensures .2 ∙ ap squeezed (tail-part (at-pre .args .burst .now) (judged .result .at)) in
+    (lines-going _ _ _ _ _ (pre .0) (pre .1 .0) (pre .1 .1) _ (judged .ensures) _ _ going (c .push-all .ensures .0) rest, refl)
 
 pub lines-step-spec : {M : Type 1} → statement M
 lines-step-spec =

@@ -1,9 +1,10 @@
 -- `stream::open_step` meets its contract.
-use mathlib.Core.Path.{refl, sym, ap, _∙_}
+use mathlib.Core.Path.{_≡_, refl, sym, ap, _∙_}
 use mathlib.Core.List.{List}
 use Prim.Native.Nat.{ℕ}
 use lib.ListN.{take, length-take}
 use lib.Seq.{length-take-le}
+use Rattle.laws.specs.Cut.{lineLen}
 use Rattle.line.specs.LineLaws.{lineLen-most}
 use Rattle.stream.specs.Stream.{pushAll}
 use Rattle.stream.specs.StreamLaws.{burst-still, first-open, burst-next, burst-stops, open-part, openLen-most}
@@ -33,7 +34,14 @@ returns c =
     let at-open-len = c .before .before .before in
     let at-find-end = at-open-len .before .before in
     let at-start = at-find-end .before .before .before .before in
-    (burst-still (at-start .args .c) (at-start .args .burst .now) (at-start .args .total) (at-start .pre .0) (at-start .pre .1) (at-find-end .find-end .result) (omega (arith, at-find-end .find-end .ensures)) _ (c .before .push-all .result) (c .before .push-all .ensures .0) (c .before .push-all .ensures .2 ∙ ap (λ (x : List ℕ). pushAll x (take (at-find-end .find-end .result) (at-start .args .burst .now))) (open-part (at-start .args .c) (at-open-len .open-len .result) (at-open-len .open-len .ensures .0))) (c .if1 .taken), refl)
+    let burst : List ℕ = at-start .args .burst .now in
+    let pre = at-start .pre in
+    let end : ℕ = at-find-end .find-end .result in
+    let ends : end ≡ lineLen burst = omega (arith, at-find-end .find-end .ensures) in
+    let held = open-part (at-start .args .c) (at-open-len .open-len .result) (at-open-len .open-len .ensures .0) in
+    let push = c .before .push-all in
+    let pushed = push .ensures .2 ∙ ap (λ (x : List ℕ). pushAll x (take end burst)) held in
+    (burst-still (at-start .args .c) burst (at-start .args .total) (pre .0) (pre .1) end ends _ (push .result) (push .ensures .0) pushed (c .if1 .taken), refl)
 
 array-share-prefix-line : tie.Need-array-share-prefix-line
 array-share-prefix-line c = omega (arith, c .before .push-all .ensures .0, c .before .push-all .ensures .1)
@@ -49,7 +57,15 @@ judge-open-requires c κs =
     let at-open-len = at-push-all .before .before in
     let at-find-end = at-open-len .before .before in
     let at-pre = at-find-end .before .before .before .before in
-    (omega (arith, at-pre .pre), (simp length-take (omega (arith, at-push-all .push-all .ensures .0)), first-open (at-pre .args .c) (at-pre .args .burst .now) (at-pre .args .total) (at-pre .pre .0) (at-pre .pre .1) (at-find-end .find-end .result) (omega (arith, at-find-end .find-end .ensures)) _ (at-push-all .push-all .result) (at-push-all .push-all .ensures .0) (at-push-all .push-all .ensures .2 ∙ ap (λ (x : List ℕ). pushAll x (take (at-find-end .find-end .result) (at-pre .args .burst .now))) (open-part (at-pre .args .c) (at-open-len .open-len .result) (at-open-len .open-len .ensures .0)))))
+    let burst : List ℕ = at-pre .args .burst .now in
+    let pre = at-pre .pre in
+    let end : ℕ = at-find-end .find-end .result in
+    let ends : end ≡ lineLen burst = omega (arith, at-find-end .find-end .ensures) in
+    let held = open-part (at-pre .args .c) (at-open-len .open-len .result) (at-open-len .open-len .ensures .0) in
+    let push = at-push-all .push-all in
+    let pushed = push .ensures .2 ∙ ap (λ (x : List ℕ). pushAll x (take end burst)) held in
+    let first = first-open (at-pre .args .c) burst (at-pre .args .total) (pre .0) (pre .1) end ends _ (push .result) (push .ensures .0) pushed in
+    (omega (arith, pre), (simp length-take (omega (arith, push .ensures .0)), first))
 
 returns-2 : tie.Need-returns-2
 returns-2 c =
@@ -58,7 +74,15 @@ returns-2 c =
     let at-open-len = at-push-all .before .before in
     let at-find-end = at-open-len .before .before in
     let at-start = at-find-end .before .before .before .before in
-    (burst-stops (at-start .args .c) (at-start .args .burst .now) (at-start .args .total) (at-start .pre .0) (at-start .pre .1) (at-find-end .find-end .result) (omega (arith, at-find-end .find-end .ensures)) _ (at-push-all .push-all .result) (at-push-all .push-all .ensures .0) (at-push-all .push-all .ensures .2 ∙ ap (λ (x : List ℕ). pushAll x (take (at-find-end .find-end .result) (at-start .args .burst .now))) (open-part (at-start .args .c) (at-open-len .open-len .result) (at-open-len .open-len .ensures .0))) (at-if1 .if1 .left) _ (c .before .before .before .judge-open .ensures) _ (c .if2 .taken), refl)
+    let burst : List ℕ = at-start .args .burst .now in
+    let pre = at-start .pre in
+    let end : ℕ = at-find-end .find-end .result in
+    let ends : end ≡ lineLen burst = omega (arith, at-find-end .find-end .ensures) in
+    let held = open-part (at-start .args .c) (at-open-len .open-len .result) (at-open-len .open-len .ensures .0) in
+    let push = at-push-all .push-all in
+    let pushed = push .ensures .2 ∙ ap (λ (x : List ℕ). pushAll x (take end burst)) held in
+    let judged = c .before .before .before .judge-open .ensures in
+    (burst-stops (at-start .args .c) burst (at-start .args .total) (pre .0) (pre .1) end ends _ (push .result) (push .ensures .0) pushed (at-if1 .if1 .left) _ judged _ (c .if2 .taken), refl)
 
 add-lines-step : tie.Need-add-lines-step
 add-lines-step c = search needs
@@ -77,7 +101,16 @@ returns-3 c =
     let at-open-len = at-push-all .before .before in
     let at-find-end = at-open-len .before .before in
     let at-start = at-find-end .before .before .before .before in
-    (c .lines-step .ensures .0 ∙ burst-next (at-start .args .c) (at-start .args .burst .now) (at-start .args .total) (at-start .pre .0) (at-start .pre .1) (at-find-end .find-end .result) (omega (arith, at-find-end .find-end .ensures)) _ (at-push-all .push-all .result) (at-push-all .push-all .ensures .0) (at-push-all .push-all .ensures .2 ∙ ap (λ (x : List ℕ). pushAll x (take (at-find-end .find-end .result) (at-start .args .burst .now))) (open-part (at-start .args .c) (at-open-len .open-len .result) (at-open-len .open-len .ensures .0))) (at-if1 .if1 .left) _ (at-judge-open .judge-open .ensures) (c .before .if2 .left), c .lines-step .ensures .1)
+    let burst : List ℕ = at-start .args .burst .now in
+    let pre = at-start .pre in
+    let end : ℕ = at-find-end .find-end .result in
+    let ends : end ≡ lineLen burst = omega (arith, at-find-end .find-end .ensures) in
+    let held = open-part (at-start .args .c) (at-open-len .open-len .result) (at-open-len .open-len .ensures .0) in
+    let push = at-push-all .push-all in
+    let pushed = push .ensures .2 ∙ ap (λ (x : List ℕ). pushAll x (take end burst)) held in
+    let judged = at-judge-open .judge-open .ensures in
+    let next = burst-next (at-start .args .c) burst (at-start .args .total) (pre .0) (pre .1) end ends _ (push .result) (push .ensures .0) pushed (at-if1 .if1 .left) _ judged (c .before .if2 .left) in
+    (c .lines-step .ensures .0 ∙ next, c .lines-step .ensures .1)
 
 pub open-step-spec : {M : Type 1} → statement M
 open-step-spec =

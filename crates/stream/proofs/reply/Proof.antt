@@ -53,7 +53,10 @@ returns-3 c =
     let at-if1 = at-open-len .before .before .before .before in
     let at-is-past = at-if1 .before in
     let at-start = at-is-past .before in
-    c .finish .ensures ∙ ap (λ (x : List ℕ). runEnd (going (at-start .args .c .state) (at-start .args .c .lines)) x) (open-part (at-start .args .c) (at-open-len .open-len .result) (at-open-len .open-len .ensures .0)) ∙ sym (ap endReply (seen-going (at-start .args .c) (sym (at-is-past .is-past .ensures) ∙ at-if1 .if1 .left) (omega arith)))
+    let s = at-start .args .c in
+    let held = open-part s (at-open-len .open-len .result) (at-open-len .open-len .ensures .0) in
+    let seen = seen-going s (sym (at-is-past .is-past .ensures) ∙ at-if1 .if1 .left) (omega arith) in
+    c .finish .ensures ∙ ap (λ (x : List ℕ). runEnd (going (s .state) (s .lines)) x) held ∙ sym (ap endReply seen)
 
 pub reply-spec : {M : Type 1} → statement M
 reply-spec =

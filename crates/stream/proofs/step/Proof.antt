@@ -28,19 +28,29 @@ returns-3 : tie.Need-returns-3
 returns-3 c =
     let at-if1 = c .before .before .before .before in
     let at-start = at-if1 .before .before in
-    stepped-refused (at-start .args .c) (at-start .args .burst .now) (at-if1 .if1 .left) _ (c .before .before .before .running .ensures) (c .before .before .if2 .left) _ (omega (arith, c .before .if3 .taken)) (c .at-total2 .ensures)
+    let args = at-start .args in
+    let running = c .before .before .before .running .ensures in
+    let within = c .before .before .if2 .left in
+    stepped-refused (args .c) (args .burst .now) (at-if1 .if1 .left) _ running within _ (omega (arith, c .before .if3 .taken)) (c .at-total2 .ensures)
 
 open-step-requires : tie.Need-open-step-requires
 open-step-requires c κs =
     let at-running = c .before .before in
     let at-start = at-running .before .before .before in
-    (bounds (at-start .args .c) (at-start .args .burst .now) (c .before .before .before .if1 .left) (at-running .running .result) (at-running .running .ensures) (c .before .if2 .left), c .before .if2 .left)
+    let args = at-start .args in
+    let run = at-running .running in
+    let within = c .before .if2 .left in
+    (bounds (args .c) (args .burst .now) (c .before .before .before .if1 .left) (run .result) (run .ensures) within, within)
 
 returns-4 : tie.Need-returns-4
 returns-4 c =
     let at-if1 = c .before .before .before .before in
     let at-start = at-if1 .before .before in
-    stepped-going (at-start .args .c) (at-start .args .burst .now) (at-if1 .if1 .left) _ (c .before .before .before .running .ensures) (c .before .before .if2 .left) _ (omega (arith, c .before .if3 .left)) (c .open-step .ensures .0) (c .open-step .ensures .1)
+    let args = at-start .args in
+    let running = c .before .before .before .running .ensures in
+    let within = c .before .before .if2 .left in
+    let done = c .open-step .ensures in
+    stepped-going (args .c) (args .burst .now) (at-if1 .if1 .left) _ running within _ (omega (arith, c .before .if3 .left)) (done .0) (done .1)
 
 pub step-spec : {M : Type 1} → statement M
 step-spec =

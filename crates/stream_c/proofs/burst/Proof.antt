@@ -57,7 +57,13 @@ returns-3 c =
     let at-if1 = at-if2 .before .before in
     let at-is-short = at-if1 .before in
     let at-start = at-is-short .before .before .before .before in
-    burst-further (at-start .args .numbers .now) (at-start .args .line .now) _ (sym (at-is-short .is-short .ensures) ∙ at-if1 .if1 .left) (omega (arith, at-if2 .if2 .left)) _ (at-record-in .record-in .ensures) _ (at-after-burst .after-burst .ensures .0) (at-put-record .put-record .ensures .2) _ _ (at-put-record .put-record .ensures .0) (at-put-record .put-record .ensures .1) _ (c .reply-of .ensures ∙ ap paper (at-after-burst .after-burst .ensures .1))
+    let args = at-start .args in
+    let room = sym (at-is-short .is-short .ensures) ∙ at-if1 .if1 .left in
+    let record-in = at-record-in .record-in .ensures in
+    let after = at-after-burst .after-burst .ensures in
+    let put = at-put-record .put-record .ensures in
+    let told = c .reply-of .ensures ∙ ap paper (after .1) in
+    burst-further (args .numbers .now) (args .line .now) _ room (omega (arith, at-if2 .if2 .left)) _ record-in _ (after .0) (put .2) _ _ (put .0) (put .1) _ told
 
 pub burst-spec : {M : Type 1} → statement M
 burst-spec =

@@ -60,7 +60,10 @@ returns c =
     let at-flag = at-put-place .before .before .before in
     let at-start = at-flag .before .before .before .before .before .before in
     let fits = at-flag .before .struct-known2 .given in
-    let numbers = laid-record (at-start .args .c) (at-start .args .numbers .now) _ _ _ (at-put-place .put-place .ensures) (at-put-six .put-six .ensures) (at-flag .flag .ensures) _ _ refl (at-put-unused .put-unused .ensures) in
+    let place = at-put-place .put-place .ensures in
+    let six = at-put-six .put-six .ensures in
+    let unused = at-put-unused .put-unused .ensures in
+    let numbers = laid-record (at-start .args .c) (at-start .args .numbers .now) _ _ _ place six (at-flag .flag .ensures) _ _ refl unused in
     (numbers, at-put-line .put-line .ensures .0, record { sets = omega (arith, fits); number = omega (arith, fits); pending = at-put-line .put-line .ensures .1 })
 
 pub put-record-spec : {M : Type 1} → statement M

@@ -100,12 +100,23 @@ module _ {M : Type 1} (𝓤 : URA M) (H : Heap 𝓤) (A : Atoms 𝓤) (W : Given
   abbrev lent : ℕ → GName → RefT Stream
   lent l δ = record { ptr = (l, 0); name = δ; now = h }
 
+  abbrev Ref : ℕ → ℕ → GName → Fml
+  Ref l ν δ = MutRef (named 0) (ν ∷ []) T.the-row .own (lent l δ) (vptr l 0 ∷ [])
+
+  abbrev BurstSays : ℕ → ℕ → GName → Answer → SProp 𝓤
+  BurstSays l ν δ t = ensured 𝓤 H A burst.ended (burst.clauses 𝓤 H A at-mem run) (ν ∷ [], (κ, tt)) (lent l δ, (s, tt)) tt t
+
+  abbrev MadeSays : Stream → Answer → AfterBurst → SProp 𝓤
+  MadeSays r t d = ensured 𝓤 H A made.ended (made.clauses 𝓤 H A at-mem run) tt (r, (t, tt)) tt d
+
   abbrev to : ℕ → ℕ → GName → BurstC 𝓤 H A at-mem run .Ghost
   to l ν δ = (((ν ∷ [], (κ, tt)), (fullShare, (q, tt)), tt, (lent l δ, (s, tt)), (vptr l 0 ∷ [], (v ∷ [], tt))), tt)
 
-  goes : (l ν : ℕ) (δ : GName) → ent 𝓤 (⋆ 𝓤 H A (‵ (fsep (MutRef (named 0) (ν ∷ []) T.the-row .own (lent l δ) (vptr l 0 ∷ [])) Own) ∷ ‵ (flft (ν ∷ []) fullShare) ∷ ‵ (flft κ q) ∷ [])) (BurstC 𝓤 H A at-mem run .pre (to l ν δ))
+  goes : (l ν : ℕ) (δ : GName)
+      → ent 𝓤 (⋆ 𝓤 H A (‵ (fsep (Ref l ν δ) Own) ∷ ‵ (flft (ν ∷ []) fullShare) ∷ ‵ (flft κ q) ∷ [])) (BurstC 𝓤 H A at-mem run .pre (to l ν δ))
   goes l ν δ =
-      qed W (‵ (fsep (MutRef (named 0) (ν ∷ []) T.the-row .own (lent l δ) (vptr l 0 ∷ [])) Own) ∷ ‵ (flft (ν ∷ []) fullShare) ∷ ‵ (flft κ q) ∷ []) ∵ fsplit ! $ move ! (1 ∷ []) $ nothing ! $ move ! (1 ∷ 0 ∷ []) $ fjoin ! $ move ! (1 ∷ 0 ∷ []) $ fjoin ! $
+      qed W (‵ (fsep (Ref l ν δ) Own) ∷ ‵ (flft (ν ∷ []) fullShare) ∷ ‵ (flft κ q) ∷ []) ∵
+      fsplit ! $ move ! (1 ∷ []) $ nothing ! $ move ! (1 ∷ 0 ∷ []) $ fjoin ! $ move ! (1 ∷ 0 ∷ []) $ fjoin ! $
       nothing ! $ move ! (3 ∷ 0 ∷ []) $ join ! $ move ! (2 ∷ 0 ∷ []) $ join ! $ join ! $ frame ! $ done !
 
   abbrev to-made : Stream → Answer → Val → MadeC 𝓤 H A at-mem run .Ghost
@@ -113,16 +124,19 @@ module _ {M : Type 1} (𝓤 : URA M) (H : Heap 𝓤) (A : Atoms 𝓤) (W : Given
 
   goes-made : (r : Stream) (t : Answer) (u : Val) → ent 𝓤 (⋆ 𝓤 H A (‵ (T.the-row .own r (mach r ∷ [])) ∷ ‵ (S.the-row .own t (u ∷ [])) ∷ [])) (MadeC 𝓤 H A at-mem run .pre (to-made r t u))
   goes-made r t u =
-      qed W (‵ (T.the-row .own r (mach r ∷ [])) ∷ ‵ (S.the-row .own t (u ∷ [])) ∷ []) ∵ nothing ! $ move ! (2 ∷ 0 ∷ []) $ fjoin ! $ move ! (1 ∷ 0 ∷ []) $ fjoin ! $ nothing ! $ join ! $ frame ! $ done !
+      qed W (‵ (T.the-row .own r (mach r ∷ [])) ∷ ‵ (S.the-row .own t (u ∷ [])) ∷ []) ∵
+      nothing ! $ move ! (2 ∷ 0 ∷ []) $ fjoin ! $ move ! (1 ∷ 0 ∷ []) $ fjoin ! $ nothing ! $ join ! $ frame ! $ done !
 
-  said : (r : Stream) (t : Answer) (d : AfterBurst) → ent 𝓤 (ensured 𝓤 H A made.ended (made.clauses 𝓤 H A at-mem run) tt (r, (t, tt)) tt d) (fact 𝓤 ((d .stream ≡ r) × (d .answer ≡ t)))
+  said : (r : Stream) (t : Answer) (d : AfterBurst) → ent 𝓤 (MadeSays r t d) (fact 𝓤 ((d .stream ≡ r) × (d .answer ≡ t)))
   said r t d = exE 𝓤 _ (λ ws. snd∗ 𝓤 (sem 𝓤 H A (lasts made.ended tt (r, (t, tt)) ws)) (fact 𝓤 ((d .stream ≡ r) × (d .answer ≡ t))))
 
-  exits : (d : AfterBurst) (u : Val) → Says h (now s) (d .stream) (d .answer) → Is T.the-row h (mach h ∷ []) → ent 𝓤 (⋆ 𝓤 H A (‵ (D.the-row .own d (u ∷ [])) ∷ (‵ (flft κ q) ⊛ ‵ ftrue) ∷ ‵ Own ∷ [])) (Post u)
+  exits : (d : AfterBurst) (u : Val) → Says h (now s) (d .stream) (d .answer) → Is T.the-row h (mach h ∷ [])
+      → ent 𝓤 (⋆ 𝓤 H A (‵ (D.the-row .own d (u ∷ [])) ∷ (‵ (flft κ q) ⊛ ‵ ftrue) ∷ ‵ Own ∷ [])) (Post u)
   exits d u e is =
       qed W (‵ (D.the-row .own d (u ∷ [])) ∷ (‵ (flft κ q) ⊛ ‵ ftrue) ∷ ‵ Own ∷ []) ∵
       suffices ! _ (ends-at 𝓤 H A after-burst.ended stayed (after-burst.clauses 𝓤 H A at-mem run) W (((κ, tt), (q, tt), tt, x, at), tt) u d (tt, (tt, tt)) (tt, (tt, tt))) $ says ! e $
-      move ! (1 ∷ []) $ frame ! $ nothing ! $ move ! (2 ∷ 0 ∷ []) $ fjoin ! $ owned ! T.the-row (Is T.the-row) ((LL.makes T.the-type T′.the-plain) 𝓤 H A) h (mach h ∷ []) is $ fjoin ! $ frame ! $ done !
+      move ! (1 ∷ []) $ frame ! $ nothing ! $ move ! (2 ∷ 0 ∷ []) $ fjoin ! $
+      owned ! T.the-row (Is T.the-row) ((LL.makes T.the-type T′.the-plain) 𝓤 H A) h (mach h ∷ []) is $ fjoin ! $ frame ! $ done !
 
   told : (r : Stream) (t : Answer) (d : AfterBurst) → Says h (now s) r t → (d .stream ≡ r) × (d .answer ≡ t) → Says h (now s) (d .stream) (d .answer)
   told r t d e e′ = rw (e′ .0, e′ .1) e
@@ -135,19 +149,24 @@ module _ {M : Type 1} (𝓤 : URA M) (H : Heap 𝓤) (A : Atoms 𝓤) (W : Given
         use1 W (‵ Own ⊛ ‵ Own) (shr-slice-copy 𝓤 H A W (named 0) κ u8 .twice s (v ∷ [])) $ split ! $
         -- [what s owns, twice; true; what h owns; the token; true]
         enter ! C Λ code.function (mach h ∷ v ∷ []) _ $
-        alloc1 ! (λ l₀. alloc1 ! (λ l₁. alloc1 ! (λ l₂. alloc1 ! (λ l₃. alloc1 ! (λ l₄. alloc1 ! (λ l₅. alloc1 ! (λ l₆. alloc0 ! $ params1 ! $ pass1 ! (init ! 10 refl (LL.lawful T.the-type T′.the-laws 𝓤 H A W .typed h _ is .0)) $ pass1 ! (init ! 8 refl (shr-slice-lawful 𝓤 H A W (named 0) κ u8 .typed s (v ∷ []) p .0)) $ pass0 ! $
+        alloc1 ! (λ l₀. alloc1 ! (λ l₁. alloc1 ! (λ l₂. alloc1 ! (λ l₃. alloc1 ! (λ l₄. alloc1 ! (λ l₅. alloc1 ! (λ l₆. alloc0 ! $
+        params1 ! $ pass1 ! (init ! 10 refl (LL.lawful T.the-type T′.the-laws 𝓤 H A W .typed h _ is .0)) $
+        pass1 ! (init ! 8 refl (shr-slice-lawful 𝓤 H A W (named 0) κ u8 .typed s (v ∷ []) p .0)) $ pass0 ! $
         assigns ! (of-opd ! (load ! (from ! (stop !)) (look ! 10 refl))) (from ! (stop !)) (init ! 6 refl (LL.lawful T.the-type T′.the-laws 𝓤 H A W .typed h _ is .0)) $
         assigns ! (addr ! (from ! (stop !))) (from ! (stop !)) (init ! 2 refl (tt, tt)) $
         -- the local is lent
         move ! (6 ∷ []) $ use1 W (‵ (cellAt fullShare (T.the-row .mir) (mach h ∷ []) l₃ 0)) (W .laws .at-raw fullShare T′.mir l₃ 0 (mach h)) $ move ! (0 ∷ 17 ∷ []) $ fjoin ! $
         fpack ! (List Val) (λ us. fsep (cellAt fullShare (T.the-row .mir) us l₃ 0) (T.the-row .own h us)) (mach h ∷ []) $
         lft-new ! tt (λ ν. move ! (1 ∷ []) $
-        use1 W (later (some (λ (δ : GName). ‵ (MutRef (named 0) (ν ∷ []) T.the-row .own (lent l₃ δ) (vptr l₃ 0 ∷ [])) ⊛ ‵ (flent (ν ∷ []) (Body (mem T.the-row) l₃ 0 δ))))) (lends-ref 𝓤 H A W T.the-row (named 0) (ν ∷ []) h l₃ 0) $ await ! tt $ pick ! (λ δ. split ! $
+        use1 W (later (some (λ (δ : GName). ‵ (Ref l₃ ν δ) ⊛ ‵ (flent (ν ∷ []) (Body (mem T.the-row) l₃ 0 δ)))))
+        (lends-ref 𝓤 H A W T.the-row (named 0) (ν ∷ []) h l₃ 0) $ await ! tt $ pick ! (λ δ. split ! $
         move ! (0 ∷ 16 ∷ 2 ∷ 19 ∷ []) $ fjoin ! $ use3 W (raw (BurstC 𝓤 H A at-mem run .pre (to l₃ ν δ))) (goes l₃ ν δ) $
         -- [what burst asks; the lender's part; room for _6; …; _5; …; room for _4; …; what frees _3; _2; …; _1; …; room for _0; …; what s owns; …]
         calls-at ! fm (BurstC 𝓤 H A at-mem run) known (to l₃ ν δ) (and-then ! (load ! (from ! (stop !)) (look ! 4 refl)) (and-then ! (load ! (from ! (stop !)) (look ! 9 refl)) (no-more !))) (λ u.
-        use1 W (later (some (λ (t : Answer). ((‵ (flft (ν ∷ []) fullShare) ⊛ (‵ (flft κ q) ⊛ ‵ ftrue)) ⊛ ‵ (S.the-row .own t (u ∷ []))) ⊛ raw (ensured 𝓤 H A burst.ended (burst.clauses 𝓤 H A at-mem run) (ν ∷ [], (κ, tt)) (lent l₃ δ, (s, tt)) tt t)))) (id⊢ 𝓤 _) $ await ! tt $ pick ! (λ t.
-        split ! $ move ! (1 ∷ []) $ use1 W (some (λ (ws : Stream × (Unit {0} × Unit {0})). ‵ (lasts burst.ended (ν ∷ [], (κ, tt)) (lent l₃ δ, (s, tt)) ws) ⊛ raw (fact 𝓤 (Says h (now s) (ws .0) t)))) (id⊢ 𝓤 _) $ pick ! (λ ws.
+        use1 W (later (some (λ (t : Answer). ((‵ (flft (ν ∷ []) fullShare) ⊛ (‵ (flft κ q) ⊛ ‵ ftrue)) ⊛ ‵ (S.the-row .own t (u ∷ []))) ⊛ raw (BurstSays l₃ ν δ t)))) (id⊢ 𝓤 _) $
+        await ! tt $ pick ! (λ t.
+        split ! $ move ! (1 ∷ []) $
+        use1 W (some (λ (ws : Stream × (Unit {0} × Unit {0})). ‵ (lasts burst.ended (ν ∷ [], (κ, tt)) (lent l₃ δ, (s, tt)) ws) ⊛ raw (fact 𝓤 (Says h (now s) (ws .0) t)))) (id⊢ 𝓤 _) $ pick ! (λ ws.
         split ! $ move ! (1 ∷ []) $ heard ! (Says h (now s) (ws .0) t) (λ e. fsplit ! $ move ! (2 ∷ []) $ split ! $ move ! (1 ∷ []) $
         -- [what the answer owns; the tokens; the last value; …; the lender's part; room for _6; …; _5; …; room for _4; …; what frees _3; …]
         peeks ! S.the-row (Is S.the-row) (shows 𝓤 H A S.the-row) t (u ∷ []) (λ is-t.
@@ -159,19 +178,26 @@ module _ {M : Type 1} (𝓤 : URA M) (H : Heap 𝓤) (A : Atoms 𝓤) (W : Given
         -- [what the last value owns; _3; κ's token; what the answer owns; …; room for _6; …; _5; …; _4; …; what frees _3; _2; …; _1; …; room for _0; …; what s owns; …]
         assigns ! (of-opd ! (load ! (from ! (stop !)) (look ! 1 refl))) (from ! (stop !)) (init ! 5 refl (LL.lawful T.the-type T′.the-laws 𝓤 H A W .typed (ws .0) _ is′ .0)) $
         move ! (0 ∷ 3 ∷ []) $ use2 W (raw (MadeC 𝓤 H A at-mem run .pre (to-made (ws .0) t u))) (goes-made (ws .0) t u) $
-        calls-at ! fm (MadeC 𝓤 H A at-mem run) known-made (to-made (ws .0) t u) (and-then ! (load ! (from ! (stop !)) (look ! 4 refl)) (and-then ! (load ! (from ! (stop !)) (look ! 8 refl)) (no-more !))) (λ u′.
-        use1 W (later (some (λ (d : AfterBurst). (‵ ftrue ⊛ ‵ (D.the-row .own d (u′ ∷ []))) ⊛ raw (ensured 𝓤 H A made.ended (made.clauses 𝓤 H A at-mem run) tt (ws .0, (t, tt)) tt d)))) (id⊢ 𝓤 _) $ await ! tt $ pick ! (λ d.
+        calls-at ! fm (MadeC 𝓤 H A at-mem run) known-made (to-made (ws .0) t u)
+        (and-then ! (load ! (from ! (stop !)) (look ! 4 refl)) (and-then ! (load ! (from ! (stop !)) (look ! 8 refl)) (no-more !))) (λ u′.
+        use1 W (later (some (λ (d : AfterBurst). (‵ ftrue ⊛ ‵ (D.the-row .own d (u′ ∷ []))) ⊛ raw (MadeSays (ws .0) t d)))) (id⊢ 𝓤 _) $ await ! tt $ pick ! (λ d.
         split ! $ move ! (1 ∷ []) $ use1 W (raw (fact 𝓤 ((d .stream ≡ ws .0) × (d .answer ≡ t)))) (said (ws .0) t d) $ heard ! ((d .stream ≡ ws .0) × (d .answer ≡ t)) (λ e′. split ! $ drop ! $
         -- [what d owns; _3; κ's token; …; _6; …; _5; …; _4; …; what frees _3; _2; …; _1; …; room for _0; …; what s owns; …]
         peeks ! D.the-row (Is D.the-row) (shows 𝓤 H A D.the-row) d (u′ ∷ []) (λ is-d.
         land ! (from ! (stop !)) (init ! 15 refl (LL.lawful D.the-type D′.the-laws 𝓤 H A W .typed d _ is-d .0)) $
         returns ! (look ! 15 refl) $ forget ! 1 refl $ forget ! 4 refl $ forget ! 6 refl $ forget ! 8 refl $ forget ! 11 refl $ forget ! 13 refl $ forget ! 15 refl $
-        move ! (15 ∷ 16 ∷ []) $ free1 ! $ move ! (13 ∷ 14 ∷ []) $ free1 ! $ move ! (11 ∷ 12 ∷ []) $ free1 ! $ move ! (1 ∷ 10 ∷ []) $ free1 ! $ move ! (7 ∷ 8 ∷ []) $ free1 ! $ move ! (5 ∷ 6 ∷ []) $ free1 ! $ move ! (3 ∷ 4 ∷ []) $ free1 ! $ free0 ! $
+        move ! (15 ∷ 16 ∷ []) $ free1 ! $ move ! (13 ∷ 14 ∷ []) $ free1 ! $ move ! (11 ∷ 12 ∷ []) $ free1 ! $ move ! (1 ∷ 10 ∷ []) $ free1 ! $
+        move ! (7 ∷ 8 ∷ []) $ free1 ! $ move ! (5 ∷ 6 ∷ []) $ free1 ! $ move ! (3 ∷ 4 ∷ []) $ free1 ! $ free0 ! $
         keep ! (0 ∷ 1 ∷ 3 ∷ []) $ by ! (exits d u′ (told (ws .0) t d e e′) is)))))))))))))))))))))
 
 module _ {M : Type 1} (𝓤 : URA M) (H : Heap 𝓤) (A : Atoms 𝓤) (W : Given 𝓤 H A) (at-mem : Memory → SProp 𝓤) (run : Routine → Fun 𝓤) where
-  after-burst-walks : (C : Calls 𝓤 H) (Λ : Loops 𝓤 H) → FmC 𝓤 H (W .laws) C → Triple 𝓤 (C #burst) (BurstC 𝓤 H A at-mem run) → Triple 𝓤 (C #made) (MadeC 𝓤 H A at-mem run) → Walks 𝓤 H A after-burst.ended stayed (WpFn 𝓤 H C Λ code.function) (after-burst.clauses 𝓤 H A at-mem run)
-  after-burst-walks C Λ fm known known-made = walked 𝓤 H A after-burst.ended stayed (after-burst.clauses 𝓤 H A at-mem run) (WpFn 𝓤 H C Λ code.function) (λ κs. (LL.vals T.the-type T′.the-laws, (slice-vals, tt))) (λ κs. (LL.tells T.the-type T′.the-laws, (shr-slice-tells (named 0) (κs .0) u8, tt)))
+  after-burst-walks : (C : Calls 𝓤 H) (Λ : Loops 𝓤 H) → FmC 𝓤 H (W .laws) C
+      → Triple 𝓤 (C #burst) (BurstC 𝓤 H A at-mem run) → Triple 𝓤 (C #made) (MadeC 𝓤 H A at-mem run)
+      → Walks 𝓤 H A after-burst.ended stayed (WpFn 𝓤 H C Λ code.function) (after-burst.clauses 𝓤 H A at-mem run)
+  after-burst-walks C Λ fm known known-made =
+      walked 𝓤 H A after-burst.ended stayed (after-burst.clauses 𝓤 H A at-mem run) (WpFn 𝓤 H C Λ code.function)
+      (λ κs. (LL.vals T.the-type T′.the-laws, (slice-vals, tt)))
+      (λ κs. (LL.tells T.the-type T′.the-laws, (shr-slice-tells (named 0) (κs .0) u8, tt)))
       (λ κs qs bounds a g are. via 𝓤 _ (fst∗ 𝓤 _ (emp 𝓤)) (walk 𝓤 H A W at-mem run (κs .0) (qs .0) (a .0) (a .1 .0) C Λ fm known known-made (are .1 .0) (are .0)))
 
   goes-all : AllGo 𝓤 H A W 1 (after-burst.signature .params) (after-burst.ended .kept) stayed
@@ -180,7 +206,11 @@ module _ {M : Type 1} (𝓤 : URA M) (H : Heap 𝓤) (A : Atoms 𝓤) (W : Given
 after-burst-meets : {M : Type 1} (𝓤 : URA M) (H : Heap 𝓤) (A : Atoms 𝓤) (W : Given 𝓤 H A) (at-mem : Memory → SProp 𝓤) (run : Routine → Fun 𝓤) (𝓣 : Tables 𝓤 H)
     → Triple 𝓤 (𝓣 .C #burst) (BurstC 𝓤 H A at-mem run) → Triple 𝓤 (𝓣 .C #made) (MadeC 𝓤 H A at-mem run)
     → Meets 𝓤 H A after-burst.signature (WpFn 𝓤 H (𝓣 .C) (𝓣 .Λ) code.function) (after-burst.spec 𝓤 H A at-mem run)
-after-burst-meets 𝓤 H A W at-mem run 𝓣 known known-made = walk-meets 𝓤 H A after-burst.ended stayed W (goes-all 𝓤 H A W at-mem run) (after-burst.clauses 𝓤 H A at-mem run) (WpFn 𝓤 H (𝓣 .C) (𝓣 .Λ) code.function) (WpFn-mono 𝓤 H (W .laws) 𝓣 code.function) (after-burst-walks 𝓤 H A W at-mem run (𝓣 .C) (𝓣 .Λ) (fmOf 𝓤 H (W .laws) 𝓣) known known-made)
+after-burst-meets 𝓤 H A W at-mem run 𝓣 known known-made =
+    walk-meets 𝓤 H A after-burst.ended stayed W (goes-all 𝓤 H A W at-mem run) (after-burst.clauses 𝓤 H A at-mem run)
+    (WpFn 𝓤 H (𝓣 .C) (𝓣 .Λ) code.function)
+    (WpFn-mono 𝓤 H (W .laws) 𝓣 code.function)
+    (after-burst-walks 𝓤 H A W at-mem run (𝓣 .C) (𝓣 .Λ) (fmOf 𝓤 H (W .laws) 𝓣) known known-made)
 
 pub after-burst-spec : {M : Type 1} → stated.statement M
 unfolding code.routine tablesOf

@@ -68,7 +68,8 @@ module _ {M : Type 1} (𝓤 : URA M) (H : Heap 𝓤) (A : Atoms 𝓤) (at-mem : 
   abbrev AnswerC : Contract 𝓤
   AnswerC = tripleOf 𝓤 H A answer.signature (answer.spec 𝓤 H A at-mem run)
 
-module _ {M : Type 1} (𝓤 : URA M) (H : Heap 𝓤) (A : Atoms 𝓤) (W : Given 𝓤 H A) (at-mem : Memory → SProp 𝓤) (run : Routine → Fun 𝓤) (κ κ′ : Lft) (q q′ : Share) (b o : ℕ) (γ : GName) (h : Stream) (s : RefT (List ℕ)) where
+module _ {M : Type 1} (𝓤 : URA M) (H : Heap 𝓤) (A : Atoms 𝓤) (W : Given 𝓤 H A) (at-mem : Memory → SProp 𝓤) (run : Routine → Fun 𝓤)
+    (κ κ′ : Lft) (q q′ : Share) (b o : ℕ) (γ : GName) (h : Stream) (s : RefT (List ℕ)) where
   abbrev v : Val
   v = sliceVal (s .ptr) (length (s .now))
 
@@ -87,6 +88,19 @@ module _ {M : Type 1} (𝓤 : URA M) (H : Heap 𝓤) (A : Atoms 𝓤) (W : Given
   abbrev Post : Val → SProp 𝓤
   Post = walkOf 𝓤 H A burst.ended stayed (burst.clauses 𝓤 H A at-mem run) .post (((κ, (κ′, tt)), (q, (q′, tt)), tt, x, at), tt)
 
+  -- what is seen of the record r, and the borrow it lies in
+  abbrev Obs : Stream → Fml
+  Obs r = fobs γ (T.the-row .coded .code r)
+
+  abbrev Bor : Fml
+  Bor = fbor κ (Body (mem T.the-row) b o γ)
+
+  abbrev StepSays : Stream → SProp 𝓤
+  StepSays r = ensured 𝓤 H A step.ended (step.clauses 𝓤 H A at-mem run) (κ′, tt) (h, (s, tt)) tt r
+
+  abbrev AnswerSays : Stream → Answer → SProp 𝓤
+  AnswerSays r t = ensured 𝓤 H A answer.ended (answer.clauses 𝓤 H A at-mem run) tt (r, tt) tt t
+
   abbrev to : StepC 𝓤 H A at-mem run .Ghost
   to = (((κ′, tt), (q′, tt), tt, (h, (s, tt)), (mach h ∷ [], (v ∷ [], tt))), tt)
 
@@ -95,7 +109,7 @@ module _ {M : Type 1} (𝓤 : URA M) (H : Heap 𝓤) (A : Atoms 𝓤) (W : Given
       qed W (‵ (fsep (T.the-row .own h (mach h ∷ [])) Own) ∷ ‵ (flft κ′ q′) ∷ []) ∵ fsplit ! $ move ! (1 ∷ []) $ nothing ! $ move ! (1 ∷ 0 ∷ []) $ fjoin ! $ move ! (1 ∷ 0 ∷ []) $ fjoin ! $
       nothing ! $ move ! (2 ∷ 0 ∷ []) $ join ! $ join ! $ frame ! $ done !
 
-  said : (r : Stream) → ent 𝓤 (ensured 𝓤 H A step.ended (step.clauses 𝓤 H A at-mem run) (κ′, tt) (h, (s, tt)) tt r) (fact 𝓤 (Stepped h (now s) r))
+  said : (r : Stream) → ent 𝓤 (StepSays r) (fact 𝓤 (Stepped h (now s) r))
   said r = exE 𝓤 _ (λ ws. snd∗ 𝓤 (sem 𝓤 H A (lasts step.ended (κ′, tt) (h, (s, tt)) ws)) (fact 𝓤 (Stepped h (now s) r)))
 
   abbrev to-answer : Stream → Val → AnswerC 𝓤 H A at-mem run .Ghost
@@ -104,12 +118,13 @@ module _ {M : Type 1} (𝓤 : URA M) (H : Heap 𝓤) (A : Atoms 𝓤) (W : Given
   goes-answer : (r : Stream) (u : Val) → ent 𝓤 (sem 𝓤 H A (T.the-row .own r (u ∷ []))) (AnswerC 𝓤 H A at-mem run .pre (to-answer r u))
   goes-answer r u = qed W (‵ (T.the-row .own r (u ∷ [])) ∷ []) ∵ nothing ! $ move ! (1 ∷ 0 ∷ []) $ join ! $ nothing ! $ join ! $ frame ! $ done !
 
-  answered : (r : Stream) (t : Answer) → ent 𝓤 (ensured 𝓤 H A answer.ended (answer.clauses 𝓤 H A at-mem run) tt (r, tt) tt t) (fact 𝓤 (t ≡ answerOf (r .ended) (seen r)))
+  answered : (r : Stream) (t : Answer) → ent 𝓤 (AnswerSays r t) (fact 𝓤 (t ≡ answerOf (r .ended) (seen r)))
   answered r t = exE 𝓤 _ (λ ws. snd∗ 𝓤 (sem 𝓤 H A (lasts answer.ended tt (r, tt) ws)) (fact 𝓤 (t ≡ answerOf (r .ended) (seen r))))
 
-  exits : (r : Stream) (t : Answer) (u : Val) → Stepped h (now s) r → t ≡ answerOf (r .ended) (seen r) → ent 𝓤 (⋆ 𝓤 H A (‵ (S.the-row .own t (u ∷ [])) ∷ ‵ (fobs γ (T.the-row .coded .code r)) ∷ ‵ (fbor κ (Body (mem T.the-row) b o γ)) ∷ ‵ (flft κ q) ∷ (‵ (flft κ′ q′) ⊛ ‵ ftrue) ∷ ‵ Own ∷ [])) (Post u)
+  exits : (r : Stream) (t : Answer) (u : Val) → Stepped h (now s) r → t ≡ answerOf (r .ended) (seen r)
+      → ent 𝓤 (⋆ 𝓤 H A (‵ (S.the-row .own t (u ∷ [])) ∷ ‵ (Obs r) ∷ ‵ Bor ∷ ‵ (flft κ q) ∷ (‵ (flft κ′ q′) ⊛ ‵ ftrue) ∷ ‵ Own ∷ [])) (Post u)
   exits r t u e e′ =
-      qed W (‵ (S.the-row .own t (u ∷ [])) ∷ ‵ (fobs γ (T.the-row .coded .code r)) ∷ ‵ (fbor κ (Body (mem T.the-row) b o γ)) ∷ ‵ (flft κ q) ∷ (‵ (flft κ′ q′) ⊛ ‵ ftrue) ∷ ‵ Own ∷ []) ∵
+      qed W (‵ (S.the-row .own t (u ∷ [])) ∷ ‵ (Obs r) ∷ ‵ Bor ∷ ‵ (flft κ q) ∷ (‵ (flft κ′ q′) ⊛ ‵ ftrue) ∷ ‵ Own ∷ []) ∵
       suffices ! _ (ends-at 𝓤 H A burst.ended stayed (burst.clauses 𝓤 H A at-mem run) W (((κ, (κ′, tt)), (q, (q′, tt)), tt, x, at), tt) u t (r, (tt, tt)) (tt, (tt, tt))) $ says ! (e, e′) $
       move ! (3 ∷ 4 ∷ []) $ join ! $ frame ! $ move ! (1 ∷ 2 ∷ []) $ feqI ! (List Val) (vptr b o ∷ []) (vptr b o ∷ []) refl $ fjoin3 ! $
       nothing ! $ move ! (3 ∷ 0 ∷ []) $ fjoin ! $ move ! (1 ∷ 0 ∷ []) $ fjoin ! $ frame ! $ done !
@@ -117,19 +132,22 @@ module _ {M : Type 1} (𝓤 : URA M) (H : Heap 𝓤) (A : Atoms 𝓤) (W : Given
   module _ (C : Calls 𝓤 H) (Λ : Loops 𝓤 H) (fm : FmC 𝓤 H (W .laws) C) (known : Triple 𝓤 (C #step) (StepC 𝓤 H A at-mem run)) (known-answer : Triple 𝓤 (C #answer) (AnswerC 𝓤 H A at-mem run)) where
     walk : Is (ShrSlice (named 1) κ′ u8) s (v ∷ []) → ent 𝓤 (onEntry 𝓤 H A burst.signature (κ, (κ′, tt)) (q, (q′, tt)) x at) (WpFn 𝓤 H C Λ code.function (vptr b o ∷ v ∷ []) Post)
     walk p =
-        qed W ((‵ (flft κ q) ⊛ (‵ (flft κ′ q′) ⊛ ‵ ftrue)) ∷ ‵ (owns (MutRef (named 0) κ T.the-row ∷ ShrSlice (named 1) κ′ u8 ∷ []) x at) ∷ []) ∵ split ! $ move ! (1 ∷ []) $ split ! $ move ! (3 ∷ []) $ fsplit ! $ move ! (1 ∷ []) $ fsplit ! $
+        qed W ((‵ (flft κ q) ⊛ (‵ (flft κ′ q′) ⊛ ‵ ftrue)) ∷ ‵ (owns (MutRef (named 0) κ T.the-row ∷ ShrSlice (named 1) κ′ u8 ∷ []) x at) ∷ []) ∵
+        split ! $ move ! (1 ∷ []) $ split ! $ move ! (3 ∷ []) $ fsplit ! $ move ! (1 ∷ []) $ fsplit ! $
         use1 W (‵ Own ⊛ ‵ Own) (shr-slice-copy 𝓤 H A W (named 1) κ′ u8 .twice s (v ∷ [])) $ split ! $ move ! (3 ∷ []) $ fsplit3 ! $ drop ! $ move ! (0 ∷ 1 ∷ 7 ∷ []) $
         -- [obs; the borrow; κ's token; what s owns, twice; true; κ′'s token; true]
         enter ! C Λ code.function (vptr b o ∷ v ∷ []) _ $
-        alloc1 ! (λ l₀. alloc1 ! (λ l₁. alloc1 ! (λ l₂. alloc1 ! (λ l₃. alloc1 ! (λ l₄. alloc0 ! $ params1 ! $ pass1 ! (init ! 6 refl (tt, tt)) $ pass1 ! (init ! 4 refl (shr-slice-lawful 𝓤 H A W (named 1) κ′ u8 .typed s (v ∷ []) p .0)) $ pass0 ! $
-        move ! (10 ∷ 11 ∷ 12 ∷ []) $ opens ! tt T.the-row {h = h} b o (λ vs. spelt ! T.the-row (Is T.the-row) (shows 𝓤 H A T.the-row) (LL.vals T.the-type T′.the-laws) (LL.tells T.the-type T′.the-laws) fullShare h vs b o $
+        alloc1 ! (λ l₀. alloc1 ! (λ l₁. alloc1 ! (λ l₂. alloc1 ! (λ l₃. alloc1 ! (λ l₄. alloc0 ! $
+        params1 ! $ pass1 ! (init ! 6 refl (tt, tt)) $ pass1 ! (init ! 4 refl (shr-slice-lawful 𝓤 H A W (named 1) κ′ u8 .typed s (v ∷ []) p .0)) $ pass0 ! $
+        move ! (10 ∷ 11 ∷ 12 ∷ []) $ opens ! tt T.the-row {h = h} b o (λ vs.
+        spelt ! T.the-row (Is T.the-row) (shows 𝓤 H A T.the-row) (LL.vals T.the-type T′.the-laws) (LL.tells T.the-type T′.the-laws) fullShare h vs b o $
         -- [the cell; what h owns; the open borrow; obs; auth; room for _4; …; room for _3; …; _2; …; _1; …; room for _0; …; what s owns, twice; …]
         move ! (1 ∷ []) $ peeks ! T.the-row (Is T.the-row) (shows 𝓤 H A T.the-row) h (mach h ∷ []) (λ is. move ! (1 ∷ []) $
         assigns ! (of-opd ! (load ! (from ! (hop ! (look ! 11 refl) (stop !))) (look-raw ! 0 refl))) (from ! (stop !)) (init ! 5 refl (LL.lawful T.the-type T′.the-laws 𝓤 H A W .typed h _ is .0)) $
         move ! (1 ∷ 15 ∷ 18 ∷ []) $ fjoin ! $ use2 W (raw (StepC 𝓤 H A at-mem run .pre to)) goes $
         -- [what step asks; the cell; the open borrow; obs; auth; _4; …]
         calls-at ! fm (StepC 𝓤 H A at-mem run) known to (and-then ! (load ! (from ! (stop !)) (look ! 5 refl)) (and-then ! (load ! (from ! (stop !)) (look ! 9 refl)) (no-more !))) (λ u.
-        use1 W (later (some (λ (r : Stream). ((‵ (flft κ′ q′) ⊛ ‵ ftrue) ⊛ ‵ (T.the-row .own r (u ∷ []))) ⊛ raw (ensured 𝓤 H A step.ended (step.clauses 𝓤 H A at-mem run) (κ′, tt) (h, (s, tt)) tt r)))) (id⊢ 𝓤 _) $ await ! tt $ pick ! (λ r.
+        use1 W (later (some (λ (r : Stream). ((‵ (flft κ′ q′) ⊛ ‵ ftrue) ⊛ ‵ (T.the-row .own r (u ∷ []))) ⊛ raw (StepSays r)))) (id⊢ 𝓤 _) $ await ! tt $ pick ! (λ r.
         split ! $ move ! (1 ∷ []) $ use1 W (raw (fact 𝓤 (Stepped h (now s) r))) (said r) $ heard ! (Stepped h (now s) r) (λ e. split ! $ move ! (1 ∷ []) $
         -- [what r owns; κ′'s token; the cell; the open borrow; obs; auth; _4; …; room for _3; …]
         peeks ! T.the-row (Is T.the-row) (shows 𝓤 H A T.the-row) r (u ∷ []) (λ is′.
@@ -139,7 +157,7 @@ module _ {M : Type 1} (𝓤 : URA M) (H : Heap 𝓤) (A : Atoms 𝓤) (W : Given
         -- [obs; the borrow; κ's token; κ′'s token; _4; …; _3; …; _2; …; _1; …; room for _0; …; what s owns; …]
         owned ! T.the-row (Is T.the-row) ((LL.makes T.the-type T′.the-plain) 𝓤 H A) r (u ∷ []) is′ $ use1 W (raw (AnswerC 𝓤 H A at-mem run .pre (to-answer r u))) (goes-answer r u) $
         calls-at ! fm (AnswerC 𝓤 H A at-mem run) known-answer (to-answer r u) (and-then ! (load ! (from ! (stop !)) (look ! 7 refl)) (no-more !)) (λ u′.
-        use1 W (later (some (λ (t : Answer). (‵ ftrue ⊛ ‵ (S.the-row .own t (u′ ∷ []))) ⊛ raw (ensured 𝓤 H A answer.ended (answer.clauses 𝓤 H A at-mem run) tt (r, tt) tt t)))) (id⊢ 𝓤 _) $ await ! tt $ pick ! (λ t.
+        use1 W (later (some (λ (t : Answer). (‵ ftrue ⊛ ‵ (S.the-row .own t (u′ ∷ []))) ⊛ raw (AnswerSays r t)))) (id⊢ 𝓤 _) $ await ! tt $ pick ! (λ t.
         split ! $ move ! (1 ∷ []) $ use1 W (raw (fact 𝓤 (t ≡ answerOf (r .ended) (seen r)))) (answered r t) $ heard ! (t ≡ answerOf (r .ended) (seen r)) (λ e′. split ! $ drop ! $
         peeks ! S.the-row (Is S.the-row) (shows 𝓤 H A S.the-row) t (u′ ∷ []) (λ is″.
         land ! (from ! (stop !)) (init ! 13 refl (EL.lawful S.the-type S′.the-laws 𝓤 H A W tt .typed t _ is″ .0)) $
@@ -148,9 +166,15 @@ module _ {M : Type 1} (𝓤 : URA M) (H : Heap 𝓤) (A : Atoms 𝓤) (W : Given
         keep ! (0 ∷ 1 ∷ 2 ∷ 3 ∷ 4 ∷ 5 ∷ []) $ by ! (exits r t u′ e e′))))))))))))))))
 
 module _ {M : Type 1} (𝓤 : URA M) (H : Heap 𝓤) (A : Atoms 𝓤) (W : Given 𝓤 H A) (at-mem : Memory → SProp 𝓤) (run : Routine → Fun 𝓤) where
-  burst-walks : (C : Calls 𝓤 H) (Λ : Loops 𝓤 H) → FmC 𝓤 H (W .laws) C → Triple 𝓤 (C #step) (StepC 𝓤 H A at-mem run) → Triple 𝓤 (C #answer) (AnswerC 𝓤 H A at-mem run) → Walks 𝓤 H A burst.ended stayed (WpFn 𝓤 H C Λ code.function) (burst.clauses 𝓤 H A at-mem run)
-  burst-walks C Λ fm known known-answer = walked 𝓤 H A burst.ended stayed (burst.clauses 𝓤 H A at-mem run) (WpFn 𝓤 H C Λ code.function) (λ κs. (ptr-vals, (slice-vals, tt))) (λ κs. (mut-tells (named 0) (κs .0) T.the-row, (shr-slice-tells (named 1) (κs .1 .0) u8, tt)))
-      (λ κs qs bounds a g are. via 𝓤 _ (fst∗ 𝓤 _ (emp 𝓤)) (walk 𝓤 H A W at-mem run (κs .0) (κs .1 .0) (qs .0) (qs .1 .0) (a .0 .ptr .0) (a .0 .ptr .1) (a .0 .name) (a .0 .now) (a .1 .0) C Λ fm known known-answer (are .1 .0)))
+  burst-walks : (C : Calls 𝓤 H) (Λ : Loops 𝓤 H) → FmC 𝓤 H (W .laws) C
+      → Triple 𝓤 (C #step) (StepC 𝓤 H A at-mem run) → Triple 𝓤 (C #answer) (AnswerC 𝓤 H A at-mem run)
+      → Walks 𝓤 H A burst.ended stayed (WpFn 𝓤 H C Λ code.function) (burst.clauses 𝓤 H A at-mem run)
+  burst-walks C Λ fm known known-answer =
+      walked 𝓤 H A burst.ended stayed (burst.clauses 𝓤 H A at-mem run) (WpFn 𝓤 H C Λ code.function)
+      (λ κs. (ptr-vals, (slice-vals, tt)))
+      (λ κs. (mut-tells (named 0) (κs .0) T.the-row, (shr-slice-tells (named 1) (κs .1 .0) u8, tt)))
+      (λ κs qs bounds a g are. via 𝓤 _ (fst∗ 𝓤 _ (emp 𝓤))
+      (walk 𝓤 H A W at-mem run (κs .0) (κs .1 .0) (qs .0) (qs .1 .0) (a .0 .ptr .0) (a .0 .ptr .1) (a .0 .name) (a .0 .now) (a .1 .0) C Λ fm known known-answer (are .1 .0)))
 
   goes-all : AllGo 𝓤 H A W 2 (burst.signature .params) (burst.ended .kept) stayed
   goes-all = (goes-ref 𝓤 H A W 2 0 tt (plain (λ _. T.the-row)), (goes-none-slice 𝓤 H A W 2 (1 ∷ []) tt (plain (λ _. u8)) yes, tt))
@@ -158,7 +182,11 @@ module _ {M : Type 1} (𝓤 : URA M) (H : Heap 𝓤) (A : Atoms 𝓤) (W : Given
 burst-meets : {M : Type 1} (𝓤 : URA M) (H : Heap 𝓤) (A : Atoms 𝓤) (W : Given 𝓤 H A) (at-mem : Memory → SProp 𝓤) (run : Routine → Fun 𝓤) (𝓣 : Tables 𝓤 H)
     → Triple 𝓤 (𝓣 .C #step) (StepC 𝓤 H A at-mem run) → Triple 𝓤 (𝓣 .C #answer) (AnswerC 𝓤 H A at-mem run)
     → Meets 𝓤 H A burst.signature (WpFn 𝓤 H (𝓣 .C) (𝓣 .Λ) code.function) (burst.spec 𝓤 H A at-mem run)
-burst-meets 𝓤 H A W at-mem run 𝓣 known known-answer = walk-meets 𝓤 H A burst.ended stayed W (goes-all 𝓤 H A W at-mem run) (burst.clauses 𝓤 H A at-mem run) (WpFn 𝓤 H (𝓣 .C) (𝓣 .Λ) code.function) (WpFn-mono 𝓤 H (W .laws) 𝓣 code.function) (burst-walks 𝓤 H A W at-mem run (𝓣 .C) (𝓣 .Λ) (fmOf 𝓤 H (W .laws) 𝓣) known known-answer)
+burst-meets 𝓤 H A W at-mem run 𝓣 known known-answer =
+    walk-meets 𝓤 H A burst.ended stayed W (goes-all 𝓤 H A W at-mem run) (burst.clauses 𝓤 H A at-mem run)
+    (WpFn 𝓤 H (𝓣 .C) (𝓣 .Λ) code.function)
+    (WpFn-mono 𝓤 H (W .laws) 𝓣 code.function)
+    (burst-walks 𝓤 H A W at-mem run (𝓣 .C) (𝓣 .Λ) (fmOf 𝓤 H (W .laws) 𝓣) known known-answer)
 
 pub burst-spec : {M : Type 1} → stated.statement M
 unfolding code.routine tablesOf

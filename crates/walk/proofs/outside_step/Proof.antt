@@ -30,7 +30,9 @@ unfolding outsideStep
 returns-2 c =
     let at-if1 = c .before .before .before .before in
     let at-is-blank-line = at-if1 .before in
-    c .goes-on2 .ensures ∙ simp (sym (at-is-blank-line .is-blank-line .ensures) ∙ at-if1 .if1 .left, sym (c .before .before .before .is-delimiter .ensures) ∙ c .before .before .if2 .taken, lt-ltb _ _ (c .before .if3 .taken))
+    let not-blank = sym (at-is-blank-line .is-blank-line .ensures) ∙ at-if1 .if1 .left in
+    let delimiter = sym (c .before .before .before .is-delimiter .ensures) ∙ c .before .before .if2 .taken in
+    c .goes-on2 .ensures ∙ simp (not-blank, delimiter, lt-ltb _ _ (c .before .if3 .taken))
 
 refused-requires : tie.Need-refused-requires
 refused-requires c κs = search needs
@@ -40,7 +42,9 @@ unfolding outsideStep
 returns-3 c =
     let at-if1 = c .before .before .before .before in
     let at-is-blank-line = at-if1 .before in
-    c .refused .ensures ∙ simp (sym (at-is-blank-line .is-blank-line .ensures) ∙ at-if1 .if1 .left, sym (c .before .before .before .is-delimiter .ensures) ∙ c .before .before .if2 .taken, le-ltb _ _ (c .before .if3 .left))
+    let not-blank = sym (at-is-blank-line .is-blank-line .ensures) ∙ at-if1 .if1 .left in
+    let delimiter = sym (c .before .before .before .is-delimiter .ensures) ∙ c .before .before .if2 .taken in
+    c .refused .ensures ∙ simp (not-blank, delimiter, le-ltb _ _ (c .before .if3 .left))
 
 refused-requires-2 : tie.Need-refused-requires-2
 refused-requires-2 c κs = search needs

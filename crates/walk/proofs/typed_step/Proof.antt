@@ -51,7 +51,10 @@ returns-3 c =
     let at-may-continue = at-if3 .before in
     let at-if1 = at-may-continue .before in
     let at-is-delimiter = at-if1 .before in
-    simp (sym (at-is-delimiter .is-delimiter .ensures) ∙ at-if1 .if1 .left, sym (at-may-continue .may-continue .ensures) ∙ at-if3 .if3 .taken) (rw (← at-check-due .check-due .ensures) (sym (unless-here _ _ (c .if4 .taken))))
+    let no-delimiter = sym (at-is-delimiter .is-delimiter .ensures) ∙ at-if1 .if1 .left in
+    let may = sym (at-may-continue .may-continue .ensures) ∙ at-if3 .if3 .taken in
+    let due = at-check-due .check-due .ensures in
+    simp (no-delimiter, may) (rw (← due) (sym (unless-here _ _ (c .if4 .taken))))
 
 after-requires : tie.Need-after-requires
 after-requires c κs = search needs
@@ -67,7 +70,10 @@ returns-4 c =
     let at-may-continue = at-if3 .before in
     let at-if1 = at-may-continue .before in
     let at-is-delimiter = at-if1 .before in
-    c .goes-on2 .ensures ∙ simp (sym (at-is-delimiter .is-delimiter .ensures) ∙ at-if1 .if1 .left, sym (at-may-continue .may-continue .ensures) ∙ at-if3 .if3 .taken) (rw (c .before .after .ensures, ← at-check-due .check-due .ensures) (sym (unless-on _ _ (c .before .before .if4 .left))))
+    let no-delimiter = sym (at-is-delimiter .is-delimiter .ensures) ∙ at-if1 .if1 .left in
+    let may = sym (at-may-continue .may-continue .ensures) ∙ at-if3 .if3 .taken in
+    let due = at-check-due .check-due .ensures in
+    c .goes-on2 .ensures ∙ simp (no-delimiter, may) (rw (c .before .after .ensures, ← due) (sym (unless-on _ _ (c .before .before .if4 .left))))
 
 refused-requires-2 : tie.Need-refused-requires-2
 refused-requires-2 c κs = search needs
