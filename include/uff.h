@@ -31,7 +31,7 @@
 #define UFF_VALUE_BYTES 24
 #define UFF_DOUBLES 196608
 
-/* The record of the streaming calls: its numbers, and the bytes of its line. Some are not used yet; they are 0 and stay 0. */
+/* The record of the streaming calls: its numbers, and the bytes of its line. Some are not used yet: uff_start and uff_burst lay them as 0. */
 #define UFF_STREAM_NUMBERS 16
 #define UFF_STREAM_LINE 96
 

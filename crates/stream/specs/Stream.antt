@@ -70,7 +70,7 @@ openLen c = lineLen (take (pick (ltb 82 (c .held)) 82 (c .held)) (c .pending))
 unfoldable pub openOf : Stream → List ℕ
 openOf c = take (openLen c) (c .pending)
 
--- what a record says. Its open bytes past the held ones say nothing, nor its state and open line once a line is refused, nor all but its length and
+-- what a record says. Its open bytes past the held ones say nothing, nor a number held past an LF or past 82, nor its state and open line once a line is refused, nor all but its length and
 -- its end once past the limit: there two correct programs may differ, and no answer does. What a record answers that no bursts give is not the
 -- paper's; like any other it answers 23 where it is ended, otherwise 1 where it is past, otherwise the number and line that it holds, or "so far", with a place of
 -- at most 16,777,217.

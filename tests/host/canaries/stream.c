@@ -4,11 +4,13 @@
 #include <stdlib.h>
 #include <string.h>
 
-/* Which of the record's numbers is the refusal's, which says that the end was asked; how many numbers and bytes are used. */
+/* Which of the record's numbers is the refusal's, and which, the last that is used, says that the end was asked. */
 #define REFUSAL 8
 #define MARK 11
-#define USED_NUMBERS 12
-#define USED_LINE 82
+#define USED_NUMBERS (MARK + 1)
+
+/* Of the line, 80 columns and a line's end are used. */
+#define USED_LINE (80 + 2)
 
 /* A record whose buffers have so many places. */
 struct record {
