@@ -98,7 +98,8 @@ module _ (b : List ℕ) (at e : ℕ) (a : at ≤ length b) (q : e ≡ at + lineL
     cut-to =
         let n : length (take at b) ≡ at = length-take-le at b a in
         let k : e + 1 ≡ length (take at b) + suc (lineLen (drop at b)) = omega arith in
-        let t : take (e + 1) b ≡ take at b ++ take (suc (lineLen (drop at b))) (drop at b) = rw k (ap (take (length (take at b) + suc (lineLen (drop at b)))) (sym (take-append-drop at b)) ∙ take-append-add (take at b) (drop at b) (suc (lineLen (drop at b)))) in
+        let both = ap (take (length (take at b) + suc (lineLen (drop at b)))) (sym (take-append-drop at b)) in
+        let t : take (e + 1) b ≡ take at b ++ take (suc (lineLen (drop at b))) (drop at b) = rw k (both ∙ take-append-add (take at b) (drop at b) (suc (lineLen (drop at b)))) in
         ap cut t ∙ cut-more (take (suc (lineLen (drop at b))) (drop at b)) ∙ rw (cut-first (drop at b) (simp length-drop (omega arith))) refl
 
     pub lines-to : length (cut (take (e + 1) b) .lines) ≡ length (cut (take at b) .lines) + 1

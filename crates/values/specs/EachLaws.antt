@@ -75,7 +75,9 @@ module _ (g : ℕ → Real) (c : ℕ) where
       let a : suc i * k ≤ count * k = mul-le-mul-right k h in
       let b : suc i * k ≡ i * k + k = suc-mul i k in
       let z : count * k ≡ i * k + (k + (count * k - suc i * k)) = omega arith in
-      ap (reads g 0) z ∙ reads-append g 0 (i * k) (k + (count * k - suc i * k)) ∙ rw (reads-append g (0 + i * k) k (count * k - suc i * k)) (ap (λ (x : ℕ). reads g 0 (i * k) ++ (reads g x k ++ reads g (x + k) (count * k - suc i * k))) (omega arith))
+      let after = count * k - suc i * k in
+      ap (reads g 0) z ∙ reads-append g 0 (i * k) (k + after)
+      ∙ rw (reads-append g (0 + i * k) k after) (ap (λ (x : ℕ). reads g 0 (i * k) ++ (reads g x k ++ reads g (x + k) after)) (omega arith))
 
   value-part : (count : ℕ) → refusalIn (all count) ≤ 0 → (i : ℕ) → i < count → valueWith g c i ≡ said 0 (valueKind c) (take k (drop (i * k) (floatsIn (all count))))
   unfolding valueWith

@@ -1,19 +1,25 @@
--- `edges::answer_lines` is safe and ends. The loop's invariant: `from` is at most `i`, and `i` at most the file's length.
-use Prim.Native.Nat.{_≤_, _-_}
+-- `edges::answer_lines` is safe and ends.
+use Prim.Native.Nat.{ℕ, _≤_, _-_}
 use mathlib.Core.Logic.{⊎-elim}
+use mathlib.Core.List.{List}
 use lib.ListN.{length}
 use borrow.Author.Needs.{needs}
 use Rattle.edges.proofs.answer_lines.Statement.{statement}
 use Rattle.edges.proofs.answer_lines.Tie as tie
 
+-- the line that is read begins at `from`; byte i is next
+record Going (file : List ℕ) (from i : ℕ) : Type 0 where
+  begun : from ≤ i
+  within : i ≤ length file
+
 abbrev Inv-loop : tie.InvT-loop
-Inv-loop file from₀ i₀ t4 from i = (from ≤ i) × (i ≤ length file)
+Inv-loop file from₀ i₀ t4 from i = Going file from i
 
 abbrev μ-loop : tie.MeasureT-loop
 μ-loop file from₀ i₀ t4 from i = length file - i
 
 loop-holds : tie.Need-loop-holds Inv-loop μ-loop
-loop-holds c = search needs
+loop-holds c = record { begun = search needs; within = search needs }
 
 shared-slice-read-if1 : tie.Need-shared-slice-read-if1 Inv-loop μ-loop
 shared-slice-read-if1 c = search needs
@@ -46,7 +52,9 @@ loop-less : tie.Need-loop-less Inv-loop μ-loop
 loop-less c = search needs
 
 loop-again : tie.Need-loop-again Inv-loop μ-loop
-loop-again c = ⊎-elim (λ w. (search needs, search needs)) (λ w. (search needs, search needs)) (c .if1 .came)
+loop-again c =
+    ⊎-elim (λ w. record { begun = search needs; within = search needs }) (λ w. record { begun = search needs; within = search needs })
+    (c .if1 .came)
 
 returns : tie.Need-returns Inv-loop μ-loop
 returns c = search needs

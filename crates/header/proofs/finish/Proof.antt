@@ -55,19 +55,22 @@ returns-3 : tie.Need-returns-3
 returns-3 c =
     let at-if1 = c .before .before .before .before in
     let at-start = at-if1 .before .before in
-    c .refuse3 .ensures ∙ end-place (at-start .args .s) (at-start .args .lines) (at-start .args .rest .now) _ (at-if1 .if1 .left) (c .before .before .before .if2 .left) (c .before .enum-told .given .1)
+    let args = at-start .args in
+    c .refuse3 .ensures ∙ end-place (args .s) (args .lines) (args .rest .now) _ (at-if1 .if1 .left) (c .before .before .before .if2 .left) (c .before .enum-told .given .1)
 
 returns-4 : tie.Need-returns-4
 returns-4 c =
     let at-if1 = c .before .before .before .before in
     let at-start = at-if1 .before .before in
-    c .refuse4 .ensures ∙ end-place (at-start .args .s) (at-start .args .lines) (at-start .args .rest .now) _ (at-if1 .if1 .left) (c .before .before .before .if2 .left) (c .before .enum-told2 .given .1)
+    let args = at-start .args in
+    c .refuse4 .ensures ∙ end-place (args .s) (args .lines) (args .rest .now) _ (at-if1 .if1 .left) (c .before .before .before .if2 .left) (c .before .enum-told2 .given .1)
 
 returns-5 : tie.Need-returns-5
 returns-5 c =
     let at-if1 = c .before .before .before .before in
     let at-start = at-if1 .before .before in
-    c .refuse5 .ensures ∙ end-place (at-start .args .s) (at-start .args .lines) (at-start .args .rest .now) _ (at-if1 .if1 .left) (c .before .before .before .if2 .left) (c .before .enum-told3 .given .1)
+    let args = at-start .args in
+    c .refuse5 .ensures ∙ end-place (args .s) (args .lines) (args .rest .now) _ (at-if1 .if1 .left) (c .before .before .before .if2 .left) (c .before .enum-told3 .given .1)
 
 returns-6 : tie.Need-returns-6
 returns-6 c =

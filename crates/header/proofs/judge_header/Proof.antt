@@ -24,7 +24,9 @@ add-refuse : tie.Need-add-refuse
 add-refuse c =
     let at-past-eleven = c .before .before .before .before .before in
     let at-start = at-past-eleven .before .before in
-    omega (arith, refused-most (at-start .args .header .now) (at-past-eleven .past-eleven .result) (at-past-eleven .past-eleven .ensures) _ (c .before .before .before .judge-lines .ensures) (c .before .if1 .taken))
+    let header = at-start .args .header .now in
+    let past = at-past-eleven .past-eleven in
+    omega (arith, refused-most header (past .result) (past .ensures) _ (c .before .before .before .judge-lines .ensures) (c .before .if1 .taken))
 
 refuse-requires : tie.Need-refuse-requires
 refuse-requires c κs = search needs
@@ -34,7 +36,9 @@ returns c =
     let at-judge-lines = c .before .before .before .before in
     let at-past-eleven = at-judge-lines .before .before in
     let at-start = at-past-eleven .before .before in
-    c .refuse .ensures ∙ header-refused (at-start .args .header .now) (at-past-eleven .past-eleven .result) (at-past-eleven .past-eleven .ensures) _ (at-judge-lines .judge-lines .ensures) (c .before .before .if1 .taken)
+    let header = at-start .args .header .now in
+    let past = at-past-eleven .past-eleven in
+    c .refuse .ensures ∙ header-refused header (past .result) (past .ensures) _ (at-judge-lines .judge-lines .ensures) (c .before .before .if1 .taken)
 
 find-end-requires : tie.Need-find-end-requires
 find-end-requires c κs = search needs
@@ -57,7 +61,9 @@ add-refuse-2 c =
     let at-judge-lines = at-if1 .before .before in
     let at-past-eleven = at-judge-lines .before .before in
     let at-start = at-past-eleven .before .before in
-    omega (arith, eleven-most (at-start .args .header .now) (at-past-eleven .past-eleven .result) (at-past-eleven .past-eleven .ensures) _ (at-judge-lines .judge-lines .ensures) (at-if1 .if1 .left))
+    let header = at-start .args .header .now in
+    let past = at-past-eleven .past-eleven in
+    omega (arith, eleven-most header (past .result) (past .ensures) _ (at-judge-lines .judge-lines .ensures) (at-if1 .if1 .left))
 
 refuse-requires-2 : tie.Need-refuse-requires-2
 refuse-requires-2 c κs = search needs
@@ -70,21 +76,33 @@ returns-2 c =
     let at-judge-lines = at-if1 .before .before in
     let at-past-eleven = at-judge-lines .before .before in
     let at-start = at-past-eleven .before .before in
-    c .refuse2 .ensures ∙ header-past (at-judge-lines .judge-lines .result .state) (at-judge-lines .judge-lines .result .lines) (at-start .args .header .now) _ _ (at-most (at-start .args .header .now) (at-past-eleven .past-eleven .result) (at-past-eleven .past-eleven .ensures) _ (at-judge-lines .judge-lines .ensures) (at-if1 .if1 .left)) (at-find-end .find-end .ensures) (at-if2 .if2 .taken) _ (c .before .before .past-fault .ensures) (eleven (at-start .args .header .now) (at-past-eleven .past-eleven .result) (at-past-eleven .past-eleven .ensures) _ (at-judge-lines .judge-lines .ensures) (at-if1 .if1 .left) _ (at-find-end .find-end .ensures) (at-if2 .if2 .taken)) ∙ header-going (at-start .args .header .now) (at-past-eleven .past-eleven .result) (at-past-eleven .past-eleven .ensures) _ (at-judge-lines .judge-lines .ensures) (at-if1 .if1 .left)
+    let header = at-start .args .header .now in
+    let past = at-past-eleven .past-eleven in
+    let judged = at-judge-lines .judge-lines in
+    let end = at-find-end .find-end .ensures in
+    let more = at-if2 .if2 .taken in
+    let full = eleven header (past .result) (past .ensures) _ (judged .ensures) (at-if1 .if1 .left) _ end more in
+    let whole = header-going header (past .result) (past .ensures) _ (judged .ensures) (at-if1 .if1 .left) in
+    let refused = header-past (judged .result .state) (judged .result .lines) header _ _ (at-most header (past .result) (past .ensures) _ (judged .ensures) (at-if1 .if1 .left)) end more in
+    c .refuse2 .ensures ∙ refused _ (c .before .before .past-fault .ensures) full ∙ whole
 
 sub-finish : tie.Need-sub-finish
 sub-finish c =
     let at-judge-lines = c .before .before .before .before in
     let at-past-eleven = at-judge-lines .before .before in
     let at-start = at-past-eleven .before .before in
-    omega (arith, at-most (at-start .args .header .now) (at-past-eleven .past-eleven .result) (at-past-eleven .past-eleven .ensures) _ (at-judge-lines .judge-lines .ensures) (c .before .before .if1 .left))
+    let header = at-start .args .header .now in
+    let past = at-past-eleven .past-eleven in
+    omega (arith, at-most header (past .result) (past .ensures) _ (at-judge-lines .judge-lines .ensures) (c .before .before .if1 .left))
 
 part-finish-start : tie.Need-part-finish-start
 part-finish-start c =
     let at-judge-lines = c .before .before .before .before in
     let at-past-eleven = at-judge-lines .before .before in
     let at-start = at-past-eleven .before .before in
-    omega (arith, at-most (at-start .args .header .now) (at-past-eleven .past-eleven .result) (at-past-eleven .past-eleven .ensures) _ (at-judge-lines .judge-lines .ensures) (c .before .before .if1 .left))
+    let header = at-start .args .header .now in
+    let past = at-past-eleven .past-eleven in
+    omega (arith, at-most header (past .result) (past .ensures) _ (at-judge-lines .judge-lines .ensures) (c .before .before .if1 .left))
 
 part-finish-end : tie.Need-part-finish-end
 part-finish-end c = search needs
@@ -94,7 +112,9 @@ finish-requires c κs =
     let at-judge-lines = c .before .before .before .before .before in
     let at-past-eleven = at-judge-lines .before .before in
     let at-start = at-past-eleven .before .before in
-    eleven-most (at-start .args .header .now) (at-past-eleven .past-eleven .result) (at-past-eleven .past-eleven .ensures) _ (at-judge-lines .judge-lines .ensures) (c .before .before .before .if1 .left)
+    let header = at-start .args .header .now in
+    let past = at-past-eleven .past-eleven in
+    eleven-most header (past .result) (past .ensures) _ (at-judge-lines .judge-lines .ensures) (c .before .before .before .if1 .left)
 
 returns-3 : tie.Need-returns-3
 returns-3 c =
@@ -102,7 +122,14 @@ returns-3 c =
     let at-judge-lines = at-if1 .before .before in
     let at-past-eleven = at-judge-lines .before .before in
     let at-start = at-past-eleven .before .before in
-    c .finish .ensures ∙ ap (headerEnd (going (at-judge-lines .judge-lines .result .state) (at-judge-lines .judge-lines .result .lines))) (tail-part (at-start .args .header .now) (at-judge-lines .judge-lines .result .at)) ∙ sym (judge-last headerStep headerEnd _ _ _ _ (at-most (at-start .args .header .now) (at-past-eleven .past-eleven .result) (at-past-eleven .past-eleven .ensures) _ (at-judge-lines .judge-lines .ensures) (at-if1 .if1 .left)) (c .before .before .before .find-end .ensures) (c .before .before .if2 .left)) ∙ header-going (at-start .args .header .now) (at-past-eleven .past-eleven .result) (at-past-eleven .past-eleven .ensures) _ (at-judge-lines .judge-lines .ensures) (at-if1 .if1 .left)
+    let header = at-start .args .header .now in
+    let past = at-past-eleven .past-eleven in
+    let judged = at-judge-lines .judge-lines in
+    let end = c .before .before .before .find-end .ensures in
+    let most = at-most header (past .result) (past .ensures) _ (judged .ensures) (at-if1 .if1 .left) in
+    let whole = header-going header (past .result) (past .ensures) _ (judged .ensures) (at-if1 .if1 .left) in
+    let tail = ap (headerEnd (going (judged .result .state) (judged .result .lines))) (tail-part header (judged .result .at)) in
+    c .finish .ensures ∙ tail ∙ sym (judge-last headerStep headerEnd _ _ _ _ most end (c .before .before .if2 .left)) ∙ whole
 
 pub judge-header-spec : {M : Type 1} → statement M
 judge-header-spec =

@@ -42,7 +42,10 @@ returns-3 c =
     let at-judge-lines = c .before .before .before .before in
     let at-if1 = at-judge-lines .before in
     let at-start = at-if1 .before .before in
-    c .finish .ensures ∙ simp (le-ltb _ _ (at-if1 .if1 .left)) (ap (runEnd (going (at-judge-lines .judge-lines .result .state) (at-judge-lines .judge-lines .result .lines))) (tail-part (at-start .args .file .now) (at-judge-lines .judge-lines .result .at)) ∙ whole-going _ _ _ _ (at-judge-lines .judge-lines .ensures) (c .before .before .if2 .left))
+    let r = at-judge-lines .judge-lines .result in
+    let tail = tail-part (at-start .args .file .now) (r .at) in
+    let whole = whole-going _ _ _ _ (at-judge-lines .judge-lines .ensures) (c .before .before .if2 .left) in
+    c .finish .ensures ∙ simp (le-ltb _ _ (at-if1 .if1 .left)) (ap (runEnd (going (r .state) (r .lines))) tail ∙ whole)
 
 pub judge-spec : {M : Type 1} → statement M
 judge-spec =

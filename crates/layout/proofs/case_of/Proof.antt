@@ -26,7 +26,7 @@ returns-5 c = simp (eq-eqb _ _ (c .if6 .taken), ne-eqb _ _ (c .before .if5 .left
 
 returns-6 : tie.Need-returns-6
 unfolding caseFor layouts
-returns-6 c = simp (ne-eqb _ _ (c .if6 .left), ne-eqb _ _ (c .before .if5 .left), c .before .before .if4 .taken, ne-eqb _ _ (c .before .before .before .if1 .left))
+returns-6 c = simp (ne-eqb _ _ (c .if6 .left), ne-eqb _ _ (c .before .if5 .left), c .before .before .if4 .taken)
 
 returns-7 : tie.Need-returns-7
 unfolding caseFor layouts
@@ -40,29 +40,28 @@ returns-8 c =
 
 returns-9 : tie.Need-returns-9
 unfolding caseFor layouts
-returns-9 c =
-    let at-if1 = c .before .before .before .before in
-    simp (ne-eqb _ _ (c .if9 .left), ne-eqb _ _ (c .before .if8 .left), c .before .before .if7 .taken, ne-eqb _ _ (c .before .before .before .if4 .left), ne-eqb _ _ (at-if1 .if1 .left))
+returns-9 c = simp (ne-eqb _ _ (c .if9 .left), ne-eqb _ _ (c .before .if8 .left), c .before .before .if7 .taken)
 
 returns-10 : tie.Need-returns-10
 unfolding caseFor layouts
 returns-10 c =
-    let at-if1 = c .before .before .before .before in
-    simp (eq-eqb _ _ (c .if11 .taken), eq-eqb _ _ (c .before .if10 .taken), ne-eqb _ _ (c .before .before .if7 .left), ne-eqb _ _ (c .before .before .before .if4 .left), ne-eqb _ _ (at-if1 .if1 .left))
+    let at-if4 = c .before .before .before in
+    let at-if1 = at-if4 .before in
+    simp (eq-eqb _ _ (c .if11 .taken), eq-eqb _ _ (c .before .if10 .taken), ne-eqb _ _ (c .before .before .if7 .left), ne-eqb _ _ (at-if4 .if4 .left), ne-eqb _ _ (at-if1 .if1 .left))
 
 returns-11 : tie.Need-returns-11
 unfolding caseFor layouts
 returns-11 c =
-    let at-if4 = c .before .before .before .before in
-    let at-if1 = at-if4 .before in
-    simp (eq-eqb _ _ (c .if12 .taken), ne-eqb _ _ (c .before .if11 .left), eq-eqb _ _ (c .before .before .if10 .taken), ne-eqb _ _ (c .before .before .before .if7 .left), ne-eqb _ _ (at-if4 .if4 .left), ne-eqb _ _ (at-if1 .if1 .left))
+    let at-if10 = c .before .before in
+    let at-if4 = at-if10 .before .before in
+    let not-7 = ne-eqb _ _ (at-if10 .before .if7 .left) in
+    let not-4 = ne-eqb _ _ (at-if4 .if4 .left) in
+    let not-1 = ne-eqb _ _ (at-if4 .before .if1 .left) in
+    simp (eq-eqb _ _ (c .if12 .taken), ne-eqb _ _ (c .before .if11 .left), eq-eqb _ _ (at-if10 .if10 .taken), not-7, not-4, not-1)
 
 returns-12 : tie.Need-returns-12
 unfolding caseFor layouts
-returns-12 c =
-    let at-if4 = c .before .before .before .before in
-    let at-if1 = at-if4 .before in
-    simp (ne-eqb _ _ (c .if12 .left), ne-eqb _ _ (c .before .if11 .left), c .before .before .if10 .taken, ne-eqb _ _ (c .before .before .before .if7 .left), ne-eqb _ _ (at-if4 .if4 .left), ne-eqb _ _ (at-if1 .if1 .left))
+returns-12 c = simp (ne-eqb _ _ (c .if12 .left), ne-eqb _ _ (c .before .if11 .left), c .before .before .if10 .taken)
 
 returns-13 : tie.Need-returns-13
 unfolding caseFor layouts

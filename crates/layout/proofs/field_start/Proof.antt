@@ -2,7 +2,7 @@
 use Rattle.layout.specs.LayoutLaws.{fieldStart-past, fieldPast-inside}
 use native.Mathlib.Numerals.{add-one}
 use mathlib.Core.Path.{_≡_, refl, ap, _∙_}
-use Prim.Native.Nat.{_≤_, _-_}
+use Prim.Native.Nat.{ℕ, _≤_, _-_}
 use Rattle.layout.specs.Columns.{fieldStart, fieldPast}
 use Rattle.layout.specs.Layout.{layoutOf}
 use Rattle.layout.specs.ColumnsLaws.{fieldStart-next}
@@ -11,20 +11,25 @@ use native.Mathlib.Omega.{arith}
 use Rattle.layout.proofs.field_start.Statement.{statement}
 use Rattle.layout.proofs.field_start.Tie as tie
 
+-- the byte where field k begins is reached
+record Going (case field at k : ℕ) : Type 0 where
+  within : k ≤ field
+  here : at ≡ fieldStart (layoutOf case .widths) k
+
 abbrev Inv-loop : tie.InvT-loop
-Inv-loop case field at₀ k₀ at k = (k ≤ field) × (at ≡ fieldStart (layoutOf case .widths) k)
+Inv-loop case field at₀ k₀ at k = Going case field at k
 
 abbrev μ-loop : tie.MeasureT-loop
 μ-loop case field at₀ k₀ at k = field - k
 
 loop-holds : tie.Need-loop-holds Inv-loop μ-loop
 unfolding fieldStart
-loop-holds c = (search needs, refl)
+loop-holds c = record { within = search needs; here = refl }
 
 returns : tie.Need-returns Inv-loop μ-loop
 returns c =
     let at-loop = c .before .before in
-    at-loop .loop .inv .1 ∙ fieldStart-past _ _ _ (c .if1 .taken) (at-loop .loop .inv .0)
+    at-loop .loop .inv .here ∙ fieldStart-past _ _ _ (c .if1 .taken) (at-loop .loop .inv .within)
 
 field-width-requires : tie.Need-field-width-requires Inv-loop μ-loop
 field-width-requires c κs = search needs
@@ -43,12 +48,14 @@ loop-less c = search needs
 
 loop-again : tie.Need-loop-again Inv-loop μ-loop
 unfolding fieldPast
-loop-again c = (search needs, rw (add-one, fieldStart-next) (rw (c .before .before .before .loop .inv .1, c .field-width .ensures) refl))
+loop-again c =
+    let at-loop = c .before .before .before in
+    record { within = search needs; here = rw (add-one, fieldStart-next) (rw (at-loop .loop .inv .here, c .field-width .ensures) refl) }
 
 returns-2 : tie.Need-returns-2 Inv-loop μ-loop
 returns-2 c =
     let at-start = c .before .before in
-    let e : c .before .loop .k ≡ at-start .args .field = omega arith in c .before .loop .inv .1 ∙ ap (fieldStart (layoutOf (at-start .args .case) .widths)) e
+    let e : c .before .loop .k ≡ at-start .args .field = omega arith in c .before .loop .inv .here ∙ ap (fieldStart (layoutOf (at-start .args .case) .widths)) e
 
 pub field-start-spec : {M : Type 1} → statement M
 field-start-spec =

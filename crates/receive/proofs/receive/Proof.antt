@@ -1,13 +1,19 @@
 -- `receive::receive` keeps its bounds and ends.
 use mathlib.Core.Path.{_≡_}
-use Prim.Native.Nat.{_≤_}
+use mathlib.Core.List.{List}
+use Prim.Native.Nat.{ℕ, _≤_}
 use lib.ListN.{length}
 use borrow.Author.Needs.{needs}
 use Rattle.receive.proofs.receive.Statement.{statement}
 use Rattle.receive.proofs.receive.Tie as tie
 
+-- the burst is whole, and no more bursts are left than at the start
+record Going (burst : List ℕ) (left : ℕ) : Type 0 where
+  whole : length burst ≡ 512
+  few : left ≤ 32769
+
 abbrev Inv-loop : tie.InvT-loop
-Inv-loop record₀ burst₀ left₀ «record» burst left = (length burst ≡ 512) × (left ≤ 32769)
+Inv-loop record₀ burst₀ left₀ «record» burst left = Going burst left
 
 abbrev μ-loop : tie.MeasureT-loop
 μ-loop record₀ burst₀ left₀ «record» burst left = left
@@ -18,7 +24,7 @@ fresh-requires c κs = search needs
 
 -- src/main.rt:50:5
 loop-holds : tie.Need-loop-holds Inv-loop μ-loop
-loop-holds c = search needs
+loop-holds c = record { whole = search needs; few = search needs }
 
 -- src/main.rt:51:45
 slice-aggregate-read-full : tie.Need-slice-aggregate-read-full Inv-loop μ-loop
@@ -62,7 +68,7 @@ loop-less c = search needs
 
 -- src/main.rt:50:5
 loop-again : tie.Need-loop-again Inv-loop μ-loop
-loop-again c = search needs
+loop-again c = record { whole = search needs; few = search needs }
 
 -- src/main.rt:46:1
 returns-3 : tie.Need-returns-3 Inv-loop μ-loop

@@ -22,7 +22,8 @@ returns-2 : tie.Need-returns-2
 returns-2 c =
     let at-judge = c .before .before .before .before .before in
     let at-start = at-judge .before .before .before in
-    none-there (at-start .args .file .now) (at-start .args .set) (at-start .args .out .now) _ (at-judge .judge .ensures) (c .before .before .before .if1 .left) _ (c .before .before .find-data .ensures) (c .if2 .taken)
+    let args = at-start .args in
+    none-there (args .file .now) (args .set) (args .out .now) _ (at-judge .judge .ensures) (c .before .before .before .if1 .left) _ (c .before .before .find-data .ensures) (c .if2 .taken)
 
 cast-stored : tie.Need-cast-stored
 cast-stored c = search needs
@@ -34,7 +35,9 @@ mul-stored : tie.Need-mul-stored
 mul-stored c =
     let at-find-data = c .before .before .before .before in
     let at-start = at-find-data .before .before .before .before .before .before in
-    let h : at-find-data .find-data .result .count * c .numbers-of .result ≤ at-find-data .find-data .result .count * 3 = start-most _ _ _ (data-inside (at-start .args .file .now) _ _ (at-find-data .find-data .ensures) .1) (c .numbers-of .ensures) in search needs
+    let found = at-find-data .find-data in
+    let inside = data-inside (at-start .args .file .now) _ _ (found .ensures) in
+    let few : found .result .count * c .numbers-of .result ≤ found .result .count * 3 = start-most _ _ _ (inside .1) (c .numbers-of .ensures) in search needs
 
 first-refusal-requires : tie.Need-first-refusal-requires
 first-refusal-requires c κs =
@@ -49,7 +52,9 @@ returns-3 c =
     let at-if1 = at-find-data .before in
     let at-judge = at-if1 .before .before in
     let at-start = at-judge .before .before .before in
-    one-refused (at-start .args .file .now) (at-start .args .set) (at-start .args .out .now) _ (at-judge .judge .ensures) (at-if1 .if1 .left) _ (at-find-data .find-data .ensures) (at-if2 .if2 .left) _ _ _ refl (c .before .before .numbers-of .ensures) (c .before .first-refusal .ensures) (c .if3 .taken)
+    let args = at-start .args in
+    let refused = one-refused (args .file .now) (args .set) (args .out .now) _ (at-judge .judge .ensures) (at-if1 .if1 .left) _ (at-find-data .find-data .ensures) (at-if2 .if2 .left) in
+    refused _ _ _ refl (c .before .before .numbers-of .ensures) (c .before .first-refusal .ensures) (c .if3 .taken)
 
 returns-4 : tie.Need-returns-4
 returns-4 c =
@@ -58,7 +63,9 @@ returns-4 c =
     let at-if1 = at-find-data .before in
     let at-judge = at-if1 .before .before in
     let at-start = at-judge .before .before .before in
-    too-few (at-start .args .file .now) (at-start .args .set) (at-start .args .out .now) _ (at-judge .judge .ensures) (at-if1 .if1 .left) _ (at-find-data .find-data .ensures) (at-if2 .if2 .left) _ _ _ refl (c .before .before .before .numbers-of .ensures) (c .before .before .first-refusal .ensures) (c .before .if3 .left) (c .if4 .taken)
+    let args = at-start .args in
+    let few = too-few (args .file .now) (args .set) (args .out .now) _ (at-judge .judge .ensures) (at-if1 .if1 .left) _ (at-find-data .find-data .ensures) (at-if2 .if2 .left) in
+    few _ _ _ refl (c .before .before .before .numbers-of .ensures) (c .before .before .first-refusal .ensures) (c .before .if3 .left) (c .if4 .taken)
 
 fill-requires : tie.Need-fill-requires
 fill-requires c κs =
@@ -80,7 +87,9 @@ returns-5 c =
     let at-if1 = at-find-data .before in
     let at-judge = at-if1 .before .before in
     let at-start = at-judge .before .before .before in
-    all-filled (at-start .args .file .now) (at-start .args .set) (at-start .args .out .now) _ (at-judge .judge .ensures) (at-if1 .if1 .left) _ (at-find-data .find-data .ensures) (at-if2 .if2 .left) _ _ _ refl (at-numbers-of .numbers-of .ensures) (at-first-refusal .first-refusal .ensures) (at-if3 .if3 .left) (at-if4 .if4 .left) _ (c .before .before .fill .ensures)
+    let args = at-start .args in
+    let filled = all-filled (args .file .now) (args .set) (args .out .now) _ (at-judge .judge .ensures) (at-if1 .if1 .left) _ (at-find-data .find-data .ensures) (at-if2 .if2 .left) in
+    filled _ _ _ refl (at-numbers-of .numbers-of .ensures) (at-first-refusal .first-refusal .ensures) (at-if3 .if3 .left) (at-if4 .if4 .left) _ (c .before .before .fill .ensures)
 
 pub values-spec : {M : Type 1} → statement M
 values-spec =

@@ -1,6 +1,8 @@
 -- `writer::first_unfit` meets its contract.
+use lib.IntN.{ℤ}
 use mathlib.Core.Path.{sym, _∙_, _≡_, refl}
-use Prim.Native.Nat.{_≤_, _-_}
+use mathlib.Core.List.{List}
+use Prim.Native.Nat.{ℕ, _≤_, _-_}
 use borrow.Author.Tests.{not-true, not-false}
 use borrow.Author.Needs.{needs}
 use lib.ListN.{length, drop}
@@ -11,14 +13,19 @@ use Rattle.writer.specs.Writer.{firstUnfit}
 use Rattle.writer.proofs.first_unfit.Statement.{statement}
 use Rattle.writer.proofs.first_unfit.Tie as tie
 
+-- the first j numbers fit
+record Going (case : ℕ) (coefficients scales : List ℤ) (j : ℕ) : Type 0 where
+  within : j ≤ length coefficients
+  same : firstUnfit case j (drop j coefficients) (drop j scales) ≡ firstUnfit case 0 coefficients scales
+
 abbrev Inv-loop : tie.InvT-loop
-Inv-loop case coefficients scales j₀ j = (j ≤ length coefficients) × (firstUnfit case j (drop j coefficients) (drop j scales) ≡ firstUnfit case 0 coefficients scales)
+Inv-loop case coefficients scales j₀ j = Going case coefficients scales j
 
 abbrev μ-loop : tie.MeasureT-loop
 μ-loop case coefficients scales j₀ j = length coefficients - j
 
 loop-holds : tie.Need-loop-holds Inv-loop μ-loop
-loop-holds c = (search needs, refl)
+loop-holds c = record { within = search needs; same = refl }
 
 width-at-requires : tie.Need-width-at-requires Inv-loop μ-loop
 width-at-requires c κs = search needs
@@ -48,7 +55,12 @@ returns c =
     let at-loop-test = at-width-at .before in
     let at-loop = at-loop-test .before in
     let at-start = at-loop .before in
-    sym (unfit-here (at-start .args .case) (at-loop .loop .j) (at-start .args .coefficients .now) (at-start .args .scales .now) (at-loop-test .loop-test .taken) (at-start .pre) _ _ (toZ-ofZ w64 _ (record { sfits = c .before .before .before .fits-arg .given })) (toZ-ofZ w16 _ (record { sfits = c .before .before .fits-arg2 .given })) (fits-is _ _ _ _ _ _ _ (at-width-at .width-at .ensures) (at-decimals-of .decimals-of .ensures) (c .before .fits2 .ensures) ∙ not-true _ (c .if1 .taken))) ∙ at-loop .loop .inv .1
+    let args = at-start .args in
+    let coefficient = toZ-ofZ w64 _ (record { sfits = c .before .before .before .fits-arg .given }) in
+    let scale = toZ-ofZ w16 _ (record { sfits = c .before .before .fits-arg2 .given }) in
+    let fit = fits-is _ _ _ _ _ _ _ (at-width-at .width-at .ensures) (at-decimals-of .decimals-of .ensures) (c .before .fits2 .ensures) in
+    let here = unfit-here (args .case) (at-loop .loop .j) (args .coefficients .now) (args .scales .now) (at-loop-test .loop-test .taken) (at-start .pre) in
+    sym (here _ _ coefficient scale (fit ∙ not-true _ (c .if1 .taken))) ∙ at-loop .loop .inv .same
 
 add-j : tie.Need-add-j Inv-loop μ-loop
 add-j c = search needs
@@ -63,10 +75,18 @@ loop-again c =
     let at-loop-test = at-width-at .before in
     let at-loop = at-loop-test .before in
     let at-start = at-loop .before in
-    (search needs, sym (unfit-next (at-start .args .case) (at-loop .loop .j) (at-start .args .coefficients .now) (at-start .args .scales .now) (at-loop-test .loop-test .taken) (at-start .pre) _ _ (toZ-ofZ w64 _ (record { sfits = c .before .before .before .fits-arg .given })) (toZ-ofZ w16 _ (record { sfits = c .before .before .fits-arg2 .given })) (fits-is _ _ _ _ _ _ _ (at-width-at .width-at .ensures) (at-decimals-of .decimals-of .ensures) (c .before .fits2 .ensures) ∙ not-false _ (c .if1 .left))) ∙ at-loop .loop .inv .1)
+    let args = at-start .args in
+    let coefficient = toZ-ofZ w64 _ (record { sfits = c .before .before .before .fits-arg .given }) in
+    let scale = toZ-ofZ w16 _ (record { sfits = c .before .before .fits-arg2 .given }) in
+    let fit = fits-is _ _ _ _ _ _ _ (at-width-at .width-at .ensures) (at-decimals-of .decimals-of .ensures) (c .before .fits2 .ensures) in
+    let next = unfit-next (args .case) (at-loop .loop .j) (args .coefficients .now) (args .scales .now) (at-loop-test .loop-test .taken) (at-start .pre) in
+    record {
+      within = search needs;
+      same = sym (next _ _ coefficient scale (fit ∙ not-false _ (c .if1 .left))) ∙ at-loop .loop .inv .same;
+    }
 
 returns-2 : tie.Need-returns-2 Inv-loop μ-loop
-returns-2 c = sym (unfit-end _ _ _ _ (c .loop-test .left)) ∙ c .before .loop .inv .1
+returns-2 c = sym (unfit-end _ _ _ _ (c .loop-test .left)) ∙ c .before .loop .inv .same
 
 pub first-unfit-spec : {M : Type 1} → statement M
 first-unfit-spec =

@@ -1,5 +1,7 @@
 -- `writer::put_data` meets its contract.
-use Prim.Native.Nat.{_≤_, _-_}
+use lib.IntN.{ℤ}
+use mathlib.Core.List.{List}
+use Prim.Native.Nat.{ℕ, _≤_, _-_}
 use borrow.Author.Needs.{needs}
 use lib.ListN.{drop}
 use mir.Syntax.{w16, w64}
@@ -11,14 +13,19 @@ use Rattle.output.specs.OutputLaws.{put-start, put-done}
 use Rattle.writer.proofs.put_data.Statement.{statement}
 use Rattle.writer.proofs.put_data.Tie as tie
 
+-- j stored numbers are put, the others are still to come
+record Going (out₀ : List ℕ) (at case : ℕ) (coefficients scales : List ℤ) (count : ℕ) (out : List ℕ) (past j : ℕ) : Type 0 where
+  within : j ≤ count
+  put : Put at (dataText case 0 coefficients scales) out₀ past (dataText case j (drop j coefficients) (drop j scales)) out
+
 abbrev Inv-loop : tie.InvT-loop
-Inv-loop out₀ at case coefficients scales count past₀ j₀ out past j = (j ≤ count) × Put at (dataText case 0 coefficients scales) out₀ past (dataText case j (drop j coefficients) (drop j scales)) out
+Inv-loop out₀ at case coefficients scales count past₀ j₀ out past j = Going out₀ at case coefficients scales count out past j
 
 abbrev μ-loop : tie.MeasureT-loop
 μ-loop out₀ at case coefficients scales count past₀ j₀ out past j = count - j
 
 loop-holds : tie.Need-loop-holds Inv-loop μ-loop
-loop-holds c = (search needs, put-start _ _ _)
+loop-holds c = record { within = search needs; put = put-start _ _ _ }
 
 mul-put-stored : tie.Need-mul-put-stored Inv-loop μ-loop
 mul-put-stored c = search needs
@@ -37,7 +44,12 @@ put-stored-requires c κs =
     let at-loop-test = c .before .before .before in
     let at-loop = at-loop-test .before in
     let at-start = at-loop .before .before in
-    (at-loop-test .loop-test .taken, stored-room _ (at-loop .loop .j) (at-start .args .coefficients .now) (at-start .args .scales .now) (at-loop-test .loop-test .taken) (at-start .pre .0) _ _ (toZ-ofZ w64 _ (record { sfits = c .before .put-stored-arg2 .given })) (toZ-ofZ w16 _ (record { sfits = c .put-stored-arg3 .given })) _ _ _ _ (at-loop .loop .inv .1) (at-start .pre .1))
+    let args = at-start .args in
+    let below = at-loop-test .loop-test .taken in
+    let coefficient = toZ-ofZ w64 _ (record { sfits = c .before .put-stored-arg2 .given }) in
+    let scale = toZ-ofZ w16 _ (record { sfits = c .put-stored-arg3 .given }) in
+    let room = stored-room _ (at-loop .loop .j) (args .coefficients .now) (args .scales .now) below (at-start .pre .0) _ _ coefficient scale in
+    (below, room _ _ _ _ (at-loop .loop .inv .put) (at-start .pre .1))
 
 add-j : tie.Need-add-j Inv-loop μ-loop
 add-j c = search needs
@@ -52,13 +64,19 @@ loop-again c =
     let at-loop-test = at-put-stored-arg2 .before .before in
     let at-loop = at-loop-test .before in
     let at-start = at-loop .before .before in
-    (search needs, stored-next _ (at-loop .loop .j) (at-start .args .coefficients .now) (at-start .args .scales .now) (at-loop-test .loop-test .taken) (at-start .pre .0) _ _ (toZ-ofZ w64 _ (record { sfits = at-put-stored-arg2 .put-stored-arg2 .given })) (toZ-ofZ w16 _ (record { sfits = c .before .before .before .put-stored-arg3 .given })) _ _ _ _ (at-loop .loop .inv .1) (at-start .pre .1) _ _ (at-put-stored .put-stored .ensures .0) (at-put-stored .put-stored .ensures .1))
+    let args = at-start .args in
+    let below = at-loop-test .loop-test .taken in
+    let coefficient = toZ-ofZ w64 _ (record { sfits = at-put-stored-arg2 .put-stored-arg2 .given }) in
+    let scale = toZ-ofZ w16 _ (record { sfits = at-put-stored .before .put-stored-arg3 .given }) in
+    let next = stored-next _ (at-loop .loop .j) (args .coefficients .now) (args .scales .now) below (at-start .pre .0) _ _ coefficient scale in
+    let stored = at-put-stored .put-stored .ensures in
+    record { within = search needs; put = next _ _ _ _ (at-loop .loop .inv .put) (at-start .pre .1) _ _ (stored .0) (stored .1) }
 
 same-length : tie.Need-same-length Inv-loop μ-loop
-same-length c = c .before .loop .inv .1 .same
+same-length c = c .before .loop .inv .put .same
 
 returns : tie.Need-returns Inv-loop μ-loop
-returns c = put-done _ _ _ _ _ _ (c .before .loop .inv .1) (data-end _ _ _ _ (c .loop-test .left))
+returns c = put-done _ _ _ _ _ _ (c .before .loop .inv .put) (data-end _ _ _ _ (c .loop-test .left))
 
 pub put-data-spec : {M : Type 1} → statement M
 put-data-spec =

@@ -39,13 +39,17 @@ slice-write-out : tie.Need-slice-write-out
 slice-write-out c =
     let at-width-at = c .before .before .before .before .before .before .before in
     let at-start = at-width-at .before .before in
-    omega (arith, c .before .before .before .out .given .1, end-room (at-start .args .out .now) (at-start .args .at) _ _ _ _ (at-start .args .coefficient) (at-start .args .scale) (at-start .pre .1) (at-width-at .width-at .ensures) _ (c .before .ends-line .ensures) (c .if1 .taken))
+    let args = at-start .args in
+    let room = end-room (args .out .now) (args .at) _ _ _ _ (args .coefficient) (args .scale) (at-start .pre .1) (at-width-at .width-at .ensures) _ (c .before .ends-line .ensures) (c .if1 .taken) in
+    omega (arith, c .before .before .before .out .given .1, room)
 
 add-result : tie.Need-add-result
 add-result c =
     let at-width-at = c .before .before .before .before .before .before .before in
     let at-start = at-width-at .before .before in
-    omega (arith, end-room (at-start .args .out .now) (at-start .args .at) _ _ _ _ (at-start .args .coefficient) (at-start .args .scale) (at-start .pre .1) (at-width-at .width-at .ensures) _ (c .before .ends-line .ensures) (c .if1 .taken))
+    let args = at-start .args in
+    let room = end-room (args .out .now) (args .at) _ _ _ _ (args .coefficient) (args .scale) (at-start .pre .1) (at-width-at .width-at .ensures) _ (c .before .ends-line .ensures) (c .if1 .taken) in
+    omega (arith, room)
 
 same-length : tie.Need-same-length
 same-length c = search needs
@@ -56,7 +60,12 @@ returns c =
     let at-decimals-of = at-put-number .before in
     let at-width-at = at-decimals-of .before .before in
     let at-start = at-width-at .before .before in
-    stored-ends (at-start .args .out .now) (at-start .args .at) _ _ _ _ (at-start .args .coefficient) (at-start .args .scale) (at-start .pre .1) (at-width-at .width-at .ensures) _ (c .before .ends-line .ensures) (at-put-number .put-number .last .0) _ _ _ (at-decimals-of .decimals-of .ensures) (toZ-ofZ w64 _ (at-start .fits .coefficient)) (toZ-ofZ w16 _ (at-start .fits .scale)) (at-put-number .put-number .ensures) (c .if1 .taken)
+    let args = at-start .args in
+    let coefficient = toZ-ofZ w64 _ (at-start .fits .coefficient) in
+    let scale = toZ-ofZ w16 _ (at-start .fits .scale) in
+    let number = at-put-number .put-number in
+    let ends = stored-ends (args .out .now) (args .at) _ _ _ _ (args .coefficient) (args .scale) (at-start .pre .1) (at-width-at .width-at .ensures) _ (c .before .ends-line .ensures) in
+    ends (number .last .0) _ _ _ (at-decimals-of .decimals-of .ensures) coefficient scale (number .ensures) (c .if1 .taken)
 
 same-length-2 : tie.Need-same-length-2
 same-length-2 c = search needs
@@ -67,7 +76,12 @@ returns-2 c =
     let at-decimals-of = at-put-number .before in
     let at-width-at = at-decimals-of .before .before in
     let at-start = at-width-at .before .before in
-    stored-goes (at-start .args .out .now) (at-start .args .at) _ _ _ _ (at-start .args .coefficient) (at-start .args .scale) (at-start .pre .1) (at-width-at .width-at .ensures) _ (c .before .ends-line .ensures) (at-put-number .put-number .last .0) _ _ _ (at-decimals-of .decimals-of .ensures) (toZ-ofZ w64 _ (at-start .fits .coefficient)) (toZ-ofZ w16 _ (at-start .fits .scale)) (at-put-number .put-number .ensures) (c .if1 .left)
+    let args = at-start .args in
+    let coefficient = toZ-ofZ w64 _ (at-start .fits .coefficient) in
+    let scale = toZ-ofZ w16 _ (at-start .fits .scale) in
+    let number = at-put-number .put-number in
+    let goes = stored-goes (args .out .now) (args .at) _ _ _ _ (args .coefficient) (args .scale) (at-start .pre .1) (at-width-at .width-at .ensures) _ (c .before .ends-line .ensures) in
+    goes (number .last .0) _ _ _ (at-decimals-of .decimals-of .ensures) coefficient scale (number .ensures) (c .if1 .left)
 
 pub put-stored-spec : {M : Type 1} → statement M
 put-stored-spec =

@@ -19,7 +19,9 @@ returns-2 : tie.Need-returns-2
 returns-2 c =
     let at-judge-header = c .before .before .before .before in
     let at-start = at-judge-header .before .before .before in
-    count-both (at-start .args .header .now) (at-start .args .coefficients .now) (at-start .args .scales .now) (at-start .args .out .now) _ (at-judge-header .judge-header .ensures) (c .before .before .if1 .left) (⊎-elim (λ w. inl (w .taken)) (λ w. inr (eqb-false _ _ (not-true _ (w .2 .taken)))) (c .if2 .came))
+    let args = at-start .args in
+    let both = count-both (args .header .now) (args .coefficients .now) (args .scales .now) (args .out .now) _ (at-judge-header .judge-header .ensures) (c .before .before .if1 .left) in
+    both (⊎-elim (λ w. inl (w .taken)) (λ w. inr (eqb-false _ _ (not-true _ (w .2 .taken)))) (c .if2 .came))
 
 first-unfit-requires : tie.Need-first-unfit-requires
 first-unfit-requires c κs = eqb-true _ _ (not-false _ (c .if3 .left)) ∙ sym (c .before .before .if2 .left)
@@ -30,7 +32,10 @@ returns-3 c =
     let at-if1 = at-if2 .before .before in
     let at-judge-header = at-if1 .before .before in
     let at-start = at-judge-header .before .before .before in
-    unfit-both (at-start .args .header .now) (at-start .args .coefficients .now) (at-start .args .scales .now) (at-start .args .out .now) _ (at-judge-header .judge-header .ensures) (at-if1 .if1 .left) (at-if2 .if2 .left) (eqb-true _ _ (not-false _ (c .before .before .if3 .left))) _ (c .before .first-unfit .ensures) (c .if4 .taken)
+    let args = at-start .args in
+    let counts = eqb-true _ _ (not-false _ (c .before .before .if3 .left)) in
+    let both = unfit-both (args .header .now) (args .coefficients .now) (args .scales .now) (args .out .now) _ (at-judge-header .judge-header .ensures) (at-if1 .if1 .left) (at-if2 .if2 .left) in
+    both counts _ (c .before .first-unfit .ensures) (c .if4 .taken)
 
 set-fits-requires : tie.Need-set-fits-requires
 set-fits-requires c κs = search needs
@@ -42,7 +47,10 @@ returns-4 c =
     let at-if1 = at-if2 .before .before in
     let at-judge-header = at-if1 .before .before in
     let at-start = at-judge-header .before .before .before in
-    short-both (at-start .args .header .now) (at-start .args .coefficients .now) (at-start .args .scales .now) (at-start .args .out .now) _ (at-judge-header .judge-header .ensures) (at-if1 .if1 .left) (at-if2 .if2 .left) (eqb-true _ _ (not-false _ (at-if3 .if3 .left))) _ (c .before .before .before .first-unfit .ensures) (c .before .before .if4 .left) _ (c .before .set-fits .ensures) (not-true _ (c .if5 .taken))
+    let args = at-start .args in
+    let counts = eqb-true _ _ (not-false _ (at-if3 .if3 .left)) in
+    let both = short-both (args .header .now) (args .coefficients .now) (args .scales .now) (args .out .now) _ (at-judge-header .judge-header .ensures) (at-if1 .if1 .left) (at-if2 .if2 .left) in
+    both counts _ (c .before .before .before .first-unfit .ensures) (c .before .before .if4 .left) _ (c .before .set-fits .ensures) (not-true _ (c .if5 .taken))
 
 put-set-requires : tie.Need-put-set-requires
 put-set-requires c κs =
@@ -52,7 +60,11 @@ put-set-requires c κs =
     let at-if1 = at-if2 .before .before in
     let at-judge-header = at-if1 .before .before in
     let at-start = at-judge-header .before .before .before in
-    (eqb-true _ _ (not-false _ (at-if3 .if3 .left)) ∙ sym (at-if2 .if2 .left), set-room (at-start .args .header .now) (at-start .args .coefficients .now) (at-start .args .scales .now) (at-start .args .out .now) _ (at-judge-header .judge-header .ensures) (at-if1 .if1 .left) (at-if2 .if2 .left) (eqb-true _ _ (not-false _ (at-if3 .if3 .left))) _ (at-first-unfit .first-unfit .ensures) (c .before .before .before .if4 .left) _ (c .before .before .set-fits .ensures) (not-false _ (c .before .if5 .left)))
+    let args = at-start .args in
+    let counts = eqb-true _ _ (not-false _ (at-if3 .if3 .left)) in
+    let room = set-room (args .header .now) (args .coefficients .now) (args .scales .now) (args .out .now) _ (at-judge-header .judge-header .ensures) (at-if1 .if1 .left) (at-if2 .if2 .left) in
+    let fit = at-first-unfit .first-unfit .ensures in
+    (counts ∙ sym (at-if2 .if2 .left), room counts _ fit (c .before .before .before .if4 .left) _ (c .before .before .set-fits .ensures) (not-false _ (c .before .if5 .left)))
 
 same-length : tie.Need-same-length
 same-length c = search needs
@@ -69,7 +81,12 @@ returns-5 c =
     let at-if1 = at-if2 .before .before in
     let at-judge-header = at-if1 .before .before in
     let at-start = at-judge-header .before .before .before in
-    accepted-both (at-start .args .header .now) (at-start .args .coefficients .now) (at-start .args .scales .now) (at-start .args .out .now) _ (at-judge-header .judge-header .ensures) (at-if1 .if1 .left) (at-if2 .if2 .left) (eqb-true _ _ (not-false _ (at-if3 .if3 .left))) _ (at-first-unfit .first-unfit .ensures) (at-if4 .if4 .left) _ (at-set-fits .set-fits .ensures) (not-false _ (at-if5 .if5 .left)) _ (at-put-set .put-set .ensures .0) _ (at-put-set .put-set .ensures .1)
+    let args = at-start .args in
+    let counts = eqb-true _ _ (not-false _ (at-if3 .if3 .left)) in
+    let both = accepted-both (args .header .now) (args .coefficients .now) (args .scales .now) (args .out .now) _ (at-judge-header .judge-header .ensures) (at-if1 .if1 .left) (at-if2 .if2 .left) in
+    let fit = at-first-unfit .first-unfit .ensures in
+    let put = at-put-set .put-set .ensures in
+    both counts _ fit (at-if4 .if4 .left) _ (at-set-fits .set-fits .ensures) (not-false _ (at-if5 .if5 .left)) _ (put .0) _ (put .1)
 
 pub write-spec : {M : Type 1} → statement M
 write-spec =
