@@ -3,13 +3,18 @@ use mathlib.Core.Path.{_≡_, refl}
 use mathlib.Core.Bool.{Bool, true, false}
 use mathlib.Core.List as L
 use mathlib.Core.List.{List}
-use Prim.Native.Nat.{ℕ}
+use Prim.Native.Nat.{ℕ, zero, suc}
 use lib.IntN.{ℤ, pos, negsuc, natAbs}
 use Rattle.real.specs.Real.{belowZero}
 use Rattle.judge.specs.Judge.{judged}
-use Rattle.reader.specs.Reader.{Said, said, Shown, shown, storedNumber}
+use Rattle.reader.specs.Reader.{Said, said, refusedBy, Shown, shown, storedNumber}
 use Rattle.cases.specs.Files.{none, _⊕_, closing, plain, function, measured}
 use Rattle.cases.specs.Computed.{computed-number}
+
+-- so many data lines of case 8, each one value, and the end of the set
+abbrev valuesOfEight : ℕ → List ℕ
+valuesOfEight zero = closing
+valuesOfEight (suc k) = "  0.00000E+00  1.000000000000E+00  2.000000000000E+00" ⊕ valuesOfEight k
 
 -- a question to the judge, or for a stored number by set and index
 pub data Question : Type 0 where
@@ -17,7 +22,7 @@ pub data Question : Type 0 where
   asks : List ℕ → ℕ → ℕ → Question
 
 abbrev pub reply : Question → Said Shown
-reply (judges f) = said (judged f .number) (judged f .place) L.[]
+reply (judges f) = refusedBy (judged f)
 reply (asks f s j) = storedNumber f s j
 
 pub record Case : Type 0 where
@@ -76,11 +81,11 @@ cases =
     -- three are too many
     (case (judges (measured "         2         7         1  0.00000E+00  1.00000E-03  0.00000E+00" ("  1.00000E-01  1.00000E-01  1.00000E-01  1.00000E-01  1.00000E-01  1.00000E-01" ⊕ "  1.00000E-01" ⊕ "  1.00000E-01" ⊕ closing))) (refused 8 16)) ⊞
     -- "in case 8 seven"
-    (case (judges (measured "         6         7         0  0.00000E+00  0.00000E+00  0.00000E+00" ("  0.00000E+00  1.000000000000E+00  2.000000000000E+00" ⊕ "  0.00000E+00  1.000000000000E+00  2.000000000000E+00" ⊕ "  0.00000E+00  1.000000000000E+00  2.000000000000E+00" ⊕ "  0.00000E+00  1.000000000000E+00  2.000000000000E+00" ⊕ "  0.00000E+00  1.000000000000E+00  2.000000000000E+00" ⊕ "  0.00000E+00  1.000000000000E+00  2.000000000000E+00" ⊕ "  0.00000E+00  1.000000000000E+00  2.000000000000E+00" ⊕ closing))) (accepted 21)) ⊞
+    (case (judges (measured "         6         7         0  0.00000E+00  0.00000E+00  0.00000E+00" (valuesOfEight 7))) (accepted 21)) ⊞
     -- six lines are not enough
-    (case (judges (measured "         6         7         0  0.00000E+00  0.00000E+00  0.00000E+00" ("  0.00000E+00  1.000000000000E+00  2.000000000000E+00" ⊕ "  0.00000E+00  1.000000000000E+00  2.000000000000E+00" ⊕ "  0.00000E+00  1.000000000000E+00  2.000000000000E+00" ⊕ "  0.00000E+00  1.000000000000E+00  2.000000000000E+00" ⊕ "  0.00000E+00  1.000000000000E+00  2.000000000000E+00" ⊕ "  0.00000E+00  1.000000000000E+00  2.000000000000E+00" ⊕ closing))) (refused 7 20)) ⊞
+    (case (judges (measured "         6         7         0  0.00000E+00  0.00000E+00  0.00000E+00" (valuesOfEight 6))) (refused 7 20)) ⊞
     -- eight are too many
-    (case (judges (measured "         6         7         0  0.00000E+00  0.00000E+00  0.00000E+00" ("  0.00000E+00  1.000000000000E+00  2.000000000000E+00" ⊕ "  0.00000E+00  1.000000000000E+00  2.000000000000E+00" ⊕ "  0.00000E+00  1.000000000000E+00  2.000000000000E+00" ⊕ "  0.00000E+00  1.000000000000E+00  2.000000000000E+00" ⊕ "  0.00000E+00  1.000000000000E+00  2.000000000000E+00" ⊕ "  0.00000E+00  1.000000000000E+00  2.000000000000E+00" ⊕ "  0.00000E+00  1.000000000000E+00  2.000000000000E+00" ⊕ "  0.00000E+00  1.000000000000E+00  2.000000000000E+00" ⊕ closing))) (refused 8 21)) ⊞
+    (case (judges (measured "         6         7         0  0.00000E+00  0.00000E+00  0.00000E+00" (valuesOfEight 8))) (refused 8 21)) ⊞
     L.[]
 
 -- the reply to each question is the one that document 01 names

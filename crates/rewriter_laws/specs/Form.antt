@@ -11,11 +11,14 @@ use Rattle.text.specs.Parts.{Digits}
 use Rattle.line.specs.Line.{Allowed, filled}
 use Rattle.delimiter.specs.Kind.{Delimiter}
 use Rattle.theory.specs.Sets.{Set}
-use Rattle.rewriter.specs.Fair.{plainDelimiter}
 use Rattle.line_laws.specs.NoDelimiter.{NoDelimiter}
 use Rattle.theory.specs.Proper.{BlankLines, Ended}
 
 -- The rewritten form.
+
+-- "delimiters .. spelled plainly": four blanks, `-1`, and no more
+abbrev pub delimiterSpelled : List ℕ
+delimiterSpelled = 32 ∷ 32 ∷ 32 ∷ 32 ∷ 45 ∷ 49 ∷ []
 
 -- "dataset numbers spelled plainly": blanks, and then digits that mean the number, the first of them not 0, and no sign
 pub data Plainly : ℕ → List ℕ → Type 0 where
@@ -31,7 +34,7 @@ pub data PlainSets : List Set → List (List ℕ) → Type 0 where
   none : PlainSets [] []
   more : {s : Set} {ss : List Set} (number : List ℕ) (body after : List (List ℕ))
       → Plainly (s .number) number → length number ≡ 6 → NoDelimiter body → Trimmed body → PlainSets ss after
-      → PlainSets (s ∷ ss) (plainDelimiter ∷ number ∷ (body ++ (plainDelimiter ∷ after)))
+      → PlainSets (s ∷ ss) (delimiterSpelled ∷ number ∷ (body ++ (delimiterSpelled ∷ after)))
 
 -- "LF ends": each line is its columns, within the rules on bytes and columns, and an LF
 pub data LfEnded : List (List ℕ) → List ℕ → Type 0 where
