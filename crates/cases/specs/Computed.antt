@@ -41,15 +41,7 @@ use Rattle.header.specs.Header.{headerOf}
 use Rattle.writer.specs.Writer.{decimalsOf, widthAt, fitsAt, firstUnfit, dataText, writtenSet, laidReply, writeReply}
 
 unfoldable pub computed-judge : List ℕ → Reply
-unfolding judged judge over cut run allBlank trimmed isDigit I.push stepInteger endInteger integerOf R.push R.next R.onCoefficient R.onExponent R.onDigit R.onSign R.onPoint
-
-unfolding R.onLetter R.onBlank R.isLetter R.scanStep R.realEnd R.realOf isAllowed withoutReturn columns firstBad lineFault filled thenBlank isDelimiter datasetNumber keeps
-
-unfolding C.fieldStart layouts layoutOf caseFor numbersOf mayBlank fieldNumber firstNotAbove breach records recordOf dataRow kindOf isTyped typedSets sequence following fieldsFault
-
-unfolding firstNonBlank stray itemsOf conditionFault fieldsRefusal rowRefusal recordDue listRow mayClose mayContinue rowDue settled naturalAt caseBy countBy storedBy numberIn
-
-unfolding caseIn countIn afterRecord afterList afterItems opened outsideStep numberStep plainStep typedStep stepOf lineStep
+unfolding judged judge over cut run allBlank trimmed isDigit I.push stepInteger endInteger integerOf R.push R.next R.onCoefficient R.onExponent R.onDigit R.onSign R.onPoint R.onLetter R.onBlank R.isLetter R.scanStep R.realEnd R.realOf isAllowed withoutReturn columns firstBad lineFault filled thenBlank isDelimiter datasetNumber keeps C.fieldStart layouts layoutOf caseFor numbersOf mayBlank fieldNumber firstNotAbove breach records recordOf dataRow kindOf isTyped typedSets sequence following fieldsFault firstNonBlank stray itemsOf conditionFault fieldsRefusal rowRefusal recordDue listRow mayClose mayContinue rowDue settled naturalAt caseBy countBy storedBy numberIn caseIn countIn afterRecord afterList afterItems opened outsideStep numberStep plainStep typedStep stepOf lineStep
 computed-judge file = judged file
 
 unfoldable pub computed-number : List ℕ → ℕ → ℕ → Said Shown
