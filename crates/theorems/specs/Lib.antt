@@ -19,3 +19,5 @@ pub mod LaidOut
 pub mod LaidOutLaws
 pub mod Theorems
 pub mod BoundsLaws
+pub mod Alone
+pub mod AloneLaws
