@@ -41,6 +41,7 @@ use Rattle.line.specs.LineLaws.{filled-length}
 use Rattle.layout.specs.Columns.{total}
 use Rattle.record.specs.DeclaredLaws.{declares-items}
 use Rattle.record.specs.Written.{Written}
+use Rattle.record_laws.specs.RowGroupLaws.{recordOf-grouped}
 use Rattle.record_laws.specs.LineReadingLaws.{written-sound}
 use Rattle.parts_laws.specs.CaseLaws.{record-case, record-counted}
 use Rattle.writer_laws.specs.HeaderRun.{Says, Passed, Bounds, Stood, Taken, Met, ended, taken, stopped}
@@ -70,7 +71,7 @@ seventh-bounds : (cs : List ℕ) → rowRefusal (recordOf dataForm) (filled cs) 
 unfolding storedBy
 seventh-bounds cs h =
     let is : List Item = itemsOf (recordOf dataForm .fields) 0 (filled cs) in
-    let w : Written (recordOf dataForm) is (filled cs) = written-sound (filled cs) (filled-length cs) (recordOf dataForm) seventh-fits h in
+    let w : Written (recordOf dataForm) is (filled cs) = written-sound (filled cs) (filled-length cs) (recordOf dataForm) seventh-fits (recordOf-grouped dataForm) h in
     let e = declares-items (filled cs) in
     let m = record-counted is (filled cs) w in
     rw (e .case, e .stored) (stored-bounds (caseBy is) (countBy is) (record-case is (filled cs) w) (m .0) (m .1))
