@@ -17,20 +17,16 @@ use Rattle.walk.specs.declared.State.{State}
 use Rattle.walk.specs.Due.{opening}
 use Rattle.walk.specs.Step.{state}
 use Rattle.judge.specs.declared.Reply.{Reply}
-use Rattle.judge.specs.Judge.{lineStep, Run, going, refused, onOutcome, reply, replyAt}
+use Rattle.judge.specs.Judge.{lineStep, Run, going, refused, onOutcome, reply}
 use Rattle.header.specs.declared.Header.{Header}
 
 -- a reply, and where its number is 0 the case of the 58 and how many numbers it stores
 abbrev pub answerWith : Reply → ℕ → ℕ → Header
-answerWith r c s = record { number = r .number; place = r .place; column = r .column; case = c; stored = s }
+answerWith r c s = record { reply = r; case = c; stored = s }
 
 -- a number and a place, no column
 abbrev pub answer : ℕ → ℕ → ℕ → ℕ → Header
 answer n p c s = answerWith (reply n p) c s
-
--- the reply of an answer
-abbrev pub replyOf : Header → Reply
-replyOf h = replyAt (h .number) (h .place) (h .column)
 
 -- a 58 opens, before its line 1
 abbrev pub opened : State

@@ -24,7 +24,7 @@ use Rattle.walk.specs.declared.Outcome.{Outcome}
 use Rattle.walk.specs.declared.Outcome.the-variants.{Next, Refused}
 use Rattle.judge.specs.declared.Reply.{Reply}
 use Rattle.judge.specs.declared.Lines.{Lines}
-use Rattle.judge.specs.Judge.{lineStep, Run, going, refused, onOutcome, reply, runStep}
+use Rattle.judge.specs.Judge.{lineStep, Run, going, refused, onOutcome, reply, replyAt, runStep}
 use Rattle.judge.specs.JudgeLaws as Judge
 use Rattle.judge.specs.Lines.{runOf, LinesJudged}
 use Rattle.header.specs.Header.{answer, answerWith, opened, pastNumber, headerStep, leaves, headerEnd, headerOf, FirstEleven}
@@ -158,7 +158,7 @@ judge-append x a d = rw (cut-append a d, over-append headerStep x (cut a .lines)
 
 -- the first eleven lines judged, and what is left of the header
 module _ (b : List ℕ) (k : ℕ) (f : FirstEleven b k) (r : Lines) (j : LinesJudged opened 0 (take k b) 0 r) where
-  whole : (x : Run) → runOf (r .state) (r .lines) (r .number) ≡ x → headerOf b ≡ judge headerStep headerEnd x (cut (take k b) .rest ++ drop k b)
+  whole : (x : Run) → runOf (r .state) (r .lines) (r .number) (r .column) ≡ x → headerOf b ≡ judge headerStep headerEnd x (cut (take k b) .rest ++ drop k b)
   unfolding headerOf
   whole x u =
       ap (judge headerStep headerEnd (going opened 0)) (sym (take-append-drop k b)) ∙
@@ -168,8 +168,8 @@ module _ (b : List ℕ) (k : ℕ) (f : FirstEleven b k) (r : Lines) (j : LinesJu
   pub refused-most : 0 < r .number → r .lines < length b
   refused-most z = omega (arith, j .fewer z, length-take-le k b (f .within), f .within)
 
-  pub header-refused : 0 < r .number → answer (r .number) (r .lines + 1) 0 0 ≡ headerOf b
-  header-refused z = sym (whole (refused (reply (r .number) (r .lines + 1))) (rw (ne-eqb (r .number) 0 (λ y. omega arith)) refl) ∙ judge-refused _ _)
+  pub header-refused : 0 < r .number → answerWith (replyAt (r .number) (r .lines + 1) (r .column)) 0 0 ≡ headerOf b
+  header-refused z = sym (whole (refused (replyAt (r .number) (r .lines + 1) (r .column))) (rw (ne-eqb (r .number) 0 (λ y. omega arith)) refl) ∙ judge-refused _ _)
 
   module _ (z : r .number ≤ 0) where
     none : r .number ≡ 0
