@@ -76,7 +76,9 @@ module _ {s : Set} {p : Parts.Part} (bytes : List ℕ) (ps : List Parts.Part) (w
   value-answered i l =
       let m : i < valuesIn p = rw values-held l in
       rw (lt-ltb i (valuesIn p) m, case-held h e)
-      (ap (whole (valueKind (setCase s)) []) (reads-same (realIn bytes p) (λ (j : ℕ). realOfItem (storedItem s j)) (i * numbersOf (setCase s)) (i * numbersOf (setCase s)) (numbersOf (setCase s)) (λ r q. realIn-held (i * numbersOf (setCase s) + r) (value-stored i r l q))))
+      (ap (whole (valueKind (setCase s)) [])
+      (reads-same (realIn bytes p) (λ (j : ℕ). realOfItem (storedItem s j)) (i * numbersOf (setCase s)) (i * numbersOf (setCase s)) (numbersOf (setCase s))
+      (λ r q. realIn-held (i * numbersOf (setCase s) + r) (value-stored i r l q))))
 
   pub value-past : (i : ℕ) → declared s ≤ i → valueFrom bytes (p ∷ ps) i ≡ refused 18 0
   value-past i l = let m : valuesIn p ≤ i = rw values-held l in rw (le-ltb i (valuesIn p) m) refl

@@ -30,8 +30,9 @@ use Rattle.theorems.specs.TableLaws.{fault-number}
 
 -- what is said of a fresh record brought up to date by bursts
 module _ {r : Stream} {bursts : List (List ℕ)} (k : Bursts freshRecord bursts r) where
-  pub any-cut : (endReply (seen r) ≡ judged (joined bursts)) × (endReply (seen (closed r)) ≡ judged (joined bursts))
-  any-cut = (StreamingLaws.any-cut (fresh-says .1) (fresh-says .0) k, StreamingLaws.any-cut-again (fresh-says .1) (fresh-says .0) k)
+  pub any-cut : (endReply (seen r) ≡ judged (joined bursts)) × ((endReply (seen (closed r)) ≡ judged (joined bursts)) × (closed (closed r) ≡ closed r))
+  any-cut =
+      (StreamingLaws.any-cut (fresh-says .1) (fresh-says .0) k, (StreamingLaws.any-cut-again (fresh-says .1) (fresh-says .0) k, StreamingLaws.closed-again r))
 
   pub any-cut-answer : answerOf (r .ended) (seen r) ≡ burstAnswer (joined bursts)
   any-cut-answer = StreamingLaws.any-cut-answer (fresh-says .1) (fresh-says .0) k

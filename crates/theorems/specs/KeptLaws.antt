@@ -27,6 +27,7 @@ use Rattle.writer.specs.Writer.{writeReply, writeOut}
 use Rattle.host.specs.Packed.{word, numberIn}
 use Rattle.host.specs.PackedLaws.{columnBits-most}
 use Rattle.host.specs.Answer.{valueBytes, numberShown, numberAnswer, valueAnswer, replyFor, bytesAfter}
+use Rattle.theorems.specs.TableCallsLaws.{of-either}
 
 -- the calls whose buffers are laid by their reply
 kept-by : (number : ℕ) (after before : List ℕ) → 0 < number → pick (eqb number 0) after before ≡ before
@@ -52,12 +53,8 @@ writer-kept header xs ss out h = kept-by (writeReply header xs ss (length out) .
 abbrev Quiet : {A : Type 0} → Said A → Type 0
 Quiet s = 0 < s .reply .number → s .shown ≡ []
 
-quiet-pick : {A : Type 0} (t : Bool) (a b : Said A) → Quiet a → Quiet b → Quiet (pick t a b)
-quiet-pick true a b p q = p
-quiet-pick false a b p q = q
-
 quiet-judged : {A : Type 0} (r : Reply) (s : Said A) → Quiet s → Quiet (judgedFirst r s)
-quiet-judged r s q = quiet-pick (ltb 0 (r .number)) (Reader.refusedBy r) s (λ h. refl) q
+quiet-judged r s q = of-either Quiet (ltb 0 (r .number)) (Reader.refusedBy r) s (λ h. refl) q
 
 quiet-shown : (a e : ℕ) (x : Real) → Quiet (shownOf a e x)
 quiet-shown a e (Value n) h = absurd (omega arith)
@@ -68,7 +65,7 @@ quiet-number : (bytes : List ℕ) (ps : List Part) (j : ℕ) → Quiet (numberFr
 quiet-number bytes [] j = λ h. refl
 quiet-number bytes (p ∷ ps) j =
     let shown : Said Shown = shownOf (firstByte p j) (pastByte p j) (realIn bytes p j) in
-    quiet-pick (ltb j (storedOf p)) shown (Reader.refused 18 0) (quiet-shown (firstByte p j) (pastByte p j) (realIn bytes p j)) (λ h. refl)
+    of-either Quiet (ltb j (storedOf p)) shown (Reader.refused 18 0) (quiet-shown (firstByte p j) (pastByte p j) (realIn bytes p j)) (λ h. refl)
 
 quiet-whole : (place : ℕ) (xs : List Float) (rs : List Read) → Quiet (whole place xs rs)
 unfolding whole
@@ -79,7 +76,7 @@ quiet-whole place xs (read.Refused n ∷ rs) h = refl
 quiet-value : (bytes : List ℕ) (ps : List Part) (i : ℕ) → Quiet (valueFrom bytes ps i)
 unfolding valueWith
 quiet-value bytes [] i = λ h. refl
-quiet-value bytes (p ∷ ps) i = quiet-pick (ltb i (valuesIn p)) _ (Reader.refused 18 0) (quiet-whole _ [] _) (λ h. refl)
+quiet-value bytes (p ∷ ps) i = of-either Quiet (ltb i (valuesIn p)) _ (Reader.refused 18 0) (quiet-whole _ [] _) (λ h. refl)
 
 -- the same of the bytes shown
 quiet-number-bytes : (s : Said Shown) → Quiet s → Quiet (numberAnswer s)

@@ -14,6 +14,7 @@ pub mod AcceptedLaws
 pub mod JudgeLaws
 pub mod Table
 pub mod TableLaws
+pub mod TableCallsLaws
 pub mod Stands
 pub mod ListerLaws
 pub mod Answers

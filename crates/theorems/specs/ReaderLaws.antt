@@ -27,7 +27,8 @@ use Rattle.theorems.specs.Stands.{SetAt, At58}
 use Rattle.theorems.specs.Answers.{Answered, NoSuch, AsJudged, realOfItem, valueSaid, ownBytes}
 use Rattle.theorems.specs.JudgeLaws.{accepted-zero}
 use Rattle.theorems.specs.ListerLaws.{no-parts, set-holds, set-somewhere}
-use Rattle.theorems.specs.AnswersLaws.{value-own, valueWith-same, number-answered, number-past, number-other, number-asked, value-answered, value-past, value-other, value-asked, all-other, all-asked, item-own, real-same}
+use Rattle.theorems.specs.AnswersLaws.{value-own, valueWith-same, number-answered, number-past, number-other, number-asked, value-answered}
+use Rattle.theorems.specs.AnswersLaws.{value-past, value-other, value-asked, all-other, all-asked, item-own, real-same}
 
 -- a file that is refused
 pub judge-first : (bytes : List ℕ) → 0 < judged bytes .number → (k i room : ℕ) → AsJudged bytes k i room

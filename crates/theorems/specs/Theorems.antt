@@ -40,7 +40,7 @@ use Rattle.rewriter_laws.specs.Form.{InForm, KeepsSpellings}
 use Rattle.writer_laws.specs.Reply.{Coefficients}
 use Rattle.stream_laws.specs.Streaming.{burstAnswer, joined, Bursts}
 use Rattle.stream_laws.specs.Calls.{Calls}
-use Rattle.theorems.specs.Table.{InTable}
+use Rattle.theorems.specs.Table.{InTable, CallsInTable}
 use Rattle.theorems.specs.Stands.{SetAt, At58}
 use Rattle.theorems.specs.Answers.{Answered, NoSuch, AsJudged, InTurn, valueSaid, allSaid, ownBytes}
 use Rattle.theorems.specs.Columns.{Columns, DataByte, OfOneValue}
@@ -49,6 +49,7 @@ use Rattle.exact.specs.ExactLaws as ExactLaws
 use Rattle.stream_laws.specs.StreamingLaws as StreamingLaws
 use Rattle.stream_laws.specs.CallsLaws as CallsLaws
 use Rattle.theorems.specs.TableLaws as TableLaws
+use Rattle.theorems.specs.TableCallsLaws as TableCallsLaws
 use Rattle.theorems.specs.JudgeLaws as JudgeLaws
 use Rattle.theorems.specs.ListerLaws as ListerLaws
 use Rattle.theorems.specs.ColumnsLaws as ColumnsLaws
@@ -59,13 +60,19 @@ use Rattle.theorems.specs.WriterLaws as WriterLaws
 use Rattle.theorems.specs.KeptLaws as KeptLaws
 use Rattle.theorems.specs.ArrivalLaws as ArrivalLaws
 
--- DEMAND 1. "Every call takes every string of bytes and every number, and ends." "No caller has to check first.": no call has a `requires`.
+-- DEMAND 1. "Every call takes every string of bytes and every number, and ends.": what each answers is proved for all of them.
 -- "A bad file or a bad question gets a number from document 01's table, with the line where the table says so."
 pub judge-table : (bytes : List ℕ) → InTable (length (cut bytes .lines)) (judged bytes)
 judge-table = TableLaws.judge-table
 
 pub judge-first : (bytes : List ℕ) → 0 < judged bytes .number → (k i room : ℕ) → AsJudged bytes k i room
 judge-first = ReaderLaws.judge-first
+
+pub calls-table : (bytes : List ℕ) (k i room : ℕ) → CallsInTable bytes k i room
+calls-table = TableCallsLaws.calls-table
+
+pub writer-table : (header : List ℕ) (xs ss : List ℤ) (room : ℕ) → writeReply header xs ss room .number ≤ 22
+writer-table = TableCallsLaws.writer-table
 
 -- a set by its number from 1, a stored number or a value by its index from 0
 module _ {sets : List Set} {bytes : List ℕ} (p : Proper sets bytes) where
@@ -109,15 +116,16 @@ burst-kept = ArrivalLaws.burst-kept
 pub end-kept : (ns bs : List ℕ) → endOf ns bs .number ≡ 20 → endNumbers ns bs ≡ ns
 end-kept = ArrivalLaws.end-kept
 
+-- "No caller has to check first.": no call has a `requires`.
+
 -- DEMAND 2. "Records, columns and numbers mean what the published dataset descriptions and document 01 say.": the definitions under `Proper`.
--- "A number read is the decimal number in its columns, exactly, or rounded once where 01 says so.": `reader-numbers` and `value-by-bytes` below, and
-pub rounded-times : (c k : ℕ) → c ≤ 9007199254740992 → k ≤ 22 → magnitudeOf c false k ≡ round binary64 false (c * 10 ^ k) 1
-rounded-times = ExactLaws.magnitudeOf-times
+-- "A number read is the decimal number in its columns, exactly, or rounded once where 01 says so.": `reader-numbers`, `value-by-bytes` below, and
+pub rounded-once : (c k : ℕ) → c ≤ 9007199254740992 → k ≤ 22
+    → (magnitudeOf c false k ≡ round binary64 false (c * 10 ^ k) 1) × (magnitudeOf c true k ≡ round binary64 false c (10 ^ k))
+rounded-once c k h g = (ExactLaws.magnitudeOf-times c k h g, ExactLaws.magnitudeOf-divided c k h g)
 
-pub rounded-divided : (c k : ℕ) → c ≤ 9007199254740992 → k ≤ 22 → magnitudeOf c true k ≡ round binary64 false c (10 ^ k)
-rounded-divided = ExactLaws.magnitudeOf-divided
-
--- "Numbers the writer has laid out read back as equal numbers, and rewriting an accepted file keeps its sets.": `rewriter-keeps` below, and
+-- "Numbers the writer has laid out read back as equal numbers, and rewriting an accepted file keeps its sets.": `rewriter-keeps` below, and, of
+-- coefficients that an i64 can have,
 pub writer-lays : (header : List ℕ) (xs ss : List ℤ) (room : ℕ) → Coefficients xs → writeReply header xs ss room .number ≡ 0 → LaidOut header xs ss
 writer-lays = WriterLaws.writer-lays
 
@@ -169,6 +177,27 @@ module _ {sets : List Set} {bytes : List ℕ} (p : Proper sets bytes) where
     pub lister-bytes : take (pastOf q - q .bytes) (drop (q .bytes) bytes) ≡ Ends.joined (linesOf q) []
     lister-bytes = ListerLaws.lister-bytes p a
 
+  -- "The reader's numbers are that list's, index by index.": set k of the list, from 0, is s, a 58, and stands in the file as the part q
+  module _ {k : ℕ} {s : Set} {q : Part} (a : At58 sets bytes k s q) where
+    pub reader-numbers : (j : ℕ) → j < storedCount s → Answered bytes (suc k) j s q
+    reader-numbers = ReaderLaws.reader-numbers p a
+
+    pub reader-values : (i : ℕ) → i < declared s → valueOf bytes (suc k) i ≡ valueSaid s i
+    reader-values = ReaderLaws.reader-values p a
+
+    pub all-of-list : allValues bytes (suc k) ≡ allSaid s
+    all-of-list = ValuesLaws.all-of-list p a
+
+    pub all-in-turn : (n : ℕ) (xs : List Float) → allValues bytes (suc k) ≡ said 0 n xs → InTurn bytes k s n xs
+    all-in-turn = ValuesLaws.all-in-turn p a
+
+    pub all-answers : (n : ℕ) (xs : List Float) (out : List ℕ) → allValues bytes (suc k) ≡ said 0 n xs → n ≤ length out
+        → (allReply bytes (suc k) (length out) ≡ reply 0 n) × (allPlaces bytes (suc k) out ≡ map bitsOf xs ++ drop n out)
+    all-answers = ValuesLaws.all-answers p a
+
+    pub all-refused-one : (m l : ℕ) → 0 < m → allValues bytes (suc k) ≡ refused m l → (i : ℕ) × ((i < declared s) × (valueOf bytes (suc k) i ≡ refused m l))
+    all-refused-one = ValuesLaws.all-refused-one p a
+
   -- "What the rewriter gives is again a proper writing of that list, the one in document 01's rewritten form that keeps the file's spellings."
   pub rewriter-keeps : Proper sets (rewrittenFile bytes) × (InForm sets (rewrittenFile bytes) × KeepsSpellings bytes (rewrittenFile bytes))
   rewriter-keeps = RewriterLaws.rewriter-keeps p
@@ -183,24 +212,7 @@ module _ {sets : List Set} {bytes : List ℕ} (p : Proper sets bytes) where
       → (rewriteReply bytes (length out) ≡ reply 0 (length (rewrittenFile bytes))) × (rewriteOut bytes out ≡ rewrittenFile bytes ++ drop (length (rewrittenFile bytes)) out)
   rewriter-answers = RewriterLaws.rewriter-answers p
 
-  -- set k of the list, from 0, is s, a 58, and stands in the file as the part q
   module _ {k : ℕ} {s : Set} {q : Part} (a : At58 sets bytes k s q) where
-    -- "The reader's numbers are that list's, index by index."
-    pub reader-numbers : (j : ℕ) → j < storedCount s → Answered bytes (suc k) j s q
-    reader-numbers = ReaderLaws.reader-numbers p a
-
-    pub reader-values : (i : ℕ) → i < declared s → valueOf bytes (suc k) i ≡ valueSaid s i
-    reader-values = ReaderLaws.reader-values p a
-
-    pub all-of-list : allValues bytes (suc k) ≡ allSaid s
-    all-of-list = ValuesLaws.all-of-list p a
-
-    pub all-in-turn : (n : ℕ) (xs : List Float) → allValues bytes (suc k) ≡ said 0 n xs → InTurn bytes k s n xs
-    all-in-turn = ValuesLaws.all-in-turn p a
-
-    pub all-refused-one : (m l : ℕ) → 0 < m → allValues bytes (suc k) ≡ refused m l → (i : ℕ) × ((i < declared s) × (valueOf bytes (suc k) i ≡ refused m l))
-    all-refused-one = ValuesLaws.all-refused-one p a
-
     -- "In each dataset 58 of an accepted file the declared count of values is there, each in its own columns, in order, not overlapping, inside the
     -- set's delimiters."
     pub values-in-columns : Columns bytes s q
@@ -228,28 +240,17 @@ module _ {sets sets′ : List Set} {bytes bytes′ : List ℕ} (p : Proper sets 
       → valueOf bytes (suc k) i ≡ valueOf bytes′ (suc k′) i′
   own-bytes-decide = ReaderLaws.own-bytes-decide p p′ a a′
 
--- all values as the call lays them out
-pub all-answers : (bytes : List ℕ) (k n : ℕ) (xs : List Float) (out : List ℕ) → allValues bytes k ≡ said 0 n xs → length xs ≡ n → n ≤ length out
-    → (allReply bytes k (length out) ≡ reply 0 n) × (allPlaces bytes k out ≡ map bitsOf xs ++ drop n out)
-all-answers = ValuesLaws.all-answers
+-- C-11. "The collector sends a capture in bursts. The receiving program, in Rattle, lends one standing record, which each burst brings up to date in place, then asks for
+-- the end." (`Bursts`)
+-- "However it is cut, bursts of no bytes too, the end answer is the whole file's, asked again too."
+pub any-cut : {r : Stream} {bursts : List (List ℕ)} → Bursts freshRecord bursts r
+    → (endReply (seen r) ≡ judged (joined bursts)) × ((endReply (seen (closed r)) ≡ judged (joined bursts)) × (closed (closed r) ≡ closed r))
+any-cut = ArrivalLaws.any-cut
 
--- C-11. "The receiving program, in Rattle, lends one standing record, which each burst brings up to date in place, then asks for the end."
-module _ {r : Stream} {bursts : List (List ℕ)} (k : Bursts freshRecord bursts r) where
-  -- "However it is cut, bursts of no bytes too, the end answer is the whole file's, asked again too."
-  pub any-cut : (endReply (seen r) ≡ judged (joined bursts)) × (endReply (seen (closed r)) ≡ judged (joined bursts))
-  any-cut = ArrivalLaws.any-cut k
-
-  -- "A burst's answer is 1 once the running length is past the limit, otherwise the refusal of the earliest bad line whose LF has come, otherwise 'so far'
-  -- with the number of finished lines."
-  pub any-cut-answer : answerOf (r .ended) (seen r) ≡ burstAnswer (joined bursts)
-  any-cut-answer = ArrivalLaws.any-cut-answer k
-
-  -- "Demand 3 reads for the end answer"
-  pub arrived-proper : (n : ℕ) → endReply (seen r) ≡ reply 0 n → (sets : List Set) × Proper sets (joined bursts)
-  arrived-proper = ArrivalLaws.arrived-proper k
-
-  pub proper-arrived : {sets : List Set} → Proper sets (joined bursts) → endReply (seen r) ≡ reply 0 (length (cut (joined bursts) .lines))
-  proper-arrived = ArrivalLaws.proper-arrived k
+-- "A burst's answer is 1 once the running length is past the limit, otherwise the refusal of the earliest bad line whose LF has come, otherwise "so far"
+-- with the number of finished lines."
+pub any-cut-answer : {r : Stream} {bursts : List (List ℕ)} → Bursts freshRecord bursts r → answerOf (r .ended) (seen r) ≡ burstAnswer (joined bursts)
+any-cut-answer = ArrivalLaws.any-cut-answer
 
 pub burst-too-long : (bytes : List ℕ) → 16777216 < length bytes → burstAnswer bytes ≡ Refused (reply 1 0)
 burst-too-long = ArrivalLaws.burst-too-long
@@ -257,21 +258,32 @@ burst-too-long = ArrivalLaws.burst-too-long
 pub lines-after : (bytes : List ℕ) (n : ℕ) → burstAnswer bytes ≡ SoFar n → n ≡ length (cut bytes .lines)
 lines-after = StreamingLaws.lines-after
 
--- ", and demand 1's untouched buffers don't cover the record, but for 23. Refusals: 23, a burst after the end was asked, first of all."
+-- "A fresh record starts a new file; one grown otherwise is safe, its answers unpromised."
+pub start-fresh : (ns bs : List ℕ) → isShort ns bs ≡ false → streamOf (startNumbers ns bs) (startLine ns bs) ≡ freshRecord
+start-fresh = CallsLaws.start-fresh
+
+-- "Demand 3 reads for the end answer, and demand 1's untouched buffers don't cover the record, but for 23."
+pub arrived-proper : {r : Stream} {bursts : List (List ℕ)} → Bursts freshRecord bursts r → (n : ℕ) → endReply (seen r) ≡ reply 0 n
+    → (sets : List Set) × Proper sets (joined bursts)
+arrived-proper = ArrivalLaws.arrived-proper
+
+pub proper-arrived : {r : Stream} {bursts : List (List ℕ)} → Bursts freshRecord bursts r → {sets : List Set} → Proper sets (joined bursts)
+    → endReply (seen r) ≡ reply 0 (length (cut (joined bursts) .lines))
+proper-arrived = ArrivalLaws.proper-arrived
+
+-- "Refusals: 23, a burst after the end was asked, first of all."
 pub after-end : {t : Stream} {b : List ℕ} (r : Stream) → Stepped (closed r) b t → (t ≡ closed r) × (answerOf (t .ended) (seen t) ≡ Refused (reply 23 0))
 after-end = StreamingLaws.after-end
 
--- the same for a host that lends the record as numbers and bytes. "A fresh record starts a new file; one grown otherwise is safe, its answers unpromised."
-module _ (ns bs : List ℕ) (s : isShort ns bs ≡ false) where
-  pub start-fresh : streamOf (startNumbers ns bs) (startLine ns bs) ≡ freshRecord
-  start-fresh = CallsLaws.start-fresh ns bs s
+-- the same for a host, which lends the record as numbers and bytes, with the replies in its form
+module _ {A : Type 0} {form : Reply → A} (ns bs : List ℕ) (s : isShort ns bs ≡ false) {ns′ bs′ : List ℕ} {bursts : List (List ℕ)}
+    (k : Calls form (startNumbers ns bs) (startLine ns bs) bursts ns′ bs′) where
+  pub calls-end : (endOf ns′ bs′ ≡ judged (joined bursts))
+      × ((endOf (endNumbers ns′ bs′) bs′ ≡ judged (joined bursts)) × (endNumbers (endNumbers ns′ bs′) bs′ ≡ endNumbers ns′ bs′))
+  calls-end = (CallsLaws.calls-end ns bs s k, (CallsLaws.calls-again ns bs s k, CallsLaws.calls-marked ns bs s k))
 
-  module _ {A : Type 0} {form : Reply → A} {ns′ bs′ : List ℕ} {bursts : List (List ℕ)} (k : Calls form (startNumbers ns bs) (startLine ns bs) bursts ns′ bs′) where
-    pub calls-end : (endOf ns′ bs′ ≡ judged (joined bursts)) × (endOf (endNumbers ns′ bs′) bs′ ≡ judged (joined bursts))
-    calls-end = (CallsLaws.calls-end ns bs s k, CallsLaws.calls-again ns bs s k)
+  pub calls-answer : {b ns″ bs″ : List ℕ} {r : A} → Burst form ns′ bs′ b ns″ bs″ r → r ≡ form (paper (burstAnswer (joined (bursts ++ (b ∷ [])))))
+  calls-answer = CallsLaws.calls-answer ns bs s k
 
-    pub calls-answer : {b ns″ bs″ : List ℕ} {r : A} → Burst form ns′ bs′ b ns″ bs″ r → r ≡ form (paper (burstAnswer (joined (bursts ++ (b ∷ [])))))
-    calls-answer = CallsLaws.calls-answer ns bs s k
-
-    pub calls-late : {b ns″ bs″ : List ℕ} {r : A} → Burst form (endNumbers ns′ bs′) bs′ b ns″ bs″ r → Untouched (endNumbers ns′ bs′) bs′ ns″ bs″ × (r ≡ form (reply 23 0))
-    calls-late = CallsLaws.calls-late ns bs s k
+  pub calls-late : {b ns″ bs″ : List ℕ} {r : A} → Burst form (endNumbers ns′ bs′) bs′ b ns″ bs″ r → Untouched (endNumbers ns′ bs′) bs′ ns″ bs″ × (r ≡ form (reply 23 0))
+  calls-late = CallsLaws.calls-late ns bs s k

@@ -25,6 +25,12 @@ use Rattle.theorems.specs.ListerLaws.{set-holds, set-somewhere}
 use Rattle.theorems.specs.AnswersLaws.{all-by-list, all-asked, said-each, said-refused}
 use Rattle.theorems.specs.ReaderLaws.{reader-values}
 
+-- the call, by what it says
+laid-out : (bytes : List ℕ) (k n : ℕ) (xs : List Float) (out : List ℕ) → allValues bytes k ≡ said 0 n xs → length xs ≡ n → n ≤ length out
+    → (allReply bytes k (length out) ≡ reply 0 n) × (allPlaces bytes k out ≡ map bitsOf xs ++ drop n out)
+unfolding allReply allPlaces
+laid-out bytes k n xs out e l h = (rw (e, l, le-ltb (length out) n h) refl, rw (e, l, le-ltb (length out) n h) refl)
+
 module _ {sets : List Set} {bytes : List ℕ} (p : Proper sets bytes) {k : ℕ} {s : Set} {q : Part} (a : At58 sets bytes k s q) where
   pub all-of-list : allValues bytes (suc k) ≡ allSaid s
   unfolding setsFrom
@@ -35,6 +41,10 @@ module _ {sets : List Set} {bytes : List ℕ} (p : Proper sets bytes) {k : ℕ} 
   all-in-turn n xs h =
       let w = said-each s n xs (sym all-of-list ∙ h) in
       record { counted = w .counted; long = w .long; value = λ i l. reader-values p a i l ∙ w .value i l }
+
+  pub all-answers : (n : ℕ) (xs : List Float) (out : List ℕ) → allValues bytes (suc k) ≡ said 0 n xs → n ≤ length out
+      → (allReply bytes (suc k) (length out) ≡ reply 0 n) × (allPlaces bytes (suc k) out ≡ map bitsOf xs ++ drop n out)
+  all-answers n xs out h room = laid-out bytes (suc k) n xs out h (all-in-turn n xs h .long) room
 
   pub all-refused-one : (m l : ℕ) → 0 < m → allValues bytes (suc k) ≡ refused m l → (i : ℕ) × ((i < declared s) × (valueOf bytes (suc k) i ≡ refused m l))
   all-refused-one m l z h =
@@ -48,9 +58,3 @@ module _ {sets : List Set} {bytes : List ℕ} (p : Proper sets bytes) {k : ℕ} 
       let m : declared s ≤ 65536 = declared-most (h .lines) (a .number) in
       let n : declared s * numbersOf (setCase s) ≤ declared s * 3 = start-most (declared s) (setCase s) _ (case-eight (h .lines) (a .number)) refl in
       omega arith
-
--- the call, by what it says
-pub all-answers : (bytes : List ℕ) (k n : ℕ) (xs : List Float) (out : List ℕ) → allValues bytes k ≡ said 0 n xs → length xs ≡ n → n ≤ length out
-    → (allReply bytes k (length out) ≡ reply 0 n) × (allPlaces bytes k out ≡ map bitsOf xs ++ drop n out)
-unfolding allReply allPlaces
-all-answers bytes k n xs out e l h = (rw (e, l, le-ltb (length out) n h) refl, rw (e, l, le-ltb (length out) n h) refl)
