@@ -1,7 +1,7 @@
--- What the reader's questions answer by the list alone, where they are refused, and a stored number as it stands in a text.
+-- What calls answer: the reader's questions by the list alone, where they are refused, a stored number as it stands in a text, a buffer that is filled.
 use mathlib.Core.Path.{_≡_}
 use mathlib.Core.Bool.{Bool}
-use mathlib.Core.List.{List, [], _∷_}
+use mathlib.Core.List.{List, [], _∷_, _++_}
 use Prim.Native.Nat.{ℕ, suc, _*_, _-_, _<_}
 use lib.IntN.{ℤ, natAbs}
 use Rattle.real.specs.Real.{belowZero}
@@ -15,7 +15,8 @@ use Rattle.field.specs.Item.{Item}
 use Rattle.parts.specs.Parts.{Part}
 use Rattle.parts.specs.Function.{firstByte, pastByte}
 use Rattle.layout.specs.Layout.{numbersOf}
-use Rattle.judge.specs.Judge.{judged}
+use Rattle.judge.specs.declared.Reply.{Reply}
+use Rattle.judge.specs.Judge.{judged, reply}
 use Rattle.lister.specs.Lister.{listReply}
 use Rattle.reader.specs.Reader.{Said, said, refusedBy, refused, shown, reads, whole, valueKind, valueWith, storedNumber, valueOf}
 use Rattle.values.specs.Values.{allValues}
@@ -73,3 +74,8 @@ pub record AsJudged (bytes : List ℕ) (k i room : ℕ) : Type 0 where
   pub value : valueOf bytes k i ≡ refusedBy (judged bytes)
   pub all : allValues bytes k ≡ refusedBy (judged bytes)
   pub rewriter : rewriteReply bytes room ≡ judged bytes
+
+-- a call that fills a buffer answers "the length, past which it keeps its contents": this much was laid into what stood there before
+pub record Filled (text : List ℕ) (r : Reply) (before after : List ℕ) : Type 0 where
+  pub answer : r ≡ reply 0 (length text)
+  pub laid : after ≡ text ++ drop (length text) before

@@ -1,15 +1,15 @@
 -- What the rewriter answers of a proper writing.
 use mathlib.Core.Path.{_≡_, refl}
-use mathlib.Core.List.{List, _++_}
+use mathlib.Core.List.{List}
 use Prim.Native.Nat.{ℕ, _≤_}
 use borrow.Author.Tests.{le-ltb}
-use lib.ListN.{length, drop}
-use Rattle.judge.specs.Judge.{reply}
+use lib.ListN.{length}
 use Rattle.rewriter.specs.Rewriter.{rewrittenFile, rewriteReply, rewriteOut}
 use Rattle.rewriter_laws.specs.Form.{InForm, KeepsSpellings}
 use Rattle.rewriter_laws.specs.RewritingLaws.{rewritten-proper, rewritten-form, rewritten-keeps, rewritten-only, rewritten-same}
 use Rattle.theory.specs.Sets.{Set}
 use Rattle.theory.specs.Proper.{Proper}
+use Rattle.theorems.specs.Answers.{Filled}
 use Rattle.theorems.specs.JudgeLaws.{proper-accepted}
 
 module _ {sets : List Set} {bytes : List ℕ} (p : Proper sets bytes) where
@@ -22,9 +22,8 @@ module _ {sets : List Set} {bytes : List ℕ} (p : Proper sets bytes) where
   pub rewriter-again : rewrittenFile (rewrittenFile bytes) ≡ rewrittenFile bytes
   rewriter-again = rewritten-same (rewritten-proper p) (rewritten-form p)
 
-  pub rewriter-answers : (out : List ℕ) → length (rewrittenFile bytes) ≤ length out
-      → (rewriteReply bytes (length out) ≡ reply 0 (length (rewrittenFile bytes))) × (rewriteOut bytes out ≡ rewrittenFile bytes ++ drop (length (rewrittenFile bytes)) out)
+  pub rewriter-answers : (out : List ℕ) → length (rewrittenFile bytes) ≤ length out → Filled (rewrittenFile bytes) (rewriteReply bytes (length out)) out (rewriteOut bytes out)
   unfolding rewriteOut rewriteReply
   rewriter-answers out h =
       let room = le-ltb (length out) (length (rewrittenFile bytes)) h in
-      (rw (proper-accepted p, room) refl, rw (proper-accepted p, room) refl)
+      record { answer = rw (proper-accepted p, room) refl; laid = rw (proper-accepted p, room) refl }

@@ -42,7 +42,7 @@ use Rattle.stream_laws.specs.Streaming.{burstAnswer, joined, Bursts}
 use Rattle.stream_laws.specs.Calls.{Calls}
 use Rattle.theorems.specs.Table.{InTable, CallsInTable}
 use Rattle.theorems.specs.Stands.{SetAt, At58}
-use Rattle.theorems.specs.Answers.{Answered, NoSuch, AsJudged, InTurn, valueSaid, allSaid, ownBytes}
+use Rattle.theorems.specs.Answers.{Answered, NoSuch, AsJudged, InTurn, Filled, valueSaid, allSaid, ownBytes}
 use Rattle.theorems.specs.Columns.{Columns, DataByte, OfOneValue}
 use Rattle.theorems.specs.LaidOut.{writtenText, LaidOut, ReadAs}
 use Rattle.exact.specs.ExactLaws as ExactLaws
@@ -130,9 +130,7 @@ pub writer-lays : (header : List ℕ) (xs ss : List ℤ) (room : ℕ) → Coeffi
 writer-lays = WriterLaws.writer-lays
 
 pub writer-answers : (header : List ℕ) (xs ss : List ℤ) (out : List ℕ) → writeReply header xs ss (length out) .number ≡ 0
-    → (length (writtenText header xs ss) ≤ length out)
-    × ((writeReply header xs ss (length out) ≡ reply 0 (length (writtenText header xs ss)))
-    × (writeOut header xs ss out ≡ writtenText header xs ss ++ drop (length (writtenText header xs ss)) out))
+    → (length (writtenText header xs ss) ≤ length out) × Filled (writtenText header xs ss) (writeReply header xs ss (length out)) out (writeOut header xs ss out)
 writer-answers = WriterLaws.writer-answers
 
 module _ {header : List ℕ} {xs ss : List ℤ} (l : LaidOut header xs ss) where
@@ -192,7 +190,7 @@ module _ {sets : List Set} {bytes : List ℕ} (p : Proper sets bytes) where
     all-in-turn = ValuesLaws.all-in-turn p a
 
     pub all-answers : (n : ℕ) (xs : List Float) (out : List ℕ) → allValues bytes (suc k) ≡ said 0 n xs → n ≤ length out
-        → (allReply bytes (suc k) (length out) ≡ reply 0 n) × (allPlaces bytes (suc k) out ≡ map bitsOf xs ++ drop n out)
+        → Filled (map bitsOf xs) (allReply bytes (suc k) (length out)) out (allPlaces bytes (suc k) out)
     all-answers = ValuesLaws.all-answers p a
 
     pub all-refused-one : (m l : ℕ) → 0 < m → allValues bytes (suc k) ≡ refused m l → (i : ℕ) × ((i < declared s) × (valueOf bytes (suc k) i ≡ refused m l))
@@ -208,8 +206,7 @@ module _ {sets : List Set} {bytes : List ℕ} (p : Proper sets bytes) where
   pub rewriter-again : rewrittenFile (rewrittenFile bytes) ≡ rewrittenFile bytes
   rewriter-again = RewriterLaws.rewriter-again p
 
-  pub rewriter-answers : (out : List ℕ) → length (rewrittenFile bytes) ≤ length out
-      → (rewriteReply bytes (length out) ≡ reply 0 (length (rewrittenFile bytes))) × (rewriteOut bytes out ≡ rewrittenFile bytes ++ drop (length (rewrittenFile bytes)) out)
+  pub rewriter-answers : (out : List ℕ) → length (rewrittenFile bytes) ≤ length out → Filled (rewrittenFile bytes) (rewriteReply bytes (length out)) out (rewriteOut bytes out)
   rewriter-answers = RewriterLaws.rewriter-answers p
 
   module _ {k : ℕ} {s : Set} {q : Part} (a : At58 sets bytes k s q) where

@@ -1,14 +1,13 @@
 -- All values of a 58 of a proper writing, asked at once.
 use mathlib.Core.Path.{_≡_, refl, sym, _∙_}
-use mathlib.Core.List.{List, _++_, map}
+use mathlib.Core.List.{List, map}
 use Prim.Native.Nat.{ℕ, suc, _*_, _<_, _≤_}
 use native.Mathlib.Omega.{arith}
 use borrow.Author.Tests.{le-ltb}
 use lib.Ieee.{Float}
-use lib.ListN.{length, drop}
+use lib.ListN.{length, length-map}
 use Rattle.exact.specs.Bits.{bitsOf}
 use Rattle.layout.specs.Layout.{numbersOf}
-use Rattle.judge.specs.Judge.{reply}
 use Rattle.parts.specs.Parts.{Part}
 use Rattle.reader.specs.Reader.{said, refused, setsFrom, valueOf}
 use Rattle.reader.specs.ReaderLaws.{start-most}
@@ -19,7 +18,7 @@ use Rattle.parts_laws.specs.Declared.{declared, setCase}
 use Rattle.parts_laws.specs.Stored.{storedCount}
 use Rattle.parts_laws.specs.CaseLaws.{case-eight, declared-most}
 use Rattle.theorems.specs.Stands.{At58}
-use Rattle.theorems.specs.Answers.{InTurn, valueSaid, allSaid}
+use Rattle.theorems.specs.Answers.{InTurn, Filled, valueSaid, allSaid}
 use Rattle.theorems.specs.JudgeLaws.{accepted-zero}
 use Rattle.theorems.specs.ListerLaws.{set-holds, set-somewhere}
 use Rattle.theorems.specs.AnswersLaws.{all-by-list, all-asked, said-each, said-refused}
@@ -27,9 +26,12 @@ use Rattle.theorems.specs.ReaderLaws.{reader-values}
 
 -- the call, by what it says
 laid-out : (bytes : List ℕ) (k n : ℕ) (xs : List Float) (out : List ℕ) → allValues bytes k ≡ said 0 n xs → length xs ≡ n → n ≤ length out
-    → (allReply bytes k (length out) ≡ reply 0 n) × (allPlaces bytes k out ≡ map bitsOf xs ++ drop n out)
+    → Filled (map bitsOf xs) (allReply bytes k (length out)) out (allPlaces bytes k out)
 unfolding allReply allPlaces
-laid-out bytes k n xs out e l h = (rw (e, l, le-ltb (length out) n h) refl, rw (e, l, le-ltb (length out) n h) refl)
+laid-out bytes k n xs out e l h =
+    let room = le-ltb (length out) n h in
+    let many : length (map bitsOf xs) ≡ n = length-map xs bitsOf ∙ l in
+    record { answer = rw (e, l, room, many) refl; laid = rw (e, l, room, many) refl }
 
 module _ {sets : List Set} {bytes : List ℕ} (p : Proper sets bytes) {k : ℕ} {s : Set} {q : Part} (a : At58 sets bytes k s q) where
   pub all-of-list : allValues bytes (suc k) ≡ allSaid s
@@ -43,7 +45,7 @@ module _ {sets : List Set} {bytes : List ℕ} (p : Proper sets bytes) {k : ℕ} 
       record { counted = w .counted; long = w .long; value = λ i l. reader-values p a i l ∙ w .value i l }
 
   pub all-answers : (n : ℕ) (xs : List Float) (out : List ℕ) → allValues bytes (suc k) ≡ said 0 n xs → n ≤ length out
-      → (allReply bytes (suc k) (length out) ≡ reply 0 n) × (allPlaces bytes (suc k) out ≡ map bitsOf xs ++ drop n out)
+      → Filled (map bitsOf xs) (allReply bytes (suc k) (length out)) out (allPlaces bytes (suc k) out)
   all-answers n xs out h room = laid-out bytes (suc k) n xs out h (all-in-turn n xs h .long) room
 
   pub all-refused-one : (m l : ℕ) → 0 < m → allValues bytes (suc k) ≡ refused m l → (i : ℕ) × ((i < declared s) × (valueOf bytes (suc k) i ≡ refused m l))

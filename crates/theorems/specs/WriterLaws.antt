@@ -1,10 +1,10 @@
 -- What the writer lays out, and what judge, rewriter and reader say of it.
 use mathlib.Core.Path.{_≡_, refl}
-use mathlib.Core.List.{List, _++_}
+use mathlib.Core.List.{List}
 use Prim.Native.Nat.{ℕ, _<_, _≤_}
 use lib.IntN.{ℤ, pos}
-use lib.ListN.{length, getD, drop}
-use Rattle.judge.specs.Judge.{judged, reply}
+use lib.ListN.{length, getD}
+use Rattle.judge.specs.Judge.{judged}
 use Rattle.header.specs.Header.{headerOf}
 use Rattle.rewriter.specs.Rewriter.{rewrittenFile}
 use Rattle.writer.specs.Writer.{writeReply, writeOut}
@@ -13,6 +13,7 @@ use Rattle.writer_laws.specs.HeaderRunLaws.{header-passed}
 use Rattle.writer_laws.specs.LentLaws.{lent-accepted}
 use Rattle.writer_laws.specs.Reply.{Coefficients}
 use Rattle.writer_laws.specs.ReplyLaws.{answered, answered-fit}
+use Rattle.theorems.specs.Answers.{Filled}
 use Rattle.theorems.specs.JudgeLaws.{accepted-proper, accepted-zero}
 use Rattle.theorems.specs.ListerLaws.{lister-places, set-stands}
 use Rattle.theorems.specs.ReaderLaws.{reader-numbers}
@@ -29,13 +30,11 @@ module _ (header : List ℕ) (xs ss : List ℤ) where
       laid-out header p xs ss (a .stored) f (q .1) (lister-places (q .1))
 
   pub writer-answers : (out : List ℕ) → writeReply header xs ss (length out) .number ≡ 0
-      → (length (writtenText header xs ss) ≤ length out)
-      × ((writeReply header xs ss (length out) ≡ reply 0 (length (writtenText header xs ss)))
-      × (writeOut header xs ss out ≡ writtenText header xs ss ++ drop (length (writtenText header xs ss)) out))
+      → (length (writtenText header xs ss) ≤ length out) × Filled (writtenText header xs ss) (writeReply header xs ss (length out)) out (writeOut header xs ss out)
   unfolding writeOut
   writer-answers out z =
       let a = answered header xs ss (length out) z in
-      (a .short, (a .reply-is, rw (a .reply-is) refl))
+      (a .short, record { answer = a .reply-is; laid = rw (a .reply-is) refl })
 
 module _ {header : List ℕ} {xs ss : List ℤ} (l : LaidOut header xs ss) where
   pub writer-accepted : (judged (writtenText header xs ss) .number ≡ 0) × (rewrittenFile (writtenText header xs ss) ≡ writtenText header xs ss)
