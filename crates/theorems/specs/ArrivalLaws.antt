@@ -26,7 +26,7 @@ use Rattle.stream_laws.specs.StreamingLaws as StreamingLaws
 use Rattle.theory.specs.Sets.{Set}
 use Rattle.theory.specs.Proper.{Proper}
 use Rattle.theorems.specs.JudgeLaws.{accepted-proper, proper-accepted}
-use Rattle.theorems.specs.TableLaws.{fault-number}
+use Rattle.theorems.specs.TableLaws.{of-either, fault-number}
 
 -- what is said of a fresh record brought up to date by bursts
 module _ {r : Stream} {bursts : List (List ℕ)} (k : Bursts freshRecord bursts r) where
@@ -57,11 +57,7 @@ known-few n h = by (eqb n 1) h
     by false e = ltb-false 15 n e
 
 end-few : (p : Place) (sets n : ℕ) → atEnd p sets n .number ≤ 16
-end-few Outside sets n = by (eqb sets 0)
-  where
-    by : (t : Bool) → pick t (reply 16 0) (reply 0 n) .number ≤ 16
-    by true = omega arith
-    by false = omega arith
+end-few Outside sets n = of-either (λ (r : Reply). r .number ≤ 16) (eqb sets 0) (reply 16 0) (reply 0 n) (omega arith) (omega arith)
 end-few Number sets n = omega arith
 end-few Plain sets n = omega arith
 end-few (Typed d) sets n = omega arith
@@ -92,8 +88,7 @@ told c = by (isPast c) refl
 told-other : (c : Stream) (r : Reply) → r ≡ paper (soFar (seen c)) → (r .number ≡ 20) ⊎ (r .number ≡ 23) → ⊥
 told-other c r e n =
     let same-number : r .number ≡ paper (soFar (seen c)) .number = ap (λ (x : Reply). x .number) e in
-    let not-these : r .number ≡ 20 → ⊥ = λ h. ⊎-elim (λ few. omega arith) (λ far. omega arith) (told c .so-far) in
-    ⊎-elim not-these (λ h. ⊎-elim (λ few. omega arith) (λ far. omega arith) (told c .so-far)) n
+    ⊎-elim (λ few. ⊎-elim (λ h. omega arith) (λ h. omega arith) n) (λ far. ⊎-elim (λ h. omega arith) (λ h. omega arith) n) (told c .so-far)
 
 module _ {ns bs b ns′ bs′ : List ℕ} {r : Reply} (w : Burst same ns bs b ns′ bs′ r) (n : (r .number ≡ 20) ⊎ (r .number ≡ 23)) where
   kept-open : (t : Bool) → isShort ns bs ≡ false → streamOf ns bs .ended ≡ t → Untouched ns bs ns′ bs′

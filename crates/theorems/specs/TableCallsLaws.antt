@@ -38,12 +38,7 @@ use Rattle.header.specs.declared.Header.{Header}
 use Rattle.header.specs.Header.{answer, replyOf, opened, pastNumber, headerStep, leaves, headerEnd, headerOf}
 use Rattle.writer.specs.Writer.{firstUnfit, writtenSet, laidReply, writeReply}
 use Rattle.theorems.specs.Table.{CallsInTable}
-use Rattle.theorems.specs.TableLaws.{fault-number, refusal-few, judge-table}
-
--- what holds of both holds of the one chosen
-pub of-either : {A : Type 0} (P : A → Type 0) (t : Bool) (a b : A) → P a → P b → P (pick t a b)
-of-either P true a b p q = p
-of-either P false a b p q = q
+use Rattle.theorems.specs.TableLaws.{of-either, fault-number, refusal-few, judge-table}
 
 -- a number of the table
 abbrev Few : Reply → Type 0

@@ -26,6 +26,11 @@ use Rattle.judge.specs.RefusalLaws.{line-number}
 use Rattle.judge.specs.Judge.{judged, reply, lineStep, Run, going, refused, onOutcome, runStep, atEnd, runEnd}
 use Rattle.theorems.specs.Table.{InTable}
 
+-- what holds of both holds of the one chosen
+pub of-either : {A : Type 0} (P : A → Type 0) (t : Bool) (a b : A) → P a → P b → P (pick t a b)
+of-either P true a b p q = p
+of-either P false a b p q = q
+
 -- the number of a line without its LF
 pub fault-number : (cs : List ℕ) → LineNumber (lineFault false cs .number)
 unfolding lineFault
@@ -98,11 +103,7 @@ module _ (m : ℕ) where
 
 -- the end of a file of some lines
 ends-bounded : (p : Place) (sets m : ℕ) → 1 ≤ m → InTable m (atEnd p sets m)
-ends-bounded Outside sets m h = go (eqb sets 0)
-  where
-    go : (t : Bool) → InTable m (pick t (reply 16 0) (reply 0 m))
-    go true = at-none m 16 (inr refl)
-    go false = at-last m h
+ends-bounded Outside sets m h = of-either (InTable m) (eqb sets 0) (reply 16 0) (reply 0 m) (at-none m 16 (inr refl)) (at-last m h)
 ends-bounded Number sets m h = at-line m (reply 7 (m + 1)) (omega arith, omega arith) (omega arith) (omega arith)
 ends-bounded Plain sets m h = at-line m (reply 7 (m + 1)) (omega arith, omega arith) (omega arith) (omega arith)
 ends-bounded (Typed d) sets m h = at-line m (reply 7 (m + 1)) (omega arith, omega arith) (omega arith) (omega arith)
@@ -127,11 +128,10 @@ file-bounded (l ∷ ls) rest =
 
 pub judge-table : (bytes : List ℕ) → InTable (length (cut bytes .lines)) (judged bytes)
 unfolding judged judge
-judge-table bytes = go (ltb 16777216 (length bytes))
-  where
-    go : (t : Bool) → InTable (length (cut bytes .lines)) (pick t (reply 1 0) (judge runStep runEnd (going start 0) bytes))
-    go true = at-none (length (cut bytes .lines)) 1 (inl refl)
-    go false = file-bounded (cut bytes .lines) (cut bytes .rest)
+judge-table bytes =
+    let lines : ℕ = length (cut bytes .lines) in
+    of-either (InTable lines) (ltb 16777216 (length bytes)) (reply 1 0) (judge runStep runEnd (going start 0) bytes) (at-none lines 1 (inl refl))
+    (file-bounded (cut bytes .lines) (cut bytes .rest))
 
 -- a reply fits the word that carries it: 7 bits for the number, 32 for the place
 pub judged-bounds : (bytes : List ℕ) → (judged bytes .number ≤ 16) × (judged bytes .place ≤ 16777217)
