@@ -2,7 +2,7 @@
 -- most 2^25 − 1 and the place is taken modulo 2^32, so that the word is defined for every reply; document 01's table stops at 22, a burst's
 -- numbers are 23 and 127 too, and places are lines of a file or a header, sets, indices of stored numbers, lengths of an accepted text, a
 -- value's kind, the 20 bytes of a stored number, or how many f64 a 58 stores.
-use Prim.Native.Nat.{ℕ, _+_, _*_, _%_}
+use Prim.Native.Nat.{ℕ, _+_, _*_, _/_, _%_}
 use lib.Dec.{ltb}
 use Rattle.laws.specs.Choice.{pick}
 use Rattle.judge.specs.declared.Reply.{Reply}
@@ -18,3 +18,7 @@ word r = r .number % 128 * 144115188075855872 + (columnBits (r .column) * 429496
 -- a number and a place, no column
 abbrev pub packed : ℕ → ℕ → ℕ
 packed number place = word (reply number place)
+
+-- the number that a word carries, as a caller takes it
+abbrev pub numberIn : ℕ → ℕ
+numberIn w = w / 144115188075855872

@@ -1,8 +1,7 @@
 -- A file judged while it arrives is judged as the whole file, however it is cut into bursts. A burst takes what a record says of the bytes so far to
 -- what those bytes with the burst give; so bursts bring a fresh record to what their joined bytes give. A burst's answer is 1 past the limit and
--- otherwise that of the finished lines, and "so far" counts them. The end's answer is the whole file's, asked again too: it accepts the proper writings
--- and nothing else. A refusal that a burst has told is the end's, unless the file gets too long. After the end was asked, a burst is answered 23 and changes
--- nothing. Of any record that is not ended, one made up otherwise too: a burst adds its length to the running length, and past the limit is past for good.
+-- otherwise that of the finished lines, and "so far" counts them. The end's answer is the whole file's, asked again too. A refusal that a burst has told
+-- is the end's, unless the file gets too long. After the end was asked, a burst is answered 23 and changes nothing. Of any record that is not ended, one made up otherwise too: a burst adds its length to the running length, and past the limit is past for good.
 use mathlib.Core.Path.{_≡_, refl, sym, ap, _∙_}
 use mathlib.Core.Bool.{Bool, true, false}
 use mathlib.Core.List.{List, [], _∷_, _++_, append-nil, append-assoc}
@@ -28,9 +27,6 @@ use Rattle.stream.specs.declared.Answer.the-variants.{SoFar, Refused}
 use Rattle.stream.specs.Stream.{inLimit, past, kept, pushAll, stepOf, seen, Stepped, soFar, answerOf, endReply, closed}
 use Rattle.stream.specs.SqueezeLaws.{end-squeezed}
 use Rattle.stream.specs.StreamLaws.{rest-open, seen-closed}
-use Rattle.theory.specs.Sets.{Set}
-use Rattle.theory.specs.Proper.{Proper}
-use Rattle.theorems.specs.Theorems.{accepted-proper, proper-accepted}
 use Rattle.stream_laws.specs.Streaming.{finished, after, runAnswer, burstAnswer, joined, Bursts, none, more}
 use Rattle.stream_laws.specs.Open.{keptText}
 use Rattle.stream_laws.specs.OpenLaws.{open-squeezed, kept-append}
@@ -204,11 +200,3 @@ module _ {c r : Stream} {bs : List (List ℕ)} (e : c .ended ≡ false) (h : see
   -- and after a burst that was answered 23.
   pub any-cut-later : {t : Stream} {b : List ℕ} → Stepped (closed r) b t → endReply (seen t) ≡ judged (joined bs)
   any-cut-later s = rw (after-end r s .0) any-cut-again
-
-  -- "Demand 3 reads for the end answer": what it accepts is a proper writing of some list of sets,
-  pub arrived-proper : (n : ℕ) → endReply (seen r) ≡ reply 0 n → (sets : List Set) × Proper sets (joined bs)
-  arrived-proper n g = accepted-proper (joined bs) n (sym any-cut ∙ g)
-
-  -- and it accepts every proper writing.
-  pub proper-arrived : {sets : List Set} → Proper sets (joined bs) → endReply (seen r) ≡ reply 0 (length (cut (joined bs) .lines))
-  proper-arrived p = any-cut ∙ proper-accepted p

@@ -18,7 +18,6 @@ use Rattle.line.specs.Line.{columns}
 use Rattle.real.specs.declared.Real.{Real}
 use Rattle.real.specs.declared.Real.the-variants.{Blank, Malformed, Value}
 use Rattle.record_table.specs.TypedSets.{headerLines}
-use Rattle.judge.specs.declared.Reply.{Reply}
 use Rattle.judge.specs.Judge.{judged}
 use Rattle.parts.specs.Parts as Parts
 use Rattle.parts.specs.Parts.{Part, partsOf, bytesIn, pastOf, datasetOf}
@@ -46,7 +45,9 @@ use Rattle.parts_laws.specs.Stored.{storedCount, storedItem}
 use Rattle.theorems.specs.Answers.{realOfItem, valueSaid, allSaid}
 use Rattle.theorems.specs.AnswersLaws.{number-answered, number-past, number-other, number-asked, value-answered, value-past, value-other, value-asked, all-by-list, all-other, all-asked}
 use Rattle.theorems.specs.Alone.{aloneIn, setsAlone, together, atStart, rowAlone, saidBehind, Alone}
-use Rattle.theorems.specs.Theorems.{proper-accepted, lister-places, lister-answers}
+use Rattle.theorems.specs.Stands.{SetAt}
+use Rattle.theorems.specs.JudgeLaws.{proper-accepted, accepted-zero}
+use Rattle.theorems.specs.ListerLaws.{lister-places, lister-answers, set-holds}
 
 -- What the reader answers of a set, whatever file it stands in.
 
@@ -71,9 +72,6 @@ none-stored s e = rw (none-declared s e) (zero-mul _)
 stands : {p : Part} {ps : List Part} (bytes : List ℕ) (k : ℕ) → drop k (partsOf bytes) ≡ p ∷ ps → Somewhere bytes p ps
 unfolding partsOf
 stands {p} {ps} bytes k d = somewhere bytes k 0 0 (partsOf bytes) p ps (omega arith) refl d
-
-accepted-zero : {sets : List Set} {bytes : List ℕ} → Proper sets bytes → judged bytes .number ≡ 0
-accepted-zero w = ap (λ (r : Reply). r .number) (proper-accepted w)
 
 -- a set as it stands in an accepted file
 module _ {s : Set} {p : Part} {ps : List Part} (bytes : List ℕ) (k : ℕ) (z : judged bytes .number ≡ 0) (d : drop k (partsOf bytes) ≡ p ∷ ps) (h : Holds s p) where
@@ -211,13 +209,11 @@ module _ {sets : List Set} {bytes : List ℕ} (w : Proper sets bytes) (k : ℕ) 
 
 -- THE SET ALONE. The bytes of set k of an accepted file, from its row's fourth number to its fifth, are a file of just that set, and every call
 -- answers of it as of set k in the whole file.
-pub set-alone : {sets : List Set} {bytes : List ℕ} → Proper sets bytes → (k : ℕ) (s : Set) (rest : List Set) → drop k sets ≡ s ∷ rest
-    → (p : Part) (ps : List Part) → drop k (partsOf bytes) ≡ p ∷ ps → Alone bytes (aloneIn bytes p) k s p
-set-alone {sets} {bytes} w k s rest e p ps d =
-    let f = stand-at k s rest (lister-places w) e in
-    let q : f .part ∷ f .others ≡ p ∷ ps = sym (f .sets) ∙ d in
-    let same : f .part ≡ p = cc in
-    let h : Holds s p = subst (Holds s) same (f .holds) in
+pub set-alone : {sets : List Set} {bytes : List ℕ} → Proper sets bytes → {k : ℕ} {s : Set} {q : Part} → SetAt sets bytes k s q → Alone bytes (aloneIn bytes q) k s q
+set-alone {sets} {bytes} w {k} {s} {p} at =
+    let ps = at .others in
+    let d = at .stands in
+    let h : Holds s p = set-holds w at in
     let v : Proper (s ∷ []) (aloneIn bytes p) = alone-proper w k p ps d h in
     let a : partsOf (aloneIn bytes p) ≡ atStart p ∷ [] = alone-parts w k p ps d h in
     let z = accepted-zero w in
