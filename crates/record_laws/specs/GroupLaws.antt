@@ -39,7 +39,7 @@ blanks-each [] h = none
 blanks-each (b ∷ l) h = let z : b ≡ 32 = h 0 in rw z (one (blanks-each l (λ k. h (suc k))))
 
 -- column k of a field's own columns and of those after them
-pub getD-own : (own cols : List ℕ) (w k : ℕ) → length own ≡ w → k < w → getD (own ++ cols) k 32 ≡ getD own k 32
+getD-own : (own cols : List ℕ) (w k : ℕ) → length own ≡ w → k < w → getD (own ++ cols) k 32 ≡ getD own k 32
 getD-own own cols w k l h = List·getD-append own cols 32 k (omega arith)
 
 pub getD-later : (own cols : List ℕ) (w k : ℕ) → length own ≡ w → w ≤ k → getD (own ++ cols) k 32 ≡ getD cols (k - w) 32
@@ -95,16 +95,16 @@ present-later : (i : Item) (is : List Item) → AllPresent (i ∷ is) → AllPre
 present-later i is (AllPresent.cons m n) = n
 
 -- what is said of the items of a list, and so of the later ones, is said of those after a field's own
-items-later : {f : Form} {i : Item} {own : List ℕ} (P : List Item → Type 0) (is : List Item) (fs : List Field)
+items-later : {f : Form} {i : Item} {own : List ℕ} (P : List Item → Type 0) (w : ℕ) (is : List Item) (fs : List Field)
     → ((j : Item) (js : List Item) → P (j ∷ js) → P js) → Stands f i own
-    → P (optionalItems (record { form = f; width = length own } ∷ fs) (i ∷ is)) → P (optionalItems fs is)
+    → P (optionalItems (record { form = f; width = w } ∷ fs) (i ∷ is)) → P (optionalItems fs is)
 unfolding optionalItems
-items-later P is fs t (a-text s) h = h
-items-later P is fs t (a-identification s m) h = h
-items-later P is fs t (an-integer {o = never} s l r) h = h
-items-later P is fs t (an-integer {o = within b d} s l r) h = t _ _ h
-items-later P is fs t (a-blank b) h = t _ _ h
-items-later P is fs t (a-real r) h = h
+items-later P w is fs t (a-text s) h = h
+items-later P w is fs t (a-identification s m) h = h
+items-later P w is fs t (an-integer {o = never} s l r) h = h
+items-later P w is fs t (an-integer {o = within b d} s l r) h = t _ _ h
+items-later P w is fs t (a-blank b) h = t _ _ h
+items-later P w is fs t (a-real r) h = h
 
 module _ (a e : ℕ) where
   -- From the items to the columns.
@@ -129,7 +129,7 @@ module _ (a e : ℕ) where
   named-blank (stands {form} {w} {fs} {i} {is} own cols l s r) at g n k p q =
       let o = and-left (placedForm a e at w form) _ g in
       let t = and-right (placedForm a e at w form) _ g in
-      let m = items-later AllBlank is fs blank-later s n in
+      let m = items-later AllBlank w is fs blank-later s n in
       ⊎-elim (λ h. getD-own own cols w k l h ∙ own-blank at w k is _ s o n h p q)
       (λ h. getD-later own cols w k l h ∙ named-blank r (at + w) t m (k - w) (omega arith) (omega arith)) (below-or-not k w)
 
@@ -145,10 +145,10 @@ module _ (a e : ℕ) where
     leaves-whole f g (Together.present n) = inr n
 
     -- the items after a field's own
-    pub leaves-later : {f : Form} {i : Item} {own : List ℕ} (is : List Item) (fs : List Field) → Stands f i own
-        → Leaves (optionalItems (record { form = f; width = length own } ∷ fs) (i ∷ is)) → Leaves (optionalItems fs is)
-    leaves-later is fs s (inl b) = inl b
-    leaves-later is fs s (inr n) = inr (items-later AllPresent is fs present-later s n)
+    pub leaves-later : {f : Form} {i : Item} {own : List ℕ} (w : ℕ) (is : List Item) (fs : List Field) → Stands f i own
+        → Leaves (optionalItems (record { form = f; width = w } ∷ fs) (i ∷ is)) → Leaves (optionalItems fs is)
+    leaves-later w is fs s (inl b) = inl b
+    leaves-later w is fs s (inr n) = inr (items-later AllPresent w is fs present-later s n)
 
     -- a blank item's field may be left blank on this line
     pub leaves-may : {f : Form} {i : Item} {own : List ℕ} (at w : ℕ) (is : List Item) (fs : List Field) → Stands f i own → placedForm a e at w f ≡ true

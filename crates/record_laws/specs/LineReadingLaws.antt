@@ -81,7 +81,7 @@ module _ (line : List ℕ) (eighty : length line ≡ 80) where
   fieldsIn-complete a e (stands {form} {w} {fs} {i} {is} own cols l s r) at d g n =
       let o = leaves-may a e line at w is fs s (and-left (placedForm a e at w form) _ g) n in
       readsFrom-field at _ fs own is (i ∷ is) (rw d (take-at own cols w l)) (stands-complete line is s o)
-      (fieldsIn-complete a e r (at + w) (field-after at w own cols l d) (and-right (placedForm a e at w form) _ g) (leaves-later a e line is fs s n))
+      (fieldsIn-complete a e r (at + w) (field-after at w own cols l d) (and-right (placedForm a e at w form) _ g) (leaves-later a e line w is fs s n))
 
   -- a writing of items by a row is taken, and those items are read in it
   pub written-complete : (r : Row) (is : List Item) → Grouped (r .fields) → Written r is line → (rowRefusal r line ≡ passed) × (itemsOf (r .fields) 0 line ≡ is)
