@@ -13,9 +13,9 @@ pub data BadByte : List ℕ → ℕ → Type 0 where
 
 -- the refusal of a line that has its LF (true) or not, by the columns before it: "On one line, 2, 3, 4 come first in that order"
 pub data LineFault : Bool → List ℕ → Refusal → Type 0 where
-  -- "byte not allowed", past column 80 too
+  -- "a byte not allowed", past column 80 too
   byte : {ended : Bool} {cs : List ℕ} {c : ℕ} → BadByte cs c → LineFault ended cs (refusal 2 c)
-  -- "line over 80 columns"
+  -- "over 80 columns"
   long : {ended : Bool} {cs : List ℕ} → Allowed cs → 80 < length cs → LineFault ended cs (refusal 3 1)
   -- "last line without LF"
   unended : {cs : List ℕ} → Allowed cs → length cs ≤ 80 → LineFault false cs (refusal 4 1)
