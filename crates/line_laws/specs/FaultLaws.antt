@@ -7,7 +7,7 @@ use native.Mathlib.Nat.{zero-add}
 use native.Mathlib.Omega.{arith}
 use borrow.Author.Tests.{lt-ltb, le-ltb, ltb-true, ltb-false, le-leb, leb-true}
 use lib.Dec.{leb, ltb}
-use lib.ListN.{length}
+use lib.ListN.{length, length-append}
 use Rattle.laws.specs.Choice.{pick}
 use Rattle.laws.specs.ChoiceLaws.{and-left, and-right, and-both, false-not-true}
 use Rattle.line.specs.Line.{refusal, passed, Allowed, none, more, isAllowed, firstBad, lineFault}
@@ -89,3 +89,12 @@ unfolding lineFault
 lineFault-only (byte (bad-byte {b} before after a n)) = rw (firstBad-found 1 b after a n, lt-ltb 0 (length before + 1) (omega arith)) refl
 lineFault-only (long {cs = cs} a h) = rw (firstBad-clear 1 a, lt-ltb 80 (length cs) h) refl
 lineFault-only (unended {cs} a h) = rw (firstBad-clear 1 a, le-ltb 80 (length cs) h) refl
+
+-- a refusal has a number; a byte's column is one of the line's
+pub line-some : {ended : Bool} {cs : List ℕ} {f : Refusal} → LineFault ended cs f → 0 < f .number
+line-some (byte b) = omega arith
+line-some (long a h) = omega arith
+line-some (unended a h) = omega arith
+
+pub byte-inside : {cs : List ℕ} {c : ℕ} → BadByte cs c → (1 ≤ c) × (c ≤ length cs)
+byte-inside (bad-byte {b} before after a n) = (omega arith, omega (arith, length-append before (b ∷ after)))

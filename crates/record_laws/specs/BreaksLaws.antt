@@ -2,13 +2,13 @@
 use mathlib.Core.Path.{_≡_, refl, sym, ap, _∙_}
 use mathlib.Core.Logic.{_⊎_, inl, inr, ⊎-elim}
 use mathlib.Core.Bool.{Bool, true, false, _&&_, _||_, not}
-use mathlib.Core.List.{List}
+use mathlib.Core.List.{List, []}
 use Prim.Native.Nat.{ℕ, zero, suc, _+_, _≤_, _<_}
 use native.Mathlib.Omega.{arith}
 use borrow.Author.Tests.{eqb-true, eqb-false, ne-eqb}
 use lib.Dec.{eqb, leb}
 use lib.IntN.{ℤ, pos, negsuc}
-use lib.ListN.{length}
+use lib.ListN.{length, List·getD-eq-default}
 use Rattle.laws.specs.Choice.{pick}
 use Rattle.laws.specs.ChoiceLaws.{false-not-true, below-or-not}
 use Rattle.text.specs.Blank.{Blanks}
@@ -30,7 +30,7 @@ use Rattle.layout.specs.Columns.{fieldStart}
 use Rattle.laws.specs.RangesLaws.{in-range}
 use Rattle.record_table.specs.TabledLaws.{recordOf-past}
 use Rattle.record_table.specs.Row.{Field, Row, Condition, breach, none, zeroIfUneven, aboveZero}
-use Rattle.record_table.specs.Records.{records, recordOf, noRecord, dataForm, unitFactors}
+use Rattle.record_table.specs.Records.{X, records, recordOf, noRecord, dataForm, unitFactors}
 use Rattle.record.specs.Check.{breachFault, itemsOf, conditionFault}
 use Rattle.record.specs.Condition.{zeroIntegerIn, zeroRealIn, aboveIn}
 use Rattle.record.specs.ConditionLaws.{conditionFault-data-form, conditionFault-factors}
@@ -88,8 +88,12 @@ spelled-zero {n} i = rw (integerOf-complete i) (by n)
     by true = refl
     by false = refl
 
+-- no columns spell no real
+no-columns : {m : Bool} {c : ℕ} {s : ℤ} → RealSpelling m c s [] → ⊥
+no-columns r = let e = sym (realOf-blank Blanks.none) ∙ realOf-complete r in let z : _≡_ {A = ℕ} 0 1 = cc in omega arith
+
 -- the records that ask something of their fields together, by one test of all
-abbrev isNone : Condition → Bool
+abbrev pub isNone : Condition → Bool
 isNone none = true
 isNone zeroIfUneven = false
 isNone aboveZero = false
@@ -97,7 +101,7 @@ isNone aboveZero = false
 abbrev named : ℕ → Bool
 named k = isNone (recordOf k .condition) || (eqb k dataForm || eqb k unitFactors)
 
-is-none : (c : Condition) → isNone c ≡ true → c ≡ none
+pub is-none : (c : Condition) → isNone c ≡ true → c ≡ none
 is-none none t = refl
 is-none zeroIfUneven t = false-not-true t
 is-none aboveZero t = false-not-true t
@@ -138,6 +142,14 @@ module _ (line : List ℕ) where
     factor-real : {k : ℕ} → Passes line real (ownColumns line fs k) → isAboveZero (realItem (realOf (ownColumns line fs k))) ≡ false
         → Breaks line fs aboveZero k
     factor-real (a-real r) h = factor r (not-above r h)
+
+    -- past the last field there is no number
+    past-empty : (k : ℕ) → length fs ≤ k → ownColumns line fs k ≡ []
+    past-empty k h = rw (List·getD-eq-default fs (X 0) h) refl
+
+    pub breaks-inside : {c : Condition} {k : ℕ} → Breaks line fs c k → k < length fs
+    breaks-inside (uneven {k} i f t r n) = ⊎-elim (λ h. h) (λ (h : length fs ≤ k). absurd (no-columns (rw (past-empty k h) at r))) (below-or-not k (length fs))
+    breaks-inside (factor {k} r b) = ⊎-elim (λ h. h) (λ (h : length fs ≤ k). absurd (no-columns (rw (past-empty k h) at r))) (below-or-not k (length fs))
 
     factor-above : (k : ℕ) → isAboveZero (realItem (realOf (ownColumns line fs k))) ≡ true → Breaks line fs aboveZero k → ⊥
     factor-above k z (factor r b) = is-above r z b
@@ -180,13 +192,12 @@ module _ (line : List ℕ) where
   two-above a b (suc zero) h x = factor-above factors 1 b x
   two-above a b (suc (suc k)) h x = absurd (omega arith)
 
-  -- past the last field there is no number
   three-above : Above 0 → Above 1 → Above 2 → (k : ℕ) → Breaks line factors aboveZero k → ⊥
   unfolding recordOf records
   three-above a b c zero x = factor-above factors 0 a x
   three-above a b c (suc zero) x = factor-above factors 1 b x
   three-above a b c (suc (suc zero)) x = factor-above factors 2 c x
-  three-above a b c (suc (suc (suc k))) (factor r o) = let e = sym (realOf-blank Blanks.none) ∙ realOf-complete r in let z : _≡_ {A = ℕ} 0 1 = cc in omega arith
+  three-above a b c (suc (suc (suc k))) x = absurd (omega (arith, breaks-inside factors x))
 
   asked-factors : AllPass factors → Asked (recordOf unitFactors) line (conditionFault (recordOf unitFactors) line)
   unfolding recordOf records fieldStart

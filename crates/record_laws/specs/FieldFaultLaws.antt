@@ -33,10 +33,10 @@ use Rattle.field.specs.Field.{columnsOf, blankIn, mayBlank, integerNumber, real
 use Rattle.record_laws.specs.Fault.{fieldAt, leftOf, ownColumns, blankInteger, blankReal, Required, always, mixed, FieldFault, text-blank, integer-blank, integer-malformed, out-of-range, against-rule, real-blank, real-malformed, Passes, skipped, a-text, an-identification, an-integer, left-blank, a-real}
 
 -- columns that the test finds not blank are not blanks
-not-blank : (cols : List ℕ) → allBlank cols ≡ false → Blanks cols → ⊥
+pub not-blank : (cols : List ℕ) → allBlank cols ≡ false → Blanks cols → ⊥
 not-blank cols e b = false-not-true (sym e ∙ allBlank-complete b)
 
-blank-not : (cols : List ℕ) → (Blanks cols → ⊥) → allBlank cols ≡ false
+pub blank-not : (cols : List ℕ) → (Blanks cols → ⊥) → allBlank cols ≡ false
 blank-not cols n = by (allBlank cols) refl
   where
     by : (t : Bool) → allBlank cols ≡ t → allBlank cols ≡ false

@@ -164,3 +164,7 @@ module _ (line : List ℕ) where
 
       pub stray-none : stray fs 0 line ≡ 0 → (c : ℕ) → Stray line fs c → ⊥
       stray-none e = no-stray (searched 0 fs) e
+
+-- a byte outside the fields is one of the line's
+pub stray-inside : {line : List ℕ} {fs : List Field} {c : ℕ} → Stray line fs c → c ≤ length line
+stray-inside {line} {c = c} s = ⊎-elim (λ (h : length line < c). absurd (s .byte (blank-past line c h))) (λ h. h) (below-or-not (length line) c)

@@ -4,3 +4,6 @@ pub mod Owed
 pub mod ListLaws
 pub mod RecordsLaws
 pub mod FollowsLaws
+pub mod Fault
+pub mod BeginsLaws
+pub mod FaultLaws
