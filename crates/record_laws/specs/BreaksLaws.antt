@@ -1,16 +1,17 @@
 -- The first field that breaks a record's condition, where its fields pass: the records with a condition are 58's line 7 and 164's factors.
-use mathlib.Core.Path.{_≡_, refl, sym, ap, _∙_}
+use mathlib.Core.Path.{_≡_, refl, sym, _∙_}
 use mathlib.Core.Logic.{_⊎_, inl, inr, ⊎-elim}
 use mathlib.Core.Bool.{Bool, true, false, _&&_, _||_, not}
 use mathlib.Core.List.{List, []}
 use Prim.Native.Nat.{ℕ, zero, suc, _+_, _≤_, _<_}
 use native.Mathlib.Omega.{arith}
-use borrow.Author.Tests.{eqb-true, eqb-false, ne-eqb}
+use borrow.Author.Tests.{eqb-true, eqb-false}
 use lib.Dec.{eqb, leb}
-use lib.IntN.{ℤ, pos, negsuc}
+use lib.IntN.{ℤ}
 use lib.ListN.{length, List·getD-eq-default}
 use Rattle.laws.specs.Choice.{pick}
 use Rattle.laws.specs.ChoiceLaws.{false-not-true, below-or-not}
+use Rattle.laws.specs.RangesLaws.{in-range}
 use Rattle.text.specs.Blank.{Blanks}
 use Rattle.integer.specs.Spelling.{IntegerSpelling, limit}
 use Rattle.integer.specs.Integer.{integerOf}
@@ -20,21 +21,20 @@ use Rattle.integer.specs.declared.Integer.the-variants as I
 use Rattle.real.specs.Spelling.{RealSpelling}
 use Rattle.real.specs.Real.{realOf}
 use Rattle.real.specs.RealLaws.{realOf-complete, realOf-blank}
+use Rattle.line.specs.Line.{refusal, passed}
+use Rattle.line.specs.declared.Refusal.{Refusal}
 use Rattle.codes.specs.Form.{real}
+use Rattle.layout.specs.Columns.{fieldStart}
 use Rattle.field.specs.Item.{isZeroInteger, isZeroReal, isAboveZero}
 use Rattle.field.specs.Field.{integerItem, realItem}
 use Rattle.field.specs.FieldLaws.{isZeroInteger-value}
-use Rattle.line.specs.Line.{refusal, passed}
-use Rattle.line.specs.declared.Refusal.{Refusal}
-use Rattle.layout.specs.Columns.{fieldStart}
-use Rattle.laws.specs.RangesLaws.{in-range}
 use Rattle.record_table.specs.TabledLaws.{recordOf-past}
 use Rattle.record_table.specs.Row.{Field, Row, Condition, breach, none, zeroIfUneven, aboveZero}
 use Rattle.record_table.specs.Records.{X, records, recordOf, noRecord, dataForm, unitFactors}
 use Rattle.record.specs.Check.{breachFault, itemsOf, conditionFault}
 use Rattle.record.specs.Condition.{zeroIntegerIn, zeroRealIn, aboveIn}
 use Rattle.record.specs.ConditionLaws.{conditionFault-data-form, conditionFault-factors}
-use Rattle.record_laws.specs.Fault.{leftOf, ownColumns, First, Passes, a-real, PassBefore, Breaks, uneven, factor}
+use Rattle.record_laws.specs.Fault.{leftOf, ownColumns, First, Passes, a-real, AllPass, Breaks, uneven, factor}
 
 -- an integer read as 0 is spelled
 zero-spelled : (cols : List ℕ) → isZeroInteger (integerItem (integerOf cols)) ≡ true → (n : Bool) × IntegerSpelling n 0 cols
@@ -123,9 +123,6 @@ pub data Asked (r : Row) (line : List ℕ) : Refusal → Type 0 where
   broken : (k : ℕ) → First (Breaks line (r .fields) (r .condition)) k → Asked r line (refusal 14 (leftOf (r .fields) k + 1))
 
 module _ (line : List ℕ) where
-  abbrev AllPass : List Field → Type 0
-  AllPass fs = PassBefore line fs (length fs)
-
   -- 58's line 7
   module _ (fs : List Field) where
     spaced-real : {k : ℕ} → Passes line real (ownColumns line fs k) → isZeroReal (realItem (realOf (ownColumns line fs k))) ≡ false
@@ -162,7 +159,7 @@ module _ (line : List ℕ) where
   abbrev form : List Field
   form = recordOf dataForm .fields
 
-  asked-form : AllPass form → Asked (recordOf dataForm) line (conditionFault (recordOf dataForm) line)
+  asked-form : AllPass line form → Asked (recordOf dataForm) line (conditionFault (recordOf dataForm) line)
   unfolding recordOf records fieldStart
   asked-form p = rw (conditionFault-data-form line) (by (zeroIntegerIn 20 30 line) (zeroRealIn 30 43 line) (zeroRealIn 43 56 line) refl refl refl)
     where
@@ -199,7 +196,7 @@ module _ (line : List ℕ) where
   three-above a b c (suc (suc zero)) x = factor-above factors 2 c x
   three-above a b c (suc (suc (suc k))) x = absurd (omega (arith, breaks-inside factors x))
 
-  asked-factors : AllPass factors → Asked (recordOf unitFactors) line (conditionFault (recordOf unitFactors) line)
+  asked-factors : AllPass line factors → Asked (recordOf unitFactors) line (conditionFault (recordOf unitFactors) line)
   unfolding recordOf records fieldStart
   asked-factors p = rw (conditionFault-factors line) (by (aboveIn 0 25 line) (aboveIn 25 50 line) (aboveIn 50 75 line) refl refl refl)
     where
@@ -222,5 +219,5 @@ module _ (line : List ℕ) where
       let p : breachFault (r .fields) (breach (r .condition) (itemsOf (r .fields) 0 line)) ≡ passed = rw e refl in
       rw p (kept (λ k b. breaks-some b e))
 
-  pub asked : (k : ℕ) → AllPass (recordOf k .fields) → Asked (recordOf k) line (conditionFault (recordOf k) line)
+  pub asked : (k : ℕ) → AllPass line (recordOf k .fields) → Asked (recordOf k) line (conditionFault (recordOf k) line)
   asked k p = ⊎-elim (asked-nothing (recordOf k)) (λ q. ⊎-elim (λ e. rw e (asked-form (rw e at p))) (λ e. rw e (asked-factors (rw e at p))) q) (asks k)

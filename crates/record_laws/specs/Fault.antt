@@ -81,6 +81,10 @@ module _ (line : List ℕ) where
     abbrev pub PassBefore : ℕ → Type 0
     PassBefore k = (j : ℕ) → j < k → Passes (fieldAt fs j .form) (ownColumns line fs j)
 
+    -- all fields pass
+    abbrev pub AllPass : Type 0
+    AllPass = PassBefore (length fs)
+
     -- column c lies in field k, which is none of skipped columns
     pub record Inside (c k : ℕ) : Type 0 where
       pub form : fieldAt fs k .form ≡ skip → ⊥
@@ -107,7 +111,7 @@ pub data RowFault (r : Row) (line : List ℕ) : Refusal → Type 0 where
   field : (n k : ℕ) → k < length (r .fields) → PassBefore line (r .fields) k → FieldFault line n (fieldAt (r .fields) k .form) (ownColumns line (r .fields) k)
       → RowFault r line (refusal n (leftOf (r .fields) k + 1))
   -- all fields pass, a byte lies outside them
-  stray : (c : ℕ) → PassBefore line (r .fields) (length (r .fields)) → First (Stray line (r .fields)) c → RowFault r line (refusal 13 c)
+  stray : (c : ℕ) → AllPass line (r .fields) → First (Stray line (r .fields)) c → RowFault r line (refusal 13 c)
   -- all fields pass, no byte lies outside them, a field breaks the condition
-  condition : (k : ℕ) → PassBefore line (r .fields) (length (r .fields)) → ((c : ℕ) → Stray line (r .fields) c → ⊥)
+  condition : (k : ℕ) → AllPass line (r .fields) → ((c : ℕ) → Stray line (r .fields) c → ⊥)
       → First (Breaks line (r .fields) (r .condition)) k → RowFault r line (refusal 14 (leftOf (r .fields) k + 1))

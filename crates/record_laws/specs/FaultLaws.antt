@@ -1,5 +1,5 @@
 -- The check of a line by its row refuses it for what is wrong with it, and for nothing else.
-use mathlib.Core.Path.{_≡_, refl, sym, ap, _∙_}
+use mathlib.Core.Path.{_≡_, refl, sym, _∙_}
 use mathlib.Core.Logic.{⊎-elim}
 use mathlib.Core.List.{List}
 use Prim.Native.Nat.{ℕ, zero, suc, _+_, _≤_, _<_}
@@ -7,16 +7,16 @@ use native.Mathlib.Nat.{zero-add}
 use native.Mathlib.Omega.{arith}
 use lib.ListN.{length}
 use Rattle.laws.specs.ChoiceLaws.{below-or-not}
-use Rattle.codes.specs.Form.{Form}
 use Rattle.line.specs.Line.{refusal, passed}
 use Rattle.line.specs.declared.Refusal.{Refusal}
-use Rattle.record_table.specs.Row.{Field, Row}
-use Rattle.record.specs.Check.{otherwise, strayFault, fieldsFault, stray, conditionFault, fieldsRefusal, rowRefusal}
+use Rattle.codes.specs.Form.{Form}
+use Rattle.record_table.specs.Row.{Row}
+use Rattle.record.specs.Check.{otherwise, strayFault, stray, conditionFault, fieldsRefusal, rowRefusal}
 use Rattle.record.specs.CheckLaws.{orElse-here}
-use Rattle.record_laws.specs.Fault.{fieldAt, leftOf, ownColumns, First, FieldFault, Passes, PassBefore, Stray, Breaks, RowFault}
+use Rattle.record_laws.specs.Fault.{fieldAt, leftOf, ownColumns, First, FieldFault, Passes, PassBefore, AllPass, Stray, Breaks, RowFault}
 use Rattle.record_laws.specs.FieldFaultLaws.{passes-number, fault-number, fault-some, PassFrom, FieldsLooked, right, wrong, fields-looked}
 use Rattle.record_laws.specs.StrayLaws.{stray-first, stray-none}
-use Rattle.record_laws.specs.BreaksLaws.{Asked, kept, broken, asked}
+use Rattle.record_laws.specs.BreaksLaws.{Asked, kept, broken}
 
 -- the first number of which something holds is one
 first-same : {P : ℕ → Type 0} {k j : ℕ} → First P k → First P j → k ≡ j
@@ -28,7 +28,7 @@ first-same {k = k} {j} a b =
 module _ (r : Row) (line : List ℕ) where
   -- a row takes a line, or refuses it for what is wrong
   data Looked : Refusal → Type 0 where
-    taken : PassBefore line (r .fields) (length (r .fields)) → ((c : ℕ) → Stray line (r .fields) c → ⊥)
+    taken : AllPass line (r .fields) → ((c : ℕ) → Stray line (r .fields) c → ⊥)
         → ((k : ℕ) → Breaks line (r .fields) (r .condition) k → ⊥) → Looked passed
     refused : {f : Refusal} → RowFault r line f → Looked f
 
@@ -67,7 +67,7 @@ module _ (r : Row) (line : List ℕ) where
   same (RowFault.condition k p s b) (RowFault.condition j q t d) = rw (first-same b d) refl
 
   -- a line that is taken has none
-  not-taken : {f : Refusal} → PassBefore line (r .fields) (length (r .fields)) → ((c : ℕ) → Stray line (r .fields) c → ⊥)
+  not-taken : {f : Refusal} → AllPass line (r .fields) → ((c : ℕ) → Stray line (r .fields) c → ⊥)
       → ((k : ℕ) → Breaks line (r .fields) (r .condition) k → ⊥) → RowFault r line f → ⊥
   not-taken p n b (RowFault.field m k h q w) = not-both (p k h) w
   not-taken p n b (RowFault.stray c q s) = n c (s .here)
@@ -76,16 +76,16 @@ module _ (r : Row) (line : List ℕ) where
   pass-all : (k : ℕ) → PassFrom line 0 (r .fields) k → PassBefore line (r .fields) k
   pass-all k p j h = rw (zero-add (leftOf (r .fields) j)) at (p j h)
 
-  by-condition : PassBefore line (r .fields) (length (r .fields)) → ((c : ℕ) → Stray line (r .fields) c → ⊥) → {f : Refusal} → Asked r line f → Looked f
+  by-condition : AllPass line (r .fields) → ((c : ℕ) → Stray line (r .fields) c → ⊥) → {f : Refusal} → Asked r line f → Looked f
   by-condition p n (kept b) = taken p n b
   by-condition p n (broken k b) = refused (RowFault.condition k p n b)
 
-  by-stray : PassBefore line (r .fields) (length (r .fields)) → (c : ℕ) → (0 < c → First (Stray line (r .fields)) c)
+  by-stray : AllPass line (r .fields) → (c : ℕ) → (0 < c → First (Stray line (r .fields)) c)
       → (c ≡ 0 → (c : ℕ) → Stray line (r .fields) c → ⊥) → Asked r line (conditionFault r line) → Looked (otherwise (strayFault c) (conditionFault r line))
   by-stray p zero some none a = by-condition p (none refl) a
   by-stray p (suc c) some none a = refused (RowFault.stray (suc c) p (some (omega arith)))
 
-  module _ (short : length line ≤ 80) (a : PassBefore line (r .fields) (length (r .fields)) → Asked r line (conditionFault r line)) where
+  module _ (short : length line ≤ 80) (a : AllPass line (r .fields) → Asked r line (conditionFault r line)) where
     by-fields : {g : Refusal} → FieldsLooked line 0 (r .fields) g
         → Looked (otherwise (otherwise g (strayFault (stray (r .fields) 0 line))) (conditionFault r line))
     by-fields (right p) =

@@ -4,8 +4,9 @@ use mathlib.Core.Bool.{Bool, true, false}
 use mathlib.Core.List.{List, [], _∷_}
 use Prim.Native.Nat.{ℕ, zero, suc, _+_, _≤_, _<_}
 use native.Mathlib.Omega.{arith}
+use native.Mathlib.Nat.{add-zero}
 use borrow.Author.Tests.{le-leb, lt-leb}
-use lib.ListN.{length, getD, take, drop}
+use lib.ListN.{length, take, drop}
 use Rattle.laws.specs.Choice.{pick}
 use Rattle.laws.specs.ChoiceLaws.{false-not-true}
 use Rattle.text.specs.Blank.{Blanks, allBlank}
@@ -20,17 +21,17 @@ use Rattle.real.specs.Real.{realOf}
 use Rattle.real.specs.RealLaws.{realOf-sound, realOf-blanks, realOf-malformed, realOf-complete, realOf-blank, realOf-otherwise}
 use Rattle.real.specs.declared.Real.{Real}
 use Rattle.real.specs.declared.Real.the-variants as R
+use Rattle.line.specs.Line.{refusal, passed}
+use Rattle.line.specs.declared.Refusal.{Refusal}
 use Rattle.codes.specs.Rule.{Rule, keeps}
 use Rattle.codes.specs.Form.{Form, Optional, skip, text, identification, real, integer, never, within}
 use Rattle.layout.specs.Columns.{fieldStart}
-use Rattle.line.specs.Line.{refusal, passed}
-use Rattle.line.specs.declared.Refusal.{Refusal}
-use Rattle.record_table.specs.Row.{Field, Row}
+use Rattle.field.specs.Field.{columnsOf, blankIn, mayBlank, integerNumber, realNumber, fieldNumber}
+use Rattle.record_table.specs.Row.{Field}
 use Rattle.record.specs.Check.{orElse, fieldsFault}
 use Rattle.record.specs.CheckLaws.{orElse-here}
-use native.Mathlib.Nat.{add-zero}
-use Rattle.field.specs.Field.{columnsOf, blankIn, mayBlank, integerNumber, realNumber, fieldNumber}
-use Rattle.record_laws.specs.Fault.{fieldAt, leftOf, ownColumns, blankInteger, blankReal, Required, always, mixed, FieldFault, text-blank, integer-blank, integer-malformed, out-of-range, against-rule, real-blank, real-malformed, Passes, skipped, a-text, an-identification, an-integer, left-blank, a-real}
+use Rattle.record_laws.specs.Fault.{fieldAt, leftOf, blankInteger, Required, always, mixed, Passes, skipped, a-text, an-identification, an-integer, left-blank, a-real}
+use Rattle.record_laws.specs.Fault.{FieldFault, text-blank, integer-blank, integer-malformed, out-of-range, against-rule, real-blank, real-malformed}
 
 -- columns that the test finds not blank are not blanks
 pub not-blank : (cols : List ℕ) → allBlank cols ≡ false → Blanks cols → ⊥
@@ -49,6 +50,16 @@ module _ (line : List ℕ) where
   data Looked (f : Form) (cols : List ℕ) : ℕ → Type 0 where
     right : Passes line f cols → Looked f cols 0
     wrong : {n : ℕ} → FieldFault line n f cols → Looked f cols n
+
+  -- a refusal has a number
+  pub fault-some : {n : ℕ} {f : Form} {cols : List ℕ} → FieldFault line n f cols → 0 < n
+  fault-some (text-blank b) = omega arith
+  fault-some (integer-blank b o) = omega arith
+  fault-some (integer-malformed b s) = omega arith
+  fault-some (out-of-range s h) = omega arith
+  fault-some (against-rule s h k) = omega arith
+  fault-some (real-blank b) = omega arith
+  fault-some (real-malformed b s) = omega arith
 
   looked-text : (cols : List ℕ) (t : Bool) → allBlank cols ≡ t → Looked identification cols (pick t 9 0)
   looked-text cols true e = wrong (text-blank (allBlank-sound cols e))
@@ -85,6 +96,21 @@ module _ (line : List ℕ) where
   looked real cols = looked-real cols (realOf cols) refl
   looked (integer r o) cols = looked-integer r o cols (integerOf cols) refl
 
+  -- the check passes a field only where it passes, and refuses it only for what is wrong
+  pub number-passes : (f : Form) (cols : List ℕ) → fieldNumber f (mayBlank f line) cols ≡ 0 → Passes line f cols
+  number-passes f cols e = of (looked f cols) e
+    where
+      of : {n : ℕ} → Looked f cols n → n ≡ 0 → Passes line f cols
+      of (right p) e = p
+      of (wrong w) e = absurd (omega (arith, fault-some w))
+
+  pub number-fault : (f : Form) (cols : List ℕ) → 0 < fieldNumber f (mayBlank f line) cols → FieldFault line (fieldNumber f (mayBlank f line) cols) f cols
+  number-fault f cols p = of (looked f cols) p
+    where
+      of : {n : ℕ} → Looked f cols n → 0 < n → FieldFault line n f cols
+      of (right q) p = absurd (omega arith)
+      of (wrong w) p = w
+
   -- the other way: the number of a field that passes, and of one that is wrong
   not-named : {o : Optional} → Required line o → blankIn o line ≡ false
   not-named always = refl
@@ -108,16 +134,6 @@ module _ (line : List ℕ) where
   fault-number (against-rule {n = n} {v = v} s h k) = rw (integerOf-complete s, le-leb v (limit n) h, k) refl
   fault-number (real-blank b) = rw (realOf-blank b) refl
   fault-number (real-malformed {cols} b s) = rw (realOf-otherwise cols b s) refl
-
-  -- a refusal has a number
-  pub fault-some : {n : ℕ} {f : Form} {cols : List ℕ} → FieldFault line n f cols → 0 < n
-  fault-some (text-blank b) = omega arith
-  fault-some (integer-blank b o) = omega arith
-  fault-some (integer-malformed b s) = omega arith
-  fault-some (out-of-range s h) = omega arith
-  fault-some (against-rule s h k) = omega arith
-  fault-some (real-blank b) = omega arith
-  fault-some (real-malformed b s) = omega arith
 
   -- The fields of a row, from the column after `at` on.
 

@@ -6,16 +6,15 @@ use mathlib.Core.List.{List}
 use Prim.{tt}
 use Prim.Native.Nat.{ℕ, zero, suc, _+_, _≤_, _<_}
 use native.Mathlib.Omega.{arith}
-use borrow.Author.Tests.{ltb-true, ltb-false, lt-ltb, le-ltb}
+use borrow.Author.Tests.{ltb-true, ltb-false, le-ltb}
 use lib.Dec.{ltb}
-use lib.ListN.{length, take}
+use lib.ListN.{length}
 use Rattle.laws.specs.Choice.{pick}
 use Rattle.laws.specs.ChoiceLaws.{false-not-true, below-or-not}
 use Rattle.laws.specs.RangesLaws.{in-range}
-use Rattle.text.specs.Blank.{Blanks, allBlank}
-use Rattle.text.specs.BlankLaws.{allBlank-complete, allBlank-sound}
-use Rattle.line.specs.Line.{refusal, passed, columns, lineFault, filled}
-use Rattle.line.specs.LineLaws.{filled-length, columns-within, lineFault-sound, lineFault-complete}
+use Rattle.text.specs.Blank.{allBlank}
+use Rattle.line.specs.Line.{refusal, columns, lineFault, filled}
+use Rattle.line.specs.LineLaws.{filled-length, lineFault-sound, lineFault-complete}
 use Rattle.line.specs.declared.Refusal.{Refusal}
 use Rattle.delimiter.specs.Kind.{Delimiter, NumberLine, number-line, isDelimiter, datasetNumber}
 use Rattle.delimiter.specs.KindLaws.{delimiter-not-blank, isDelimiter-complete, isDelimiter-sound, datasetNumber-complete, datasetNumber-sound}
@@ -31,21 +30,16 @@ use Rattle.walk.specs.declared.Due.{Due}
 use Rattle.walk.specs.declared.Place.{Place}
 use Rattle.walk.specs.declared.Place.the-variants.{Outside, Number, Plain, Typed}
 use Rattle.walk.specs.declared.State.{State}
-use Rattle.walk.specs.declared.Outcome.{Outcome}
 use Rattle.walk.specs.declared.Outcome.the-variants.{Next, Refused}
 use Rattle.judge.specs.Judge.{lineOutcome, lineStep}
 use Rattle.judge.specs.Refusal.{Refusing}
 use Rattle.judge.specs.RefusalLaws.{no-fault}
 use Rattle.record_laws.specs.FieldFaultLaws.{not-blank, blank-not}
-use Rattle.record_laws.specs.Fault.{fieldAt, FieldFault, text-blank, integer-blank, integer-malformed, out-of-range, against-rule, real-blank, real-malformed, RowFault, PassBefore}
-use Rattle.record_laws.specs.StrayLaws.{stray-inside}
-use Rattle.codes.specs.Form.{Form, skip, text, identification, real, integer}
-use Rattle.walk_laws.specs.BeginsLaws.{room, due-begin}
-use Rattle.record_laws.specs.BreaksLaws.{breaks-inside, isNone, is-none, Asked, asked, asked-nothing}
+use Rattle.record_laws.specs.Fault.{RowFault, AllPass}
+use Rattle.record_laws.specs.BreaksLaws.{isNone, is-none, Asked, asked, asked-nothing}
 use Rattle.record_laws.specs.FaultLaws.{rowRefusal-fault, rowRefusal-only}
-use Rattle.line_laws.specs.Fault.{LineFault}
-use Rattle.line_laws.specs.FaultLaws.{lineFault-fault, lineFault-only, line-some, byte-inside}
-use Rattle.walk_laws.specs.Fault.{PlaceFault, outside, many, number, early, late, row, Fault, own, place, InLine}
+use Rattle.line_laws.specs.FaultLaws.{lineFault-fault, lineFault-only, line-some}
+use Rattle.walk_laws.specs.Fault.{PlaceFault, outside, many, number, early, late, row, Fault, own, place}
 
 -- what the test takes for no delimiter is none
 no-delimiter : (line : List ℕ) → isDelimiter line ≡ false → Delimiter line → ⊥
@@ -72,15 +66,18 @@ list-free d =
     (λ h. rw (following-past (d .kind) h) refl)
     (below-or-not (d .kind) untyped))
 
-module _ (d : Due) (line : List ℕ) where
-  asked-due : PassBefore line (rowDue d .fields) (length (rowDue d .fields)) → Asked (rowDue d) line (conditionFault (rowDue d) line)
-  unfolding rowDue
-  asked-due = by (ltb (recordDue d) noRecord)
-    where
-      by : (t : Bool) → PassBefore line (pick t (recordOf (recordDue d)) (firstFields (d .left) (listRow d)) .fields) (length (pick t (recordOf (recordDue d)) (firstFields (d .left) (listRow d)) .fields))
-          → Asked (pick t (recordOf (recordDue d)) (firstFields (d .left) (listRow d))) line (conditionFault (pick t (recordOf (recordDue d)) (firstFields (d .left) (listRow d))) line)
-      by true p = asked line (recordDue d) p
-      by false p = asked-nothing line (firstFields (d .left) (listRow d)) (list-free d)
+rowDue-either : (P : Row → Type 0) (d : Due) → P (recordOf (recordDue d)) → P (firstFields (d .left) (listRow d)) → P (rowDue d)
+unfolding rowDue
+rowDue-either P d p q = by (ltb (recordDue d) noRecord)
+  where
+    by : (t : Bool) → P (pick t (recordOf (recordDue d)) (firstFields (d .left) (listRow d)))
+    by true = p
+    by false = q
+
+asked-due : (d : Due) (line : List ℕ) → AllPass line (rowDue d .fields) → Asked (rowDue d) line (conditionFault (rowDue d) line)
+asked-due d line =
+    rowDue-either (λ (r : Row). AllPass line (r .fields) → Asked r line (conditionFault r line)) d
+    (asked line (recordDue d)) (λ p. asked-nothing line (firstFields (d .left) (listRow d)) (list-free d))
 
 module _ (line : List ℕ) (eighty : length line ≡ 80) where
   -- by the row due
@@ -193,72 +190,3 @@ module _ (s : State) (l : List ℕ) where
   unfolding lineStep
   fault-refused {f} (own w) = rw (lineFault-only w) (outcome-own (f .number) (f .column) (columns true l) (line-some w))
   fault-refused (place a h w) = rw (lineFault-complete true (columns true l) refl h a) (stepOf-only (filled (columns true l)) (filled-length (columns true l)) s refl w)
-
--- The column.
-
--- a refusal in column 1
-first-column : (l : List ℕ) (n : ℕ) → (n ≡ 2 → ⊥) → InLine l (refusal n 1)
-first-column l n h = record { from = omega arith; byte = λ e. absurd (h e); eighty = λ e. omega arith; first = λ a b. refl; opening = λ e. refl }
-
--- a refusal of a field is 9 or more and not 15; 9 is that of a text that may not be blank
-record Numbered (n : ℕ) (f : Form) : Type 0 where
-  nine : 9 ≤ n
-  other : n ≡ 15 → ⊥
-  room-one : n ≤ 9 → room f ≡ 1
-
-numbered : {line : List ℕ} {n : ℕ} {f : Form} {cols : List ℕ} → FieldFault line n f cols → Numbered n f
-numbered (text-blank b) = record { nine = omega arith; other = λ e. omega arith; room-one = λ h. refl }
-numbered (integer-blank b o) = record { nine = omega arith; other = λ e. omega arith; room-one = λ h. absurd (omega arith) }
-numbered (integer-malformed b s) = record { nine = omega arith; other = λ e. omega arith; room-one = λ h. absurd (omega arith) }
-numbered (out-of-range s h) = record { nine = omega arith; other = λ e. omega arith; room-one = λ h. absurd (omega arith) }
-numbered (against-rule s h k) = record { nine = omega arith; other = λ e. omega arith; room-one = λ h. absurd (omega arith) }
-numbered (real-blank b) = record { nine = omega arith; other = λ e. omega arith; room-one = λ h. absurd (omega arith) }
-numbered (real-malformed b s) = record { nine = omega arith; other = λ e. omega arith; room-one = λ h. absurd (omega arith) }
-
--- no form has more room than the line
-room-most : (f : Form) → room f ≤ 80
-room-most skip = omega arith
-room-most text = omega arith
-room-most identification = omega arith
-room-most real = omega arith
-room-most (integer r o) = omega arith
-
-row-column : (l line : List ℕ) (d : Due) {f : Refusal} → length line ≤ 80 → RowFault (rowDue d) line f → InLine l f
-row-column l line d short (RowFault.field n k h p w) =
-    let m = numbered w in
-    let b = due-begin d k h in
-    let t = room-most (fieldAt (rowDue d .fields) k .form) in
-    record {
-      from = omega arith;
-      byte = λ e. absurd (omega arith);
-      eighty = λ e. omega arith;
-      first = λ x y. omega (arith, m .room-one y);
-      opening = λ e. absurd (m .other e);
-    }
-row-column l line d short (RowFault.stray c p s) =
-    let i = stray-inside (s .here) in
-    record { from = s .here .some; byte = λ e. absurd (omega arith); eighty = λ e. omega arith; first = λ x y. absurd (omega arith); opening = λ e. absurd (omega arith) }
-row-column l line d short (RowFault.condition k p n b) =
-    let g = due-begin d k (breaks-inside line (rowDue d .fields) (b .here)) in
-    let t = room-most (fieldAt (rowDue d .fields) k .form) in
-    record { from = omega arith; byte = λ e. absurd (omega arith); eighty = λ e. omega arith; first = λ x y. absurd (omega arith); opening = λ e. absurd (omega arith) }
-
-place-column : (l line : List ℕ) {sets : ℕ} {p : Place} {f : Refusal} → length line ≤ 80 → PlaceFault sets line p f → InLine l f
-place-column l line short (outside b d) = first-column l 5 (λ e. omega arith)
-place-column l line short (many d h) = first-column l 15 (λ e. omega arith)
-place-column l line short (number n) = first-column l 6 (λ e. omega arith)
-place-column l line short (early d m) = first-column l 7 (λ e. omega arith)
-place-column l line short (late n m) = first-column l 8 (λ e. omega arith)
-place-column l line short (row {d} n m w) = row-column l line d short w
-
-own-column : (l : List ℕ) {f : Refusal} → LineFault true (columns true l) f → InLine l f
-own-column l (LineFault.byte b) =
-    let i = byte-inside b in
-    let w = columns-within true l in
-    record { from = i .0; byte = λ e. omega arith; eighty = λ e. absurd (e refl); first = λ x y. absurd (omega arith); opening = λ e. absurd (omega arith) }
-own-column l (LineFault.long a h) = first-column l 3 (λ e. omega arith)
-
--- where the column of a line's refusal lies
-pub fault-column : {s : State} {l : List ℕ} {f : Refusal} → Fault s l f → InLine l f
-fault-column {l = l} (own w) = own-column l w
-fault-column {l = l} (place a h w) = place-column l (filled (columns true l)) (omega (arith, filled-length (columns true l))) w

@@ -5,5 +5,6 @@ pub mod ListLaws
 pub mod RecordsLaws
 pub mod FollowsLaws
 pub mod Fault
-pub mod BeginsLaws
 pub mod FaultLaws
+pub mod BeginsLaws
+pub mod FaultColumnLaws
