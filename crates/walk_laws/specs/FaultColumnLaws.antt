@@ -1,8 +1,8 @@
 -- Where the column of a line's refusal lies.
 use mathlib.Core.Path.{_≡_, refl}
-use mathlib.Core.Bool.{true}
+use mathlib.Core.Bool.{Bool, true}
 use mathlib.Core.List.{List}
-use Prim.Native.Nat.{ℕ, _≤_}
+use Prim.Native.Nat.{ℕ, _+_, _≤_, _<_}
 use native.Mathlib.Omega.{arith}
 use lib.ListN.{length}
 use Rattle.line.specs.Line.{refusal, columns, filled}
@@ -13,7 +13,7 @@ use Rattle.walk.specs.Due.{rowDue}
 use Rattle.walk.specs.declared.Due.{Due}
 use Rattle.walk.specs.declared.Place.{Place}
 use Rattle.walk.specs.declared.State.{State}
-use Rattle.record_laws.specs.Fault.{fieldAt, FieldFault, text-blank, integer-blank, integer-malformed, out-of-range, against-rule, real-blank, real-malformed, RowFault}
+use Rattle.record_laws.specs.Fault.{fieldAt, leftOf, FieldFault, text-blank, integer-blank, integer-malformed, out-of-range, against-rule, real-blank, real-malformed, RowFault}
 use Rattle.record_laws.specs.StrayLaws.{stray-inside}
 use Rattle.record_laws.specs.BreaksLaws.{breaks-inside}
 use Rattle.line_laws.specs.Fault.{LineFault}
@@ -25,20 +25,9 @@ use Rattle.walk_laws.specs.Fault.{PlaceFault, outside, many, number, ear
 first-column : (l : List ℕ) (n : ℕ) → (n ≡ 2 → ⊥) → InLine l (refusal n 1)
 first-column l n h = record { from = omega arith; byte = λ e. absurd (h e); eighty = λ e. omega arith; first = λ a b. refl; opening = λ e. refl }
 
--- a refusal of a field is 9 or more and not 15; 9 is that of a text that may not be blank
-record Numbered (n : ℕ) (f : Form) : Type 0 where
-  nine : 9 ≤ n
-  other : n ≡ 15 → ⊥
-  room-one : n ≤ 9 → room f ≡ 1
-
-numbered : {line : List ℕ} {n : ℕ} {f : Form} {cols : List ℕ} → FieldFault line n f cols → Numbered n f
-numbered (text-blank b) = record { nine = omega arith; other = λ e. omega arith; room-one = λ h. refl }
-numbered (integer-blank b o) = record { nine = omega arith; other = λ e. omega arith; room-one = λ h. absurd (omega arith) }
-numbered (integer-malformed b s) = record { nine = omega arith; other = λ e. omega arith; room-one = λ h. absurd (omega arith) }
-numbered (out-of-range s h) = record { nine = omega arith; other = λ e. omega arith; room-one = λ h. absurd (omega arith) }
-numbered (against-rule s h k) = record { nine = omega arith; other = λ e. omega arith; room-one = λ h. absurd (omega arith) }
-numbered (real-blank b) = record { nine = omega arith; other = λ e. omega arith; room-one = λ h. absurd (omega arith) }
-numbered (real-malformed b s) = record { nine = omega arith; other = λ e. omega arith; room-one = λ h. absurd (omega arith) }
+-- any other refusal but 2, in one of the 80 columns
+other-column : (l : List ℕ) (n c : ℕ) → 9 < n → (n ≡ 15 → ⊥) → 1 ≤ c → c ≤ 80 → InLine l (refusal n c)
+other-column l n c h o f t = record { from = f; byte = λ e. absurd (omega arith); eighty = λ e. t; first = λ a b. absurd (omega arith); opening = λ e. absurd (o e) }
 
 -- no form has more room than the line
 room-most : (f : Form) → room f ≤ 80
@@ -48,25 +37,23 @@ room-most identification = omega arith
 room-most real = omega arith
 room-most (integer r o) = omega arith
 
+-- a field that begins after x columns, where it may
+field-column : (l : List ℕ) (x : ℕ) {line : List ℕ} {n : ℕ} {f : Form} {cols : List ℕ} → FieldFault line n f cols → x < room f → InLine l (refusal n (x + 1))
+field-column l x (text-blank b) h = let e : x + 1 ≡ 1 = omega arith in rw e (first-column l 9 (λ q. omega arith))
+field-column l x (integer-blank b o) h = other-column l _ (x + 1) (omega arith) (λ e. omega arith) (omega arith) (omega arith)
+field-column l x (integer-malformed b s) h = other-column l 10 (x + 1) (omega arith) (λ e. omega arith) (omega arith) (omega arith)
+field-column l x (out-of-range s g) h = other-column l 11 (x + 1) (omega arith) (λ e. omega arith) (omega arith) (omega arith)
+field-column l x (against-rule s g k) h = other-column l 11 (x + 1) (omega arith) (λ e. omega arith) (omega arith) (omega arith)
+field-column l x (real-blank b) h = other-column l _ (x + 1) (omega arith) (λ e. omega arith) (omega arith) (omega arith)
+field-column l x (real-malformed b s) h = other-column l 12 (x + 1) (omega arith) (λ e. omega arith) (omega arith) (omega arith)
+
 row-column : (l line : List ℕ) (d : Due) {f : Refusal} → length line ≤ 80 → RowFault (rowDue d) line f → InLine l f
-row-column l line d short (RowFault.field n k h p w) =
-    let m = numbered w in
-    let b = due-begin d k h in
-    let t = room-most (fieldAt (rowDue d .fields) k .form) in
-    record {
-      from = omega arith;
-      byte = λ e. absurd (omega arith);
-      eighty = λ e. omega arith;
-      first = λ x y. omega (arith, m .room-one y);
-      opening = λ e. absurd (m .other e);
-    }
-row-column l line d short (RowFault.stray c p s) =
-    let i = stray-inside (s .here) in
-    record { from = s .here .some; byte = λ e. absurd (omega arith); eighty = λ e. omega arith; first = λ x y. absurd (omega arith); opening = λ e. absurd (omega arith) }
+row-column l line d short (RowFault.field n k h p w) = field-column l (leftOf (rowDue d .fields) k) w (due-begin d k h)
+row-column l line d short (RowFault.stray c p s) = other-column l 13 c (omega arith) (λ e. omega arith) (s .here .some) (omega (arith, stray-inside (s .here)))
 row-column l line d short (RowFault.condition k p n b) =
     let g = due-begin d k (breaks-inside line (rowDue d .fields) (b .here)) in
     let t = room-most (fieldAt (rowDue d .fields) k .form) in
-    record { from = omega arith; byte = λ e. absurd (omega arith); eighty = λ e. omega arith; first = λ x y. absurd (omega arith); opening = λ e. absurd (omega arith) }
+    other-column l 14 (leftOf (rowDue d .fields) k + 1) (omega arith) (λ e. omega arith) (omega arith) (omega arith)
 
 place-column : (l line : List ℕ) {sets : ℕ} {p : Place} {f : Refusal} → length line ≤ 80 → PlaceFault sets line p f → InLine l f
 place-column l line short (outside b d) = first-column l 5 (λ e. omega arith)
@@ -76,14 +63,15 @@ place-column l line short (early d m) = first-column l 7 (λ e. omega arith)
 place-column l line short (late n m) = first-column l 8 (λ e. omega arith)
 place-column l line short (row {d} n m w) = row-column l line d short w
 
-own-column : (l : List ℕ) {f : Refusal} → LineFault true (columns true l) f → InLine l f
-own-column l (LineFault.byte b) =
+-- a line's own refusal, whether it has its LF or not
+pub own-column : (l : List ℕ) {ended : Bool} {cs : List ℕ} {f : Refusal} → length cs ≤ length l → LineFault ended cs f → InLine l f
+own-column l h (LineFault.byte b) =
     let i = byte-inside b in
-    let w = columns-within true l in
     record { from = i .0; byte = λ e. omega arith; eighty = λ e. absurd (e refl); first = λ x y. absurd (omega arith); opening = λ e. absurd (omega arith) }
-own-column l (LineFault.long a h) = first-column l 3 (λ e. omega arith)
+own-column l h (LineFault.long a g) = first-column l 3 (λ e. omega arith)
+own-column l h (LineFault.unended a g) = first-column l 4 (λ e. omega arith)
 
 -- where the column of a line's refusal lies
 pub fault-column : {s : State} {l : List ℕ} {f : Refusal} → Fault s l f → InLine l f
-fault-column {l = l} (own w) = own-column l w
+fault-column {l = l} (own w) = own-column l (columns-within true l) w
 fault-column {l = l} (place a h w) = place-column l (filled (columns true l)) (omega (arith, filled-length (columns true l))) w

@@ -1,4 +1,4 @@
--- A line is refused for what is wrong with it and for nothing else; its column.
+-- A line is refused for what is wrong with it, and for nothing else.
 use mathlib.Core.Path.{_≡_, refl, sym, ap, _∙_}
 use mathlib.Core.Logic.{⊎-elim}
 use mathlib.Core.Bool.{Bool, true, false}
