@@ -8,3 +8,5 @@ pub mod Fault
 pub mod FaultLaws
 pub mod BeginsLaws
 pub mod FaultColumnLaws
+pub mod FileFault
+pub mod FileFaultLaws
