@@ -1,14 +1,16 @@
 -- A file is refused for what is wrong with its earliest bad line.
-use mathlib.Core.Path.{_≡_, refl}
+use mathlib.Core.Path.{_≡_, refl, ap, _∙_}
 use mathlib.Core.Bool.{Bool, true, false}
 use mathlib.Core.List.{List, [], _∷_}
-use Prim.Native.Nat.{ℕ, suc, _+_, _<_}
+use Prim.Native.Nat.{ℕ, suc, _+_, _≤_, _<_}
 use native.Mathlib.Nat.{add-zero, zero-add}
 use native.Mathlib.Omega.{arith}
+use borrow.Author.Tests.{le-ltb}
 use lib.Dec.{ltb, eqb}
-use lib.ListN.{length, take, drop}
+use lib.ListN.{length, take, drop, take-append-drop, length-drop, length-take}
 use Rattle.laws.specs.Choice.{pick}
 use Rattle.laws.specs.Cut.{cut, over, judge}
+use Rattle.laws.specs.CutLaws.{over-append}
 use Rattle.line.specs.Line.{refusal, firstBad, lineFault}
 use Rattle.line.specs.declared.Refusal.{Refusal}
 use Rattle.walk.specs.Step.{start}
@@ -20,10 +22,10 @@ use Rattle.walk.specs.declared.Outcome.the-variants.{Next, Refused}
 use Rattle.judge.specs.Judge.{reply, lineStep, Run, going, refused, onOutcome, runStep, atEnd, runEnd, judged}
 use Rattle.judge.specs.JudgeLaws.{over-refused}
 use Rattle.line_laws.specs.Fault.{LineFault}
-use Rattle.line_laws.specs.FaultLaws.{lineFault-fault}
+use Rattle.line_laws.specs.FaultLaws.{lineFault-fault, lineFault-only}
 use Rattle.walk_laws.specs.Fault.{Fault}
-use Rattle.walk_laws.specs.FaultLaws.{refused-fault}
-use Rattle.walk_laws.specs.FileFault.{Taken, none, more, line, unended, inside, lineReply, Judged, accepted, too-long, no-set, at-line}
+use Rattle.walk_laws.specs.FaultLaws.{refused-fault, fault-refused}
+use Rattle.walk_laws.specs.FileFault.{Taken, none, more, FileFault, line, unended, inside, lineReply, Judged, accepted, too-long, no-set, at-line}
 
 -- a run over lines, after k others: it goes through, or stops at a line with something wrong
 data Ran (s : State) (k : ℕ) (ls : List (List ℕ)) : Run → Type 0 where
@@ -92,3 +94,42 @@ judged-fault bytes = by (ltb 16777216 (length bytes))
     by : (t : Bool) → Judged bytes (pick t (reply 1 0) (runEnd (over runStep (going start 0) (cut bytes .lines)) (cut bytes .rest)))
     by true = too-long
     by false = run-judged bytes (ran start 0 (cut bytes .lines))
+
+-- The other way: a file with something wrong is refused for it.
+
+taken-run : {s t : State} {ls : List (List ℕ)} (k : ℕ) → Taken s ls t → over runStep (going s k) ls ≡ going t (k + length ls)
+unfolding over
+taken-run k none = rw (add-zero k) refl
+taken-run k (more {ls = ls} e t) =
+    let m : k + suc (length ls) ≡ k + 1 + length ls = omega arith in
+    rw (e, m) (taken-run (k + 1) t)
+
+module _ (bytes : List ℕ) where
+  -- the run over the lines before the one that is refused, and over all
+  stopped-run : {s : State} {f : Refusal} (k : ℕ) (l : List ℕ) (ls : List (List ℕ)) → Taken start (take k (cut bytes .lines)) s → drop k (cut bytes .lines) ≡ l ∷ ls
+      → lineStep s l ≡ Refused f → over runStep (going start 0) (cut bytes .lines) ≡ refused (lineReply k f)
+  unfolding over
+  stopped-run {s} {f} k l ls t q e =
+      let n : 0 + length (take k (cut bytes .lines)) ≡ k = omega (arith, length-take k (cut bytes .lines), length-drop k (cut bytes .lines), ap length q) in
+      rw (← (take-append-drop k (cut bytes .lines)), over-append runStep) (rw (taken-run 0 t, n, q, e) (over-refused (lineReply k f) ls))
+
+  all-run : {s : State} → Taken start (cut bytes .lines) s → over runStep (going start 0) (cut bytes .lines) ≡ going s (length (cut bytes .lines))
+  all-run {s} t = taken-run 0 t ∙ ap (going s) (zero-add (length (cut bytes .lines)))
+
+  -- the file's end
+  end-unended : (s : State) (n : ℕ) (rest : List ℕ) {f : Refusal} → 0 < length rest → lineFault false rest ≡ f → runEnd (going s n) rest ≡ lineReply n f
+  end-unended s n [] h e = absurd (omega arith)
+  end-unended s n (b ∷ bs) h e = rw e refl
+
+  end-inside : (p : Place) (sets n : ℕ) → (p ≡ Outside → ⊥) → atEnd p sets n ≡ lineReply n (refusal 7 1)
+  end-inside Outside sets n h = absurd (h refl)
+  end-inside Number sets n h = refl
+  end-inside Plain sets n h = refl
+  end-inside (Typed d) sets n h = refl
+
+  pub fault-judged : {k : ℕ} {f : Refusal} → length bytes ≤ 16777216 → FileFault bytes k f → judged bytes ≡ lineReply k f
+  unfolding judged judge
+  fault-judged h (line {s} k l ls t q w) = rw (le-ltb 16777216 (length bytes) h, stopped-run k l ls t q (fault-refused s l w)) refl
+  fault-judged h (unended {s} t p w) =
+      rw (le-ltb 16777216 (length bytes) h, all-run t) (end-unended s (length (cut bytes .lines)) (cut bytes .rest) p (lineFault-only w))
+  fault-judged h (inside {s} t e o) = rw (le-ltb 16777216 (length bytes) h, all-run t, e) (end-inside (s .place) (s .sets) (length (cut bytes .lines)) o)
