@@ -144,9 +144,12 @@ module _ (line : List ℕ) where
     past-empty : (k : ℕ) → length fs ≤ k → ownColumns line fs k ≡ []
     past-empty k h = rw (List·getD-eq-default fs (X 0) h) refl
 
+    real-inside : {m : Bool} {c k : ℕ} {s : ℤ} → RealSpelling m c s (ownColumns line fs k) → k < length fs
+    real-inside {k = k} r = ⊎-elim (λ h. h) (λ (h : length fs ≤ k). absurd (no-columns (rw (past-empty k h) at r))) (below-or-not k (length fs))
+
     pub breaks-inside : {c : Condition} {k : ℕ} → Breaks line fs c k → k < length fs
-    breaks-inside (uneven {k} i f t r n) = ⊎-elim (λ h. h) (λ (h : length fs ≤ k). absurd (no-columns (rw (past-empty k h) at r))) (below-or-not k (length fs))
-    breaks-inside (factor {k} r b) = ⊎-elim (λ h. h) (λ (h : length fs ≤ k). absurd (no-columns (rw (past-empty k h) at r))) (below-or-not k (length fs))
+    breaks-inside (uneven i f t r n) = real-inside r
+    breaks-inside (factor r b) = real-inside r
 
     factor-above : (k : ℕ) → isAboveZero (realItem (realOf (ownColumns line fs k))) ≡ true → Breaks line fs aboveZero k → ⊥
     factor-above k z (factor r b) = is-above r z b

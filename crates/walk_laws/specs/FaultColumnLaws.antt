@@ -1,10 +1,11 @@
--- Where the column of a line's refusal lies.
-use mathlib.Core.Path.{_≡_, refl}
+-- Where the column of a refusal lies.
+use mathlib.Core.Path.{_≡_, refl, ap}
 use mathlib.Core.Bool.{Bool, true}
-use mathlib.Core.List.{List}
-use Prim.Native.Nat.{ℕ, _+_, _≤_, _<_}
+use mathlib.Core.List.{List, [], _∷_}
+use Prim.Native.Nat.{ℕ, zero, suc, _+_, _≤_, _<_}
 use native.Mathlib.Omega.{arith}
-use lib.ListN.{length}
+use lib.ListN.{length, drop, length-append, length-drop}
+use Rattle.laws.specs.Cut.{cut}
 use Rattle.line.specs.Line.{refusal, columns, filled}
 use Rattle.line.specs.LineLaws.{filled-length, columns-within}
 use Rattle.line.specs.declared.Refusal.{Refusal}
@@ -16,10 +17,13 @@ use Rattle.walk.specs.declared.State.{State}
 use Rattle.record_laws.specs.Fault.{fieldAt, leftOf, FieldFault, text-blank, integer-blank, integer-malformed, out-of-range, against-rule, real-blank, real-malformed, RowFault}
 use Rattle.record_laws.specs.StrayLaws.{stray-inside}
 use Rattle.record_laws.specs.BreaksLaws.{breaks-inside}
+use Rattle.line_laws.specs.Ends.{joined}
+use Rattle.line_laws.specs.EndsLaws.{cut-joined}
 use Rattle.line_laws.specs.Fault.{LineFault}
 use Rattle.line_laws.specs.FaultLaws.{byte-inside}
 use Rattle.walk_laws.specs.BeginsLaws.{room, due-begin}
 use Rattle.walk_laws.specs.Fault.{PlaceFault, outside, many, number, early, late, row, Fault, own, place, InLine}
+use Rattle.walk_laws.specs.FileFault.{FileFault}
 
 -- a refusal in column 1
 first-column : (l : List ℕ) (n : ℕ) → (n ≡ 2 → ⊥) → InLine l (refusal n 1)
@@ -75,3 +79,24 @@ own-column l h (LineFault.unended a g) = first-column l 4 (λ e. omega arith)
 pub fault-column : {s : State} {l : List ℕ} {f : Refusal} → Fault s l f → InLine l f
 fault-column {l = l} (own w) = own-column l (columns-within true l) w
 fault-column {l = l} (place a h w) = place-column l (filled (columns true l)) (omega (arith, filled-length (columns true l))) w
+
+-- The same of a file's refusal: no line is longer than the file.
+
+rest-most : (ls : List (List ℕ)) (r : List ℕ) → length r ≤ length (joined ls r)
+unfolding joined
+rest-most [] r = omega arith
+rest-most (l ∷ ls) r = omega (arith, rest-most ls r, length-append l (10 ∷ joined ls r))
+
+line-most : (k : ℕ) (ls : List (List ℕ)) (r l : List ℕ) (rest : List (List ℕ)) → drop k ls ≡ l ∷ rest → length l ≤ length (joined ls r)
+unfolding joined
+line-most k [] r l rest e = absurd (omega (arith, ap length e, length-drop {A = List ℕ} k []))
+line-most zero (x ∷ ls) r l rest e = omega (arith, length-append x (10 ∷ joined ls r), ap length (let q : x ≡ l = cc in q))
+line-most (suc k) (x ∷ ls) r l rest e = omega (arith, line-most k ls r l rest e, length-append x (10 ∷ joined ls r))
+
+wider : {l m : List ℕ} {f : Refusal} → length l ≤ length m → InLine l f → InLine m f
+wider h i = record { from = i .from; byte = λ e. omega (arith, i .byte e); eighty = i .eighty; first = i .first; opening = i .opening }
+
+pub file-column : {bytes : List ℕ} {k : ℕ} {f : Refusal} → FileFault bytes k f → InLine bytes f
+file-column {bytes} (FileFault.line k l ls t q w) = wider (rw (cut-joined bytes) at (line-most k (cut bytes .lines) (cut bytes .rest) l ls q)) (fault-column w)
+file-column {bytes} (FileFault.unended t h w) = own-column bytes (rw (cut-joined bytes) at (rest-most (cut bytes .lines) (cut bytes .rest))) w
+file-column {bytes} (FileFault.inside t e o) = first-column bytes 7 (λ e. omega arith)

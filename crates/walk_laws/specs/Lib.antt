@@ -6,7 +6,7 @@ pub mod RecordsLaws
 pub mod FollowsLaws
 pub mod Fault
 pub mod FaultLaws
-pub mod BeginsLaws
-pub mod FaultColumnLaws
 pub mod FileFault
 pub mod FileFaultLaws
+pub mod BeginsLaws
+pub mod FaultColumnLaws
