@@ -133,7 +133,7 @@ pub record Running (c : Stream) (m r : ℕ) : Type 0 where
 
 -- the open line judged when its LF comes, after n others
 pub record OpenJudged (s : State) (n : ℕ) (l : List ℕ) (r : Lines) : Type 0 where
-  pub run : runOf (r .state) (r .lines) (r .number) ≡ onOutcome n (lineStep s l)
+  pub run : runOf (r .state) (r .lines) (r .number) 0 ≡ onOutcome n (lineStep s l)
   pub few : r .lines ≤ n + 1
 
 -- bytes with no LF among them

@@ -21,7 +21,7 @@ use Rattle.walk.specs.Step.{state, start}
 use Rattle.judge.specs.Judge.{reply, lineStep, Run, going, refused, onOutcome, runStep}
 use Rattle.judge.specs.declared.Reply.{Reply}
 use Rattle.judge.specs.declared.Lines.{Lines}
-use Rattle.judge.specs.Lines.{LinesJudged}
+use Rattle.judge.specs.Lines.{runOf, LinesJudged}
 use Rattle.judge.specs.JudgeLaws.{over-refused}
 use Rattle.judge.specs.Refusal.{LineNumber}
 use Rattle.judge.specs.LinesLaws.{one-run, one-more, outcome-number, judged-number}
@@ -249,7 +249,7 @@ module _ (s : State) (n : ℕ) (b : List ℕ) (at total : ℕ) (within : at ≤ 
   unfolding judgedOn
   lines-refused p z =
       made-refused (r .state) (r .lines) total p 0 limit (omega (arith, j .few)) (r .number) (judged-number s n b at r j z) ∙
-      rw (← j .run, ne-eqb (r .number) 0 (λ e. omega arith)) refl
+      rw (← j .run, ne-eqb (r .number) 0 (λ e. omega arith), j .bare) refl
 
   pub lines-going : (p : List ℕ) (h : ℕ) → r .number ≤ 0 → h ≤ 82 → take h p ≡ squeezed (drop (r .at) b) → seen (made (r .state) (r .lines) 0 total p h) ≡ judgedOn s n (drop at b) total
   unfolding judgedOn
@@ -303,7 +303,7 @@ module _ (l m : List ℕ) (n : ℕ) (room : n < length m) (same : take n m ≡ t
   pub open-judged : (s : State) (k : ℕ) (r : Lines) → length l ≤ n → length l ≤ lineLen l → LinesJudged s k (take (n + 1) (set m n 10)) 0 r → OpenJudged s k l r
   open-judged s k r h o j =
       let j′ : LinesJudged s k (l ++ (10 ∷ [])) 0 r = rw (copied-end h) at j in
-      record { run = one-run s k l o r j′; few = one-more s k l o r j′ }
+      record { run = ap (runOf (r .state) (r .lines) (r .number)) (sym (j′ .bare)) ∙ one-run s k l o r j′; few = one-more s k l o r j′ }
 
 -- the step of a record, by what it says
 module _ (c : Stream) (b : List ℕ) where

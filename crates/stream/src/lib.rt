@@ -262,25 +262,13 @@ pub fn answer_of(c: Stream) -> Answer
     ensures { λ r. ⌜ r ≡ answerOf (c .ended) (seen c) ⌝ }
 {
     if c.ended {
-        return Answer::Refused(Reply {
-            number: 23,
-            place: 0,
-            column: 0,
-        });
+        return Answer::Refused(judge::bare_reply(23, 0));
     }
     if is_past(c) {
-        return Answer::Refused(Reply {
-            number: 1,
-            place: 0,
-            column: 0,
-        });
+        return Answer::Refused(judge::bare_reply(1, 0));
     }
     if 0 < c.number {
-        return Answer::Refused(Reply {
-            number: c.number,
-            place: c.lines + 1,
-            column: 0,
-        });
+        return Answer::Refused(judge::bare_reply(c.number, c.lines + 1));
     }
     Answer::SoFar(c.lines)
 }
@@ -307,18 +295,10 @@ pub fn reply(c: Stream) -> Reply
     ensures { λ r. ⌜ r ≡ endReply (seen c) ⌝ }
 {
     if is_past(c) {
-        return Reply {
-            number: 1,
-            place: 0,
-            column: 0,
-        };
+        return judge::bare_reply(1, 0);
     }
     if 0 < c.number {
-        return Reply {
-            number: c.number,
-            place: c.lines + 1,
-            column: 0,
-        };
+        return judge::bare_reply(c.number, c.lines + 1);
     }
     let line = c.pending;
     let n = open_len(c);

@@ -14,19 +14,27 @@ use Rattle.stream.proofs.reply.Tie as tie
 is-past-requires : tie.Need-is-past-requires
 is-past-requires c κs = search needs
 
-returns : tie.Need-returns
-returns c = rw (seen-past (c .before .before .args .c) (sym (c .before .is-past .ensures) ∙ c .if1 .taken)) refl
+bare-reply-requires : tie.Need-bare-reply-requires
+bare-reply-requires c κs = search needs
 
-add-t6 : tie.Need-add-t6
-add-t6 c =
+returns : tie.Need-returns
+returns c =
+    let at-if1 = c .before in
+    rw (c .bare-reply .ensures, seen-past (at-if1 .before .before .args .c) (sym (at-if1 .before .is-past .ensures) ∙ at-if1 .if1 .taken)) refl
+
+add-bare-reply : tie.Need-add-bare-reply
+add-bare-reply c =
     let at-is-past = c .before .before .before .before in
     omega (arith, past-not _ (sym (at-is-past .is-past .ensures) ∙ c .before .before .before .if1 .left))
 
+bare-reply-requires-2 : tie.Need-bare-reply-requires-2
+bare-reply-requires-2 c κs = search needs
+
 returns-2 : tie.Need-returns-2
 returns-2 c =
-    let at-is-past = c .before .before .before .before in
-    let at-start = at-is-past .before in
-    rw (seen-refused (at-start .args .c) (sym (at-is-past .is-past .ensures) ∙ c .before .before .before .if1 .left) (c .before .if2 .taken)) refl
+    let at-if2 = c .before .before in
+    let at-if1 = at-if2 .before .before in
+    rw (c .bare-reply2 .ensures, seen-refused (at-if1 .before .before .args .c) (sym (at-if1 .before .is-past .ensures) ∙ at-if1 .if1 .left) (at-if2 .if2 .taken)) refl
 
 open-len-requires : tie.Need-open-len-requires
 open-len-requires c κs = search needs
@@ -63,8 +71,10 @@ reply-spec =
     tie.close
     (tie.spec
     is-past-requires
+    bare-reply-requires
     returns
-    add-t6
+    add-bare-reply
+    bare-reply-requires-2
     returns-2
     open-len-requires
     array-share-prefix-line
