@@ -37,13 +37,6 @@ pub record First (P : ℕ → Type 0) (k : ℕ) : Type 0 where
   pub here : P k
   pub before : (j : ℕ) → j < k → P j → ⊥
 
--- the numbers of a blank integer and a blank real
-abbrev pub blankInteger : ℕ
-blankInteger = 10
-
-abbrev pub blankReal : ℕ
-blankReal = 12
-
 module _ (line : List ℕ) where
   -- an integer may not be left blank: nowhere, or not on this line, as the columns named are not all blank
   pub data Required : Optional → Type 0 where
@@ -54,16 +47,16 @@ module _ (line : List ℕ) where
   pub data FieldFault : ℕ → Form → List ℕ → Type 0 where
     -- "blank text where text must stand"
     text-blank : {cols : List ℕ} → Blanks cols → FieldFault 9 identification cols
-    -- "integer field blank"; "malformed": neither blank nor an integer's spelling
-    integer-blank : {r : Rule} {o : Optional} {cols : List ℕ} → Blanks cols → Required o → FieldFault blankInteger (integer r o) cols
+    -- 02, C-14: "integer field blank"; "malformed": neither blank nor an integer's spelling
+    integer-blank : {r : Rule} {o : Optional} {cols : List ℕ} → Blanks cols → Required o → FieldFault 24 (integer r o) cols
     integer-malformed : {r : Rule} {o : Optional} {cols : List ℕ}
         → (Blanks cols → ⊥) → ((n : Bool) (v : ℕ) → IntegerSpelling n v cols → ⊥) → FieldFault 10 (integer r o) cols
     -- "integer out of range or code not listed"
     out-of-range : {r : Rule} {o : Optional} {n : Bool} {v : ℕ} {cols : List ℕ} → IntegerSpelling n v cols → limit n < v → FieldFault 11 (integer r o) cols
     against-rule : {r : Rule} {o : Optional} {n : Bool} {v : ℕ} {cols : List ℕ}
         → IntegerSpelling n v cols → v ≤ limit n → keeps r (signed n v) ≡ false → FieldFault 11 (integer r o) cols
-    -- "real field blank"; "malformed"
-    real-blank : {cols : List ℕ} → Blanks cols → FieldFault blankReal real cols
+    -- 02, C-14: "real field blank"; "malformed"
+    real-blank : {cols : List ℕ} → Blanks cols → FieldFault 25 real cols
     real-malformed : {cols : List ℕ} → (Blanks cols → ⊥) → ((n : Bool) (c : ℕ) (s : ℤ) → RealSpelling n c s cols → ⊥) → FieldFault 12 real cols
 
   -- the columns of a field with which nothing is wrong

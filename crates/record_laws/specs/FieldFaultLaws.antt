@@ -30,7 +30,7 @@ use Rattle.field.specs.Field.{columnsOf, blankIn, mayBlank, integerNumber, real
 use Rattle.record_table.specs.Row.{Field}
 use Rattle.record.specs.Check.{orElse, fieldsFault}
 use Rattle.record.specs.CheckLaws.{orElse-here}
-use Rattle.record_laws.specs.Fault.{fieldAt, leftOf, blankInteger, Required, always, mixed, Passes, skipped, a-text, an-identification, an-integer, left-blank, a-real}
+use Rattle.record_laws.specs.Fault.{fieldAt, leftOf, Required, always, mixed, Passes, skipped, a-text, an-identification, an-integer, left-blank, a-real}
 use Rattle.record_laws.specs.Fault.{FieldFault, text-blank, integer-blank, integer-malformed, out-of-range, against-rule, real-blank, real-malformed}
 
 -- columns that the test finds not blank are not blanks
@@ -70,7 +70,7 @@ module _ (line : List ℕ) where
   looked-real cols R.Malformed e = let m = realOf-malformed cols e in wrong (real-malformed (m .0) (m .1))
   looked-real cols (R.Value v) e = right (a-real (realOf-sound cols v e .0))
 
-  looked-blank : (r : Rule) (o : Optional) (cols : List ℕ) (t : Bool) → blankIn o line ≡ t → Blanks cols → Looked (integer r o) cols (pick t 0 blankInteger)
+  looked-blank : (r : Rule) (o : Optional) (cols : List ℕ) (t : Bool) → blankIn o line ≡ t → Blanks cols → Looked (integer r o) cols (pick t 0 24)
   looked-blank r never cols true e b = false-not-true e
   looked-blank r never cols false e b = wrong (integer-blank b always)
   looked-blank r (within a p) cols true e b = right (left-blank b (allBlank-sound (columnsOf a p line) e))

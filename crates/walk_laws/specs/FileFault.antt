@@ -3,7 +3,7 @@
 use mathlib.Core.Path.{_≡_}
 use mathlib.Core.Bool.{false}
 use mathlib.Core.List.{List, [], _∷_}
-use Prim.Native.Nat.{ℕ, _+_, _<_}
+use Prim.Native.Nat.{ℕ, _<_}
 use lib.ListN.{length, take, drop}
 use Rattle.laws.specs.Cut.{cut}
 use Rattle.line.specs.Line.{refusal}
@@ -13,7 +13,7 @@ use Rattle.walk.specs.declared.Place.the-variants.{Outside}
 use Rattle.walk.specs.declared.State.{State}
 use Rattle.walk.specs.declared.Outcome.the-variants.{Next}
 use Rattle.judge.specs.declared.Reply.{Reply}
-use Rattle.judge.specs.Judge.{reply, lineStep}
+use Rattle.judge.specs.Judge.{reply, lineStep, atLine}
 use Rattle.line_laws.specs.Fault.{LineFault}
 use Rattle.walk_laws.specs.Fault.{Fault}
 
@@ -33,14 +33,10 @@ pub data FileFault (bytes : List ℕ) : ℕ → Refusal → Type 0 where
   -- "file ends inside a set"
   inside : {s : State} → Taken start (cut bytes .lines) s → cut bytes .rest ≡ [] → (s .place ≡ Outside → ⊥) → FileFault bytes (length (cut bytes .lines)) (refusal 7 1)
 
--- the reply to a line that is refused, after k others
-abbrev pub lineReply : ℕ → Refusal → Reply
-lineReply k f = reply (f .number) (k + 1)
-
 -- the judge's replies: accepted, the two that name no line, and the refusal of a line
 pub data Judged (bytes : List ℕ) : Reply → Type 0 where
   accepted : (n : ℕ) → Judged bytes (reply 0 n)
   -- "file too long", "no set in the file and no bad line"
   too-long : Judged bytes (reply 1 0)
   no-set : Judged bytes (reply 16 0)
-  at-line : {k : ℕ} {f : Refusal} → FileFault bytes k f → Judged bytes (lineReply k f)
+  at-line : {k : ℕ} {f : Refusal} → FileFault bytes k f → Judged bytes (atLine k f)

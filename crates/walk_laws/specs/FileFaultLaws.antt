@@ -19,19 +19,19 @@ use Rattle.walk.specs.declared.Place.the-variants.{Outside, Number, Plain, Type
 use Rattle.walk.specs.declared.State.{State}
 use Rattle.walk.specs.declared.Outcome.{Outcome}
 use Rattle.walk.specs.declared.Outcome.the-variants.{Next, Refused}
-use Rattle.judge.specs.Judge.{reply, lineStep, Run, going, refused, onOutcome, runStep, atEnd, runEnd, judged}
+use Rattle.judge.specs.Judge.{reply, atLine, lineStep, Run, going, refused, onOutcome, runStep, atEnd, runEnd, judged}
 use Rattle.judge.specs.JudgeLaws.{over-refused}
 use Rattle.line_laws.specs.Fault.{LineFault}
 use Rattle.line_laws.specs.FaultLaws.{lineFault-fault, lineFault-only}
 use Rattle.walk_laws.specs.Fault.{Fault}
 use Rattle.walk_laws.specs.FaultLaws.{refused-fault, fault-refused}
-use Rattle.walk_laws.specs.FileFault.{Taken, none, more, FileFault, line, unended, inside, lineReply, Judged, accepted, too-long, no-set, at-line}
+use Rattle.walk_laws.specs.FileFault.{Taken, none, more, FileFault, line, unended, inside, Judged, accepted, too-long, no-set, at-line}
 
 -- a run over lines, after k others: it goes through, or stops at a line with something wrong
 data Ran (s : State) (k : ℕ) (ls : List (List ℕ)) : Run → Type 0 where
   through : {t : State} → Taken s ls t → Ran s k ls (going t (k + length ls))
   stopped : {t : State} {f : Refusal} (j : ℕ) (l : List ℕ) (rest : List (List ℕ)) → Taken s (take j ls) t → drop j ls ≡ l ∷ rest → Fault t l f
-      → Ran s k ls (refused (lineReply (k + j) f))
+      → Ran s k ls (refused (atLine (k + j) f))
 
 ran-next : {s t : State} {k : ℕ} {l : List ℕ} {ls : List (List ℕ)} {r : Run} → lineStep s l ≡ Next t → Ran t (k + 1) ls r → Ran s k (l ∷ ls) r
 ran-next {s} {t} {k} {l} {ls} e (through {t = u} p) =
@@ -40,7 +40,7 @@ ran-next {s} {t} {k} {l} {ls} e (through {t = u} p) =
     rw m at here
 ran-next {s} {t} {k} {l} {ls} e (stopped {f = f} j x rest p q w) =
     let m : k + suc j ≡ k + 1 + j = omega arith in
-    let here : Ran s k (l ∷ ls) (refused (lineReply (k + suc j) f)) = stopped (suc j) x rest (more e p) q w in
+    let here : Ran s k (l ∷ ls) (refused (atLine (k + suc j) f)) = stopped (suc j) x rest (more e p) q w in
     rw m at here
 
 ran : (s : State) (k : ℕ) (ls : List (List ℕ)) → Ran s k ls (over runStep (going s k) ls)
@@ -51,8 +51,8 @@ ran s k (l ∷ ls) = by (lineStep s l) refl (λ t. ran t (k + 1) ls)
     by : (o : Outcome) → lineStep s l ≡ o → ((t : State) → Ran t (k + 1) ls (over runStep (going t (k + 1)) ls)) → Ran s k (l ∷ ls) (over runStep (onOutcome k o) ls)
     by (Next t) e r = ran-next e (r t)
     by (Refused f) e r =
-        let here : Ran s k (l ∷ ls) (refused (lineReply (k + 0) f)) = stopped 0 l ls none refl (refused-fault s l f e) in
-        rw (over-refused (lineReply k f) ls) (rw (add-zero k) at here)
+        let here : Ran s k (l ∷ ls) (refused (atLine (k + 0) f)) = stopped 0 l ls none refl (refused-fault s l f e) in
+        rw (over-refused (atLine k f) ls) (rw (add-zero k) at here)
 
 -- bytes without an LF are always refused
 unended-some : (cs : List ℕ) → 0 < lineFault false cs .number
@@ -107,27 +107,27 @@ taken-run k (more {ls = ls} e t) =
 module _ (bytes : List ℕ) where
   -- the run over the lines before the one that is refused, and over all
   stopped-run : {s : State} {f : Refusal} (k : ℕ) (l : List ℕ) (ls : List (List ℕ)) → Taken start (take k (cut bytes .lines)) s → drop k (cut bytes .lines) ≡ l ∷ ls
-      → lineStep s l ≡ Refused f → over runStep (going start 0) (cut bytes .lines) ≡ refused (lineReply k f)
+      → lineStep s l ≡ Refused f → over runStep (going start 0) (cut bytes .lines) ≡ refused (atLine k f)
   unfolding over
   stopped-run {s} {f} k l ls t q e =
       let n : 0 + length (take k (cut bytes .lines)) ≡ k = omega (arith, length-take k (cut bytes .lines), length-drop k (cut bytes .lines), ap length q) in
-      rw (← (take-append-drop k (cut bytes .lines)), over-append runStep) (rw (taken-run 0 t, n, q, e) (over-refused (lineReply k f) ls))
+      rw (← (take-append-drop k (cut bytes .lines)), over-append runStep) (rw (taken-run 0 t, n, q, e) (over-refused (atLine k f) ls))
 
   all-run : {s : State} → Taken start (cut bytes .lines) s → over runStep (going start 0) (cut bytes .lines) ≡ going s (length (cut bytes .lines))
   all-run {s} t = taken-run 0 t ∙ ap (going s) (zero-add (length (cut bytes .lines)))
 
   -- the file's end
-  end-unended : (s : State) (n : ℕ) (rest : List ℕ) {f : Refusal} → 0 < length rest → lineFault false rest ≡ f → runEnd (going s n) rest ≡ lineReply n f
+  end-unended : (s : State) (n : ℕ) (rest : List ℕ) {f : Refusal} → 0 < length rest → lineFault false rest ≡ f → runEnd (going s n) rest ≡ atLine n f
   end-unended s n [] h e = absurd (omega arith)
   end-unended s n (b ∷ bs) h e = rw e refl
 
-  end-inside : (p : Place) (sets n : ℕ) → (p ≡ Outside → ⊥) → atEnd p sets n ≡ lineReply n (refusal 7 1)
+  end-inside : (p : Place) (sets n : ℕ) → (p ≡ Outside → ⊥) → atEnd p sets n ≡ atLine n (refusal 7 1)
   end-inside Outside sets n h = absurd (h refl)
   end-inside Number sets n h = refl
   end-inside Plain sets n h = refl
   end-inside (Typed d) sets n h = refl
 
-  pub fault-judged : {k : ℕ} {f : Refusal} → length bytes ≤ 16777216 → FileFault bytes k f → judged bytes ≡ lineReply k f
+  pub fault-judged : {k : ℕ} {f : Refusal} → length bytes ≤ 16777216 → FileFault bytes k f → judged bytes ≡ atLine k f
   unfolding judged judge
   fault-judged h (line {s} k l ls t q w) = rw (le-ltb 16777216 (length bytes) h, stopped-run k l ls t q (fault-refused s l w)) refl
   fault-judged h (unended {s} t p w) =
