@@ -33,10 +33,9 @@ pub data FileFault (bytes : List ℕ) : ℕ → Refusal → Type 0 where
   -- "file ends inside a set"
   inside : {s : State} → Taken start (cut bytes .lines) s → cut bytes .rest ≡ [] → (s .place ≡ Outside → ⊥) → FileFault bytes (length (cut bytes .lines)) (refusal 7 1)
 
--- the judge's replies: accepted, the two that name no line, and the refusal of a line
+-- the judge's replies to a file that is not too long: accepted, the refusal that names no line, and the refusal of a line
 pub data Judged (bytes : List ℕ) : Reply → Type 0 where
-  accepted : (n : ℕ) → Judged bytes (reply 0 n)
-  -- "file too long", "no set in the file and no bad line"
-  too-long : Judged bytes (reply 1 0)
+  accepted : Judged bytes (reply 0 (length (cut bytes .lines)))
+  -- "no set in the file and no bad line"
   no-set : Judged bytes (reply 16 0)
   at-line : {k : ℕ} {f : Refusal} → FileFault bytes k f → Judged bytes (atLine k f)

@@ -5,7 +5,7 @@ use mathlib.Core.List.{List, [], _∷_}
 use Prim.Native.Nat.{ℕ, suc, _+_, _≤_, _<_}
 use native.Mathlib.Nat.{add-zero, zero-add}
 use native.Mathlib.Omega.{arith}
-use borrow.Author.Tests.{le-ltb}
+use borrow.Author.Tests.{lt-ltb, le-ltb}
 use lib.Dec.{ltb, eqb}
 use lib.ListN.{length, take, drop, take-append-drop, length-drop, length-take}
 use Rattle.laws.specs.Choice.{pick}
@@ -25,7 +25,7 @@ use Rattle.line_laws.specs.Fault.{LineFault}
 use Rattle.line_laws.specs.FaultLaws.{lineFault-fault, lineFault-only}
 use Rattle.walk_laws.specs.Fault.{Fault}
 use Rattle.walk_laws.specs.FaultLaws.{refused-fault, fault-refused}
-use Rattle.walk_laws.specs.FileFault.{Taken, none, more, FileFault, line, unended, inside, Judged, accepted, too-long, no-set, at-line}
+use Rattle.walk_laws.specs.FileFault.{Taken, none, more, FileFault, line, unended, inside, Judged, accepted, no-set, at-line}
 
 -- a run over lines, after k others: it goes through, or stops at a line with something wrong
 data Ran (s : State) (k : ℕ) (ls : List (List ℕ)) : Run → Type 0 where
@@ -55,7 +55,7 @@ ran s k (l ∷ ls) = by (lineStep s l) refl (λ t. ran t (k + 1) ls)
         rw (over-refused (atLine k f) ls) (rw (add-zero k) at here)
 
 -- bytes without an LF are always refused
-unended-some : (cs : List ℕ) → 0 < lineFault false cs .number
+pub unended-some : (cs : List ℕ) → 0 < lineFault false cs .number
 unfolding lineFault
 unended-some cs = by (ltb 0 (firstBad 1 cs)) (ltb 80 (length cs))
   where
@@ -74,7 +74,7 @@ module _ (bytes : List ℕ) {s : State} (t : Taken start (cut bytes .lines) s) w
     where
       by-sets : (none : Bool) → Judged bytes (pick none (reply 16 0) (reply 0 (length (cut bytes .lines))))
       by-sets true = no-set
-      by-sets false = accepted (length (cut bytes .lines))
+      by-sets false = accepted
 
       by : (p : Place) → s .place ≡ p → Judged bytes (atEnd p (s .sets) (length (cut bytes .lines)))
       by Outside q = by-sets (eqb (s .sets) 0)
@@ -86,14 +86,15 @@ run-judged : (bytes : List ℕ) {r : Run} → Ran start 0 (cut bytes .lines) r �
 run-judged bytes (through t) = rw zero-add (end-judged bytes t (cut bytes .rest) refl)
 run-judged bytes (stopped j l rest t q w) = rw (zero-add j) (at-line (line j l rest t q w))
 
--- every reply that names a line is that of something wrong with it, where all lines before it are taken
-pub judged-fault : (bytes : List ℕ) → Judged bytes (judged bytes)
+-- 1 "before all others"
+pub too-long-judged : (bytes : List ℕ) → 16777216 < length bytes → judged bytes ≡ reply 1 0
+unfolding judged
+too-long-judged bytes h = rw (lt-ltb 16777216 (length bytes) h) refl
+
+-- otherwise every reply that names a line is that of something wrong with it, where all lines before it are taken
+pub judged-fault : (bytes : List ℕ) → length bytes ≤ 16777216 → Judged bytes (judged bytes)
 unfolding judged judge
-judged-fault bytes = by (ltb 16777216 (length bytes))
-  where
-    by : (t : Bool) → Judged bytes (pick t (reply 1 0) (runEnd (over runStep (going start 0) (cut bytes .lines)) (cut bytes .rest)))
-    by true = too-long
-    by false = run-judged bytes (ran start 0 (cut bytes .lines))
+judged-fault bytes h = rw (le-ltb 16777216 (length bytes) h) (run-judged bytes (ran start 0 (cut bytes .lines)))
 
 -- The other way: a file with something wrong is refused for it.
 

@@ -135,15 +135,11 @@ module _ (header : List ℕ) (h : 0 < headerOf header .reply .number) where
       rw (le-ltb 16777216 (length (headText 58 ++ header)) b, cut-head header)
       (ap (λ (r : Run). runEnd r (cut header .rest)) (over-line start 0 plainDelimiter opens _ ∙ over-line (state Number 1) 1 (plainNumber 58) numbered _))
 
-  -- "judged as lines 1 to 11 of a set": at most eleven lines are refused as the file is that they open, two lines further down there
-  pub refused-judged : length (cut header .lines) ≤ headerLines → length (headText 58 ++ header) ≤ 16777216
+  -- "judged as lines 1 to 11 of a set": at most eleven lines are refused as the file is that they open, two lines further down there; so is a longer
+  -- header that is refused at one of its first eleven lines
+  pub refused-judged : (length (cut header .lines) ≤ headerLines) ⊎ (headerOf header .reply .place ≤ headerLines) → length (headText 58 ++ header) ≤ 16777216
       → judged (headText 58 ++ header) ≡ replyAt (headerOf header .reply .number) (headerOf header .reply .place + 2) (headerOf header .reply .column)
-  refused-judged l b = file-run b ∙ whole .alike (inl (omega arith))
-
-  -- so is a longer header that is refused at one of its first eleven lines
-  pub early-judged : headerOf header .reply .place ≤ headerLines → length (headText 58 ++ header) ≤ 16777216
-      → judged (headText 58 ++ header) ≡ replyAt (headerOf header .reply .number) (headerOf header .reply .place + 2) (headerOf header .reply .column)
-  early-judged p b = file-run b ∙ whole .alike (inr p)
+  refused-judged e b = file-run b ∙ whole .alike (⊎-elim (λ few. inl (omega arith)) inr e)
 
   -- one refused past them is refused for its twelfth line
   pub past-refused : headerLines < length (cut header .lines) → headerLines < headerOf header .reply .place
