@@ -309,9 +309,9 @@ module _ {A : Type 0} {form : Reply → A} (ns bs : List ℕ) (s : isShort ns bs
   pub calls-late : {b ns″ bs″ : List ℕ} {r : A} → Burst form (endNumbers ns′ bs′) bs′ b ns″ bs″ r → Untouched (endNumbers ns′ bs′) bs′ ns″ bs″ × (r ≡ form (reply 23 0))
   calls-late = CallsLaws.calls-late ns bs s k
 
--- C-14. "Every refusal of a line now carries the column too: of the first such byte for 2 and 13, the field's first column for 10, 11, 12, 14, 24 and 25, otherwise 1.",
--- "For 14 it is the earliest offending field.", "24, integer field blank, and 25, real field blank, in the places of 10 and 12, which keep the rest": a reply that names
--- a line is that of the earliest bad line, and `Fault` says of that line what is wrong with it and at which column
+-- C-14. "Every refusal of a line now carries the column too: of the first such byte for 2 and 13, the field's first column for 10, 11, 12, 14, 24 and 25,
+-- otherwise 1.", "For 14 it is the earliest offending field.", "24, integer field blank, and 25, real field blank, in the places of 10 and 12, which keep the
+-- rest": a reply that names a line is the refusal of the earliest bad line, and `Fault` says from that line what is wrong there, and at which column
 pub judged-fault : (bytes : List ℕ) → length bytes ≤ 16777216 → Judged bytes (judged bytes)
 judged-fault = FileFaultLaws.judged-fault
 
@@ -321,7 +321,7 @@ fault-judged = FileFaultLaws.fault-judged
 pub file-column : {bytes : List ℕ} {k : ℕ} {f : Refusal} → FileFault bytes k f → InLine bytes f
 file-column = FaultColumnLaws.file-column
 
--- "Any other reply of number and place carries 0.": `judge-table`, `calls-table`, `writer-table` (`Replied`), and of the bursts `any-cut`, `calls-answer`
+-- "Any other reply of number and place carries 0.": `judge-table`, `calls-table` and `writer-table`, of bursts `any-cut` and `calls-answer`; and
 pub too-long-judged : (bytes : List ℕ) → 16777216 < length bytes → judged bytes ≡ reply 1 0
 too-long-judged = FileFaultLaws.too-long-judged
 
