@@ -2,7 +2,7 @@
 use mathlib.Core.Path.{_≡_, refl, sym, ap, subst, _∙_}
 use mathlib.Core.Bool.{Bool, true, false, _&&_}
 use mathlib.Core.List.{List, [], _∷_, _++_, append-nil}
-use mathlib.Core.Logic.{⊎-elim}
+use mathlib.Core.Logic.{inl, ⊎-elim}
 use Prim.Native.Nat.{ℕ, zero, suc, _+_, _-_, _≤_, _<_}
 use native.Mathlib.Omega.{arith}
 use borrow.Author.Tests.{ltb-true, ltb-false, lt-ltb, le-ltb, le-leb, lt-leb, eqb-true, eqb-false, ne-eqb}
@@ -16,7 +16,7 @@ use Rattle.line.specs.LineLaws.{columns-crlf, columns-lf, columns-take, columns
 use Rattle.line.specs.declared.Refusal.{Refusal}
 use Rattle.walk.specs.declared.State.{State}
 use Rattle.walk.specs.declared.Outcome.the-variants.{Refused}
-use Rattle.judge.specs.Judge.{Run, going, refused, reply, lineStep, onOutcome, runStep, runEnd}
+use Rattle.judge.specs.Judge.{Run, going, refused, atLine, lineStep, onOutcome, runStep, runEnd}
 use Rattle.judge.specs.JudgeLaws.{lineStep-own}
 use Rattle.judge.specs.Refusal.{LineNumber}
 use Rattle.judge.specs.RefusalLaws.{no-fault, line-number}
@@ -204,7 +204,7 @@ end-line (refused r) l = refl
 pub end-open : (r : Run) (l : List ℕ) → openEnd r (openOf l) ≡ runEnd r l
 unfolding openOf columns
 end-open (going s n) [] = refl
-end-open (going s n) (b ∷ l) = rw (ne-eqb (length (b ∷ l)) 0 (λ e. omega arith)) (ap (λ (f : Refusal). reply (f .number) (n + 1)) (fault-says false (b ∷ l) (says-end (b ∷ l))))
+end-open (going s n) (b ∷ l) = rw (ne-eqb (length (b ∷ l)) 0 (λ e. omega arith)) (ap (atLine n) (fault-says false (b ∷ l) (says-end (b ∷ l))))
 end-open (refused r) l = refl
 
 -- the number of an open line's refusal is a line's
@@ -213,8 +213,8 @@ unfolding faultOf
 fault-number columns bad h = by (ltb 0 bad && leb bad columns) (ltb 80 columns) h
   where
     by : (t u : Bool) → 0 < pick t (refusal 2 bad) (pick u (refusal 3 1) passed) .number → LineNumber (pick t (refusal 2 bad) (pick u (refusal 3 1) passed) .number)
-    by true u h = (omega arith, omega arith)
-    by false true h = (omega arith, omega arith)
+    by true u h = (omega arith, inl (omega arith))
+    by false true h = (omega arith, inl (omega arith))
     by false false h = absurd (omega arith)
 
 pub open-number : (s : State) (o : OpenLine) (f : Refusal) → openOutcome s o ≡ Refused f → LineNumber (f .number)

@@ -16,7 +16,7 @@ use Rattle.walk.specs.declared.State.{State}
 use Rattle.walk.specs.declared.Outcome.{Outcome}
 use Rattle.walk.specs.declared.Outcome.the-variants as Outcomes
 use Rattle.judge.specs.declared.Reply.{Reply}
-use Rattle.judge.specs.Judge.{Run, going, refused, reply, replyAt, runStep, runEnd, lineStep, onOutcome}
+use Rattle.judge.specs.Judge.{Run, going, refused, reply, replyAt, atLine, runStep, runEnd, lineStep, onOutcome}
 use Rattle.stream.specs.declared.Stream.{Stream}
 use Rattle.stream.specs.declared.Answer.{Answer}
 use Rattle.stream.specs.declared.Answer.the-variants.{SoFar, Refused}
@@ -89,9 +89,9 @@ stepOf (inLimit r o n) b =
     pick (ltb 16777216 (n + length b)) past
     (arrived r o (cut b .lines) (cut b .rest) (n + length b))
 
--- neither 0 nor a number that a line's refusal can have, 2 to 15
+-- neither 0 nor a number that a line's refusal can have, 2 to 15, 24 and 25
 unfoldable pub isStrange : ℕ → Bool
-isStrange n = eqb n 1 || ltb 15 n
+isStrange n = eqb n 1 || (ltb 15 n && (ltb n 24 || ltb 25 n))
 
 -- past the limit; so is a record with more lines than bytes, with an open line of more, or with a strange number, which no bursts give
 unfoldable pub isPast : Stream → Bool
@@ -137,7 +137,7 @@ paper (Refused r) = r
 
 -- the reply at the file's end: a line without its LF is refused
 abbrev pub openEnd : Run → OpenLine → Reply
-openEnd (going s n) o = pick (eqb (o .size) 0) (runEnd (going s n) []) (reply (openFault false o .number) (n + 1))
+openEnd (going s n) o = pick (eqb (o .size) 0) (runEnd (going s n) []) (atLine n (openFault false o))
 openEnd (refused r) o = r
 
 -- the end's answer: the whole file's

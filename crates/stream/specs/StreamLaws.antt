@@ -20,7 +20,7 @@ use Rattle.line.specs.declared.Refusal.{Refusal}
 use Rattle.walk.specs.declared.State.{State}
 use Rattle.walk.specs.declared.Outcome.the-variants.{Next, Refused}
 use Rattle.walk.specs.Step.{start}
-use Rattle.judge.specs.Judge.{reply, replyAt, Run, going, refused, onOutcome, runStep, runEnd}
+use Rattle.judge.specs.Judge.{replyAt, atLine, Run, going, refused, onOutcome, runStep, runEnd}
 use Rattle.judge.specs.declared.Reply.{Reply}
 use Rattle.judge.specs.declared.Lines.{Lines}
 use Rattle.judge.specs.Lines.{LinesJudged}
@@ -86,7 +86,7 @@ module _ (c : Stream) where
     pub end-none : c .held ≡ 0 → runEnd (going (c .state) (c .lines)) (take (c .held) (c .pending)) ≡ endReply (seen c)
     end-none h = rw (seen-going p z, eq-eqb (c .held) 0 h, h) refl
 
-    pub end-some : (c .held ≡ 0 → ⊥) → (f : Refusal) → f ≡ faultOf false (c .held) (c .column) → reply (f .number) (c .lines + 1) ≡ endReply (seen c)
+    pub end-some : (c .held ≡ 0 → ⊥) → (f : Refusal) → f ≡ faultOf false (c .held) (c .column) → atLine (c .lines) f ≡ endReply (seen c)
     unfolding columnsOf
     end-some h f e = rw (seen-going p z, ne-eqb (c .held) 0 h, e) refl
 
@@ -97,7 +97,8 @@ none-strange = refl
 
 line-known : (n : ℕ) → LineNumber n → isStrange n ≡ false
 unfolding isStrange
-line-known n h = rw (ne-eqb n 1 (λ e. omega (arith, h .0)), le-ltb 15 n (h .1)) refl
+line-known n (h, inl l) = rw (ne-eqb n 1 (λ e. omega arith), le-ltb 15 n l) refl
+line-known n (h, inr l) = rw (ne-eqb n 1 (λ e. omega arith), lt-ltb 15 n (omega (arith, l)), le-ltb n 24 (l .0), le-ltb 25 n (l .1)) refl
 
 module _ (s : State) (n t : ℕ) (p : List ℕ) (limit : t ≤ 16777216) (few : n ≤ t) where
   made-going : (k h : ℕ) → h ≤ t → seen (made s n 0 k t p h) ≡ inLimit (going s n) (lineIn p h k) t
@@ -146,17 +147,17 @@ module _ (c : Stream) (b : List ℕ) (total : ℕ) (few : c .lines + length b �
     unfolding judgedOn
     burst-next s o = rw (← first-line, o) refl
 
-    pub burst-stops : (f : Refusal) → openOutcome (c .state) open-now ≡ Refused f → Arrived (seen (made (c .state) (c .lines) (f .number) 0 total p 0))
+    pub burst-stops : (f : Refusal) → openOutcome (c .state) open-now ≡ Refused f → Arrived (seen (made (c .state) (c .lines) (f .number) (f .column) total p 0))
     burst-stops f o =
-        made-refused (c .state) (c .lines) total p limit (omega arith) (f .number) 0 (open-number (c .state) open-now f o) ∙
-        rw (← first-line, o, over-refused (replyAt (f .number) (c .lines + 1) 0) (cut rest .lines)) refl
+        made-refused (c .state) (c .lines) total p limit (omega arith) (f .number) (f .column) (open-number (c .state) open-now f o) ∙
+        rw (← first-line, o, over-refused (atLine (c .lines) f) (cut rest .lines)) refl
 
 -- the lines of a burst from a place on
 module _ (s : State) (n : ℕ) (b : List ℕ) (at total : ℕ) (few : n + (length b - at) ≤ total) (limit : total ≤ 16777216) (r : Lines) (j : LinesJudged s n b at r) where
-  pub lines-refused : (p : List ℕ) → 0 < r .number → seen (made (r .state) (r .lines) (r .number) 0 total p 0) ≡ judgedOn s n (drop at b) total
+  pub lines-refused : (p : List ℕ) → 0 < r .number → seen (made (r .state) (r .lines) (r .number) (r .column) total p 0) ≡ judgedOn s n (drop at b) total
   unfolding judgedOn
   lines-refused p z =
-      made-refused (r .state) (r .lines) total p limit (omega (arith, j .few)) (r .number) 0 (judged-number s n b at r j z) ∙
+      made-refused (r .state) (r .lines) total p limit (omega (arith, j .few)) (r .number) (r .column) (judged-number s n b at r j z) ∙
       rw (← j .run, ne-eqb (r .number) 0 (λ e. omega arith)) refl
 
   pub lines-going : (p q p′ : List ℕ) (k : ℕ) → r .number ≤ 0 → length b ≤ total → lineIn p 0 0 ≡ openOf [] → q ≡ drop (r .at) b → Pushed p 0 q p′ → k ≡ firstBad 1 q

@@ -153,11 +153,11 @@ fn open_outcome(state: State, line: &[u8; 81], held: usize, bad: usize) -> Outco
     judge::line_step(state, &bytes[..n])
 }
 
-// Whether a refusal's number is neither 0 nor one that a line can have, 2 to 15.
+// Whether a refusal's number is neither 0 nor one that a line can have, 2 to 15, 24 and 25.
 fn is_strange(number: u8) -> bool
     ensures { λ r. ⌜ r ≡ isStrange number ⌝ }
 {
-    (number == 1) | (15 < number)
+    (number == 1) | ((15 < number) & ((number < 24) | (25 < number)))
 }
 
 // Whether a record is past the limit, or is none that bursts give: with more lines than bytes, with an open line of more, or with a strange number.
@@ -212,7 +212,7 @@ fn lines_step(state: State, lines: usize, burst: &[u8], at: usize, total: usize)
             state: last,
             lines: judged.lines,
             number: judged.number,
-            column: 0,
+            column: judged.column,
             total,
             pending: line,
             held: 0,
@@ -263,7 +263,7 @@ fn open_step(c: Stream, burst: &[u8], total: usize) -> Stream
             state,
             lines: c.lines,
             number: fault.number,
-            column: 0,
+            column: fault.column,
             total,
             pending: line,
             held: 0,
@@ -296,25 +296,13 @@ pub fn answer_of(c: Stream) -> Answer
     ensures { λ r. ⌜ r ≡ answerOf (c .ended) (seen c) ⌝ }
 {
     if c.ended {
-        return Answer::Refused(Reply {
-            number: 23,
-            place: 0,
-            column: 0,
-        });
+        return Answer::Refused(judge::bare_reply(23, 0));
     }
     if is_past(c) {
-        return Answer::Refused(Reply {
-            number: 1,
-            place: 0,
-            column: 0,
-        });
+        return Answer::Refused(judge::bare_reply(1, 0));
     }
     if 0 < c.number {
-        return Answer::Refused(Reply {
-            number: c.number,
-            place: c.lines + 1,
-            column: c.column,
-        });
+        return Answer::Refused(judge::reply_at(c.number, c.lines + 1, c.column));
     }
     Answer::SoFar(c.lines)
 }
@@ -342,18 +330,10 @@ pub fn reply(c: Stream) -> Reply
     ensures { λ r. ⌜ r ≡ endReply (seen c) ⌝ }
 {
     if is_past(c) {
-        return Reply {
-            number: 1,
-            place: 0,
-            column: 0,
-        };
+        return judge::bare_reply(1, 0);
     }
     if 0 < c.number {
-        return Reply {
-            number: c.number,
-            place: c.lines + 1,
-            column: c.column,
-        };
+        return judge::reply_at(c.number, c.lines + 1, c.column);
     }
     let line = c.pending;
     let held = c.held;
@@ -361,9 +341,5 @@ pub fn reply(c: Stream) -> Reply
         return judge::finish(c.state, c.lines, &line[..held]);
     }
     let fault = open_fault(held, c.column, false);
-    Reply {
-        number: fault.number,
-        place: c.lines + 1,
-        column: 0,
-    }
+    judge::reply_at(fault.number, c.lines + 1, fault.column)
 }

@@ -186,11 +186,7 @@ fn reply_of(a: Answer) -> Reply
     ensures { λ r. ⌜ r ≡ paper a ⌝ }
 {
     match a {
-        Answer::SoFar(lines) => Reply {
-            number: 127,
-            place: lines,
-            column: 0,
-        },
+        Answer::SoFar(lines) => judge::bare_reply(127, lines),
         Answer::Refused(reply) => reply,
     }
 }
@@ -200,18 +196,10 @@ pub fn start(numbers: &mut [u64], line: &mut [u8]) -> Reply
     ensures { λ r. ⌜ (r ≡ startReply (now (numbers .entry)) (now (line .entry))) × (now (numbers .exit) ≡ startNumbers (now (numbers .entry)) (now (line .entry))) × (now (line .exit) ≡ startLine (now (numbers .entry)) (now (line .entry))) ⌝ }
 {
     if is_short(numbers.len(), line.len()) {
-        return Reply {
-            number: 20,
-            place: 0,
-            column: 0,
-        };
+        return judge::bare_reply(20, 0);
     }
     put_record(numbers, line, stream::fresh());
-    Reply {
-        number: 0,
-        place: 0,
-        column: 0,
-    }
+    judge::bare_reply(0, 0)
 }
 
 // Brings the record up to date by a burst, and answers for it; 20 where the room is too short, 23 after the end was asked.
@@ -219,18 +207,10 @@ pub fn burst(numbers: &mut [u64], line: &mut [u8], bytes: &[u8]) -> Reply
     ensures { λ r. ⌜ Burst same (now (numbers .entry)) (now (line .entry)) (now (bytes .entry)) (now (numbers .exit)) (now (line .exit)) r ⌝ }
 {
     if is_short(numbers.len(), line.len()) {
-        return Reply {
-            number: 20,
-            place: 0,
-            column: 0,
-        };
+        return judge::bare_reply(20, 0);
     }
     if 0 < numbers[11] {
-        return Reply {
-            number: 23,
-            place: 0,
-            column: 0,
-        };
+        return judge::bare_reply(23, 0);
     }
     let after = stream_mut::after_burst(record_in(numbers, line), bytes);
     let left = after.stream;
@@ -244,11 +224,7 @@ pub fn end(numbers: &mut [u64], line: &[u8]) -> Reply
     ensures { λ r. ⌜ (r ≡ endOf (now (numbers .entry)) (now (line .entry))) × (now (numbers .exit) ≡ endNumbers (now (numbers .entry)) (now (line .entry))) ⌝ }
 {
     if is_short(numbers.len(), line.len()) {
-        return Reply {
-            number: 20,
-            place: 0,
-            column: 0,
-        };
+        return judge::bare_reply(20, 0);
     }
     let found = stream::reply(record_in(numbers, line));
     numbers[11] = 1;

@@ -21,7 +21,7 @@ use Rattle.record_table.specs.TypedSets.{kindOf, isTyped, typedSets}
 use Rattle.walk.specs.Step as W
 use Rattle.walk.specs.Step.{start, opened, outsideStep, numberStep, plainStep}
 use Rattle.judge.specs.declared.Reply.{Reply}
-use Rattle.judge.specs.Judge.{going, reply, lineStep}
+use Rattle.judge.specs.Judge.{going, reply, replyAt, lineStep}
 use Rattle.stream.specs.declared.Answer.{Answer}
 use Rattle.stream.specs.declared.Answer.the-variants.{SoFar, Refused}
 use Rattle.stream.specs.declared.Stream.{Stream}
@@ -61,19 +61,24 @@ unfolding stepOf answerOf openOf longer columnsOf faultOf openOutcome over cut r
 returns-accepted = (refl, refl)
 
 -- a CR that ends a burst and has no LF after it is a byte not allowed. A judge that drops it at once accepts the line.
-pub return-alone : answers fresh ((bytes "    -" ++ (13 ∷ [])) ∷ (bytes "1" ++ (10 ∷ [])) ∷ []) ≡ SoFar 0 ∷ Refused (reply 2 1) ∷ []
+pub return-alone : answers fresh ((bytes "    -" ++ (13 ∷ [])) ∷ (bytes "1" ++ (10 ∷ [])) ∷ []) ≡ SoFar 0 ∷ Refused (replyAt 2 1 6) ∷ []
 unfolding stepOf answerOf openOf longer columnsOf faultOf openOutcome over cut isAllowed withoutReturn columns firstBad lineFault lineStep
 return-alone = refl
 
--- a line of 85 bytes, the 83rd of them not allowed. A judge that keeps only its first bytes answers 3.
-pub late-byte : answers fresh (replicate 82 32 ∷ (9 ∷ []) ∷ (32 ∷ 32 ∷ []) ∷ (10 ∷ []) ∷ []) ≡ SoFar 0 ∷ SoFar 0 ∷ SoFar 0 ∷ Refused (reply 2 1) ∷ []
+-- a line of 85 bytes, the 83rd of them not allowed. A judge that keeps only its first bytes answers 3, and one that counts from a burst's first byte column 1.
+pub late-byte : answers fresh (replicate 82 32 ∷ (9 ∷ []) ∷ (32 ∷ 32 ∷ []) ∷ (10 ∷ []) ∷ []) ≡ SoFar 0 ∷ SoFar 0 ∷ SoFar 0 ∷ Refused (replyAt 2 1 83) ∷ []
 unfolding stepOf answerOf openOf longer columnsOf faultOf openOutcome over cut isAllowed withoutReturn columns firstBad lineFault lineStep
 late-byte = refl
 
 -- 84 blanks, then CR LF: 3, since the CR belongs to the end
-pub late-return : answers fresh (replicate 84 32 ∷ (13 ∷ []) ∷ (10 ∷ []) ∷ []) ≡ SoFar 0 ∷ SoFar 0 ∷ Refused (reply 3 1) ∷ []
+pub late-return : answers fresh (replicate 84 32 ∷ (13 ∷ []) ∷ (10 ∷ []) ∷ []) ≡ SoFar 0 ∷ SoFar 0 ∷ Refused (replyAt 3 1 1) ∷ []
 unfolding stepOf answerOf openOf longer columnsOf faultOf openOutcome over cut isAllowed withoutReturn columns firstBad lineFault lineStep
 late-return = refl
+
+-- 84 blanks and a CR, then CR LF: the first CR is a byte not allowed, at its own column; and so it is where the file ends with it
+pub late-returns : (answers fresh (replicate 84 32 ∷ (13 ∷ []) ∷ (13 ∷ 10 ∷ []) ∷ []) ≡ SoFar 0 ∷ SoFar 0 ∷ Refused (replyAt 2 1 85) ∷ []) × (ends fresh (replicate 84 32 ∷ (13 ∷ []) ∷ []) ≡ replyAt 2 1 85)
+unfolding stepOf answerOf openOf longer columnsOf faultOf openOutcome over cut isAllowed withoutReturn columns firstBad lineFault lineStep
+late-returns = (refl, refl)
 
 -- Wrong calls on a lent record, each with an input on which it breaks the promise: a burst that does not store the record, one that answers for the
 -- record before it, an end that does not mark the record.

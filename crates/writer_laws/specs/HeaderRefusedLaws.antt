@@ -23,7 +23,6 @@ use Rattle.walk.specs.Due.{opening, after}
 use Rattle.walk.specs.Step.{state, start}
 use Rattle.judge.specs.declared.Reply.{Reply}
 use Rattle.judge.specs.Judge.{judged, reply, replyAt, lineStep, Run, going, onOutcome, runStep, runEnd}
-use Rattle.header.specs.declared.Header.{Header}
 use Rattle.header.specs.Header.{answer, opened, headerStep, headerOf}
 use Rattle.judge.specs.JudgeLaws as Judge
 use Rattle.header.specs.HeaderLaws.{over-refused}
@@ -39,18 +38,18 @@ use Rattle.writer_laws.specs.HeaderRefused.{twelfthNumber}
 abbrev filed : Due → ℕ → List (List ℕ) → List ℕ → Reply
 filed d n ls rest = runEnd (over runStep (going (state (Typed d) 1) (n + 2)) ls) rest
 
--- the answer h to a refused header whose lines from n on are these, and the reply r to the file
-record Halted (n : ℕ) (ls : List (List ℕ)) (h : Header) (r : Reply) : Type 0 where
+-- the reply h to a refused header whose lines from n on are these, and the reply r to the file
+record Halted (n : ℕ) (ls : List (List ℕ)) (h r : Reply) : Type 0 where
   above : n < h .place
   below : h .place ≤ 12
   alike : (length ls + n ≤ headerLines) ⊎ (h .place ≤ headerLines) → r ≡ replyAt (h .number) (h .place + 2) (h .column)
   past : headerLines < length ls + n → headerLines < h .place → h .number ≡ twelfthNumber (getD ls (headerLines - n) [])
 
 abbrev Halts : Due → ℕ → List (List ℕ) → List ℕ → Type 0
-Halts d n ls rest = Halted n ls (ended d n ls rest) (filed d n ls rest)
+Halts d n ls rest = Halted n ls (ended d n ls rest .reply) (filed d n ls rest)
 
 -- refused at this line, one of eleven, or the twelfth where no LF ends it
-halted-here : (n k : ℕ) (ls : List (List ℕ)) → n ≤ headerLines → (headerLines < length ls + n → n < headerLines) → Halted n ls (answer k (n + 1) 0 0) (reply k (n + 2 + 1))
+halted-here : (n k : ℕ) (ls : List (List ℕ)) → n ≤ headerLines → (headerLines < length ls + n → n < headerLines) → Halted n ls (reply k (n + 1)) (reply k (n + 2 + 1))
 halted-here n k ls b e =
     record {
       above = omega arith;
@@ -60,13 +59,13 @@ halted-here n k ls b e =
     }
 
 -- no line more
-halted-end : (d : Due) (n : ℕ) (rest : List ℕ) → n ≤ headerLines → 0 < ended d n [] rest .number → Halts d n [] rest
+halted-end : (d : Due) (n : ℕ) (rest : List ℕ) → n ≤ headerLines → 0 < ended d n [] rest .reply .number → Halts d n [] rest
 unfolding over
 halted-end d n (b ∷ bs) l h = halted-here n (lineFault false (b ∷ bs) .number) [] l (λ p. absurd (omega arith))
 halted-end d n [] l h = by (ltb n headerLines) h
   where
-    by : (t : Bool) → 0 < pick t (answer 7 (n + 1) 0 0) (answer 0 0 (d .case) (d .left)) .number
-        → Halted n [] (pick t (answer 7 (n + 1) 0 0) (answer 0 0 (d .case) (d .left))) (reply 7 (n + 2 + 1))
+    by : (t : Bool) → 0 < pick t (answer 7 (n + 1) 0 0) (answer 0 0 (d .case) (d .left)) .reply .number
+        → Halted n [] (pick t (answer 7 (n + 1) 0 0) (answer 0 0 (d .case) (d .left)) .reply) (reply 7 (n + 2 + 1))
     by true k = halted-here n 7 [] l (λ p. absurd (omega arith))
     by false k = absurd (omega arith)
 
@@ -106,8 +105,8 @@ module _ (d : Due) (n : ℕ) (l : List ℕ) (ls : List (List ℕ)) (rest : List 
         past = λ p q. rw z refl;
       })
 
-  halted-line : Stood n d → n ≤ headerLines → 0 < ended d n (l ∷ ls) rest .number
-      → (Stood (n + 1) later → n + 1 ≤ headerLines → 0 < ended later (n + 1) ls rest .number → Halts later (n + 1) ls rest)
+  halted-line : Stood n d → n ≤ headerLines → 0 < ended d n (l ∷ ls) rest .reply .number
+      → (Stood (n + 1) later → n + 1 ≤ headerLines → 0 < ended later (n + 1) ls rest .reply .number → Halts later (n + 1) ls rest)
       → Halts d n (l ∷ ls) rest
   unfolding over
   halted-line s b k ih = ⊎-elim (λ h. met h (line-met d l (not-closed n d s h))) (λ h. halted-past (omega arith)) (below-or-not n headerLines)
@@ -116,17 +115,17 @@ module _ (d : Due) (n : ℕ) (l : List ℕ) (ls : List (List ℕ)) (rest : List 
       met h (taken t) = halted-taken h t (ih (after-stood n d s h (columns true l) (t .row)) (omega arith) (rw (lt-ltb n headerLines h, t .step) at k))
       met h (stopped f e p) = halted-stopped h f e
 
-halted : (ls : List (List ℕ)) (d : Due) (n : ℕ) (rest : List ℕ) → Stood n d → n ≤ headerLines → 0 < ended d n ls rest .number → Halts d n ls rest
+halted : (ls : List (List ℕ)) (d : Due) (n : ℕ) (rest : List ℕ) → Stood n d → n ≤ headerLines → 0 < ended d n ls rest .reply .number → Halts d n ls rest
 halted [] d n rest s b h = halted-end d n rest b h
 halted (l ∷ ls) d n rest s b h = halted-line d n l ls rest s b h (λ t c k. halted ls (after d (columnsIn l)) (n + 1) rest t c k)
 
-module _ (header : List ℕ) (h : 0 < headerOf header .number) where
-  whole : Halted 0 (cut header .lines) (headerOf header) (filed (opening kind58) 0 (cut header .lines) (cut header .rest))
+module _ (header : List ℕ) (h : 0 < headerOf header .reply .number) where
+  whole : Halted 0 (cut header .lines) (headerOf header .reply) (filed (opening kind58) 0 (cut header .lines) (cut header .rest))
   unfolding headerOf judge
   whole = halted (cut header .lines) (opening kind58) 0 (cut header .rest) opened-stood (omega arith) h
 
   -- refused at a line: "lines counted from 1", and none is read past a twelfth
-  pub refused-place : (1 ≤ headerOf header .place) × (headerOf header .place ≤ 12)
+  pub refused-place : (1 ≤ headerOf header .reply .place) × (headerOf header .reply .place ≤ 12)
   refused-place = (whole .above, whole .below)
 
   -- in a file the lines of the header are judged as they are here
@@ -138,17 +137,17 @@ module _ (header : List ℕ) (h : 0 < headerOf header .number) where
 
   -- "judged as lines 1 to 11 of a set": at most eleven lines are refused as the file is that they open, two lines further down there
   pub refused-judged : length (cut header .lines) ≤ headerLines → length (headText 58 ++ header) ≤ 16777216
-      → judged (headText 58 ++ header) ≡ replyAt (headerOf header .number) (headerOf header .place + 2) (headerOf header .column)
+      → judged (headText 58 ++ header) ≡ replyAt (headerOf header .reply .number) (headerOf header .reply .place + 2) (headerOf header .reply .column)
   refused-judged l b = file-run b ∙ whole .alike (inl (omega arith))
 
   -- so is a longer header that is refused at one of its first eleven lines
-  pub early-judged : headerOf header .place ≤ headerLines → length (headText 58 ++ header) ≤ 16777216
-      → judged (headText 58 ++ header) ≡ replyAt (headerOf header .number) (headerOf header .place + 2) (headerOf header .column)
+  pub early-judged : headerOf header .reply .place ≤ headerLines → length (headText 58 ++ header) ≤ 16777216
+      → judged (headText 58 ++ header) ≡ replyAt (headerOf header .reply .number) (headerOf header .reply .place + 2) (headerOf header .reply .column)
   early-judged p b = file-run b ∙ whole .alike (inr p)
 
   -- one refused past them is refused for its twelfth line
-  pub past-number : headerLines < length (cut header .lines) → headerLines < headerOf header .place
-      → headerOf header .number ≡ twelfthNumber (getD (cut header .lines) headerLines [])
+  pub past-number : headerLines < length (cut header .lines) → headerLines < headerOf header .reply .place
+      → headerOf header .reply .number ≡ twelfthNumber (getD (cut header .lines) headerLines [])
   past-number l p = whole .past (omega arith) p
 
 -- up to eleven lines are taken in a header as in a file
@@ -171,7 +170,7 @@ steps-alike (l ∷ ls) more s n h =
         rw (Judge.over-refused r ls, over-refused r (ls ++ more), over-refused r more) refl
 
 -- "a twelfth is 8": a header that passes, with a line more
-pub twelfth-refused : (header more l : List ℕ) (ls : List (List ℕ)) → headerOf header .number ≡ 0 → cut more .lines ≡ l ∷ ls
+pub twelfth-refused : (header more l : List ℕ) (ls : List (List ℕ)) → headerOf header .reply .number ≡ 0 → cut more .lines ≡ l ∷ ls
     → headerOf (header ++ more) ≡ answer (twelfthNumber l) 12 0 0
 unfolding headerOf judge over
 twelfth-refused header more l ls h e =

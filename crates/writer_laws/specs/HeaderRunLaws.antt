@@ -165,9 +165,9 @@ module _ (d : Due) (l : List ℕ) (c : mayClose d ≡ false) where
 
 -- after a refusal no header passes
 not-passed : {A : Type 0} (n m : ℕ) (ls : List (List ℕ)) (rest : List ℕ) → 0 < n
-    → headerEnd (over headerStep (refused (reply n m)) ls) rest .number ≡ 0 → A
+    → headerEnd (over headerStep (refused (reply n m)) ls) rest .reply .number ≡ 0 → A
 not-passed n m ls rest p h =
-    let z : n ≡ 0 = sym (ap (λ (x : Run). headerEnd x rest .number) (over-refused (reply n m) ls)) ∙ h in
+    let z : n ≡ 0 = sym (ap (λ (x : Run). headerEnd x rest .reply .number) (over-refused (reply n m) ls)) ∙ h in
     absurd (omega arith)
 
 past-some : (m : ℕ) → 0 < pastNumber m
@@ -186,12 +186,12 @@ record Ran (d : Due) (n : ℕ) (ls : List (List ℕ)) (rest : List ℕ) : Type 0
   ends : ended d n ls rest ≡ answer 0 0 (due .case) (due .left)
 
 -- no line more: they are eleven, and nothing is left
-run-end : (d : Due) (n : ℕ) (rest : List ℕ) → Stood n d → n ≤ headerLines → ended d n [] rest .number ≡ 0 → Ran d n [] rest
+run-end : (d : Due) (n : ℕ) (rest : List ℕ) → Stood n d → n ≤ headerLines → ended d n [] rest .reply .number ≡ 0 → Ran d n [] rest
 unfolding over
 run-end d n (b ∷ bs) s l h = absurd (omega (arith, open-fault (b ∷ bs)))
 run-end d n [] s l h = by (ltb n headerLines) refl h
   where
-    by : (t : Bool) → ltb n headerLines ≡ t → pick t (answer 7 (n + 1) 0 0) (answer 0 0 (d .case) (d .left)) .number ≡ 0 → Ran d n [] []
+    by : (t : Bool) → ltb n headerLines ≡ t → pick t (answer 7 (n + 1) 0 0) (answer 0 0 (d .case) (d .left)) .reply .number ≡ 0 → Ran d n [] []
     by true e k = absurd (omega arith)
     by false e k =
         let x : n ≡ headerLines = omega (arith, ltb-false n headerLines e) in
@@ -248,7 +248,7 @@ module _ (d : Due) (n : ℕ) (l : List ℕ) (ls : List (List ℕ)) (rest : List 
         ends = rw (lt-ltb n headerLines h, t .step) (r .ends);
       }
 
-  run-next : ended d n (l ∷ ls) rest .number ≡ 0 → (Stood (n + 1) later → n + 1 ≤ headerLines → ended later (n + 1) ls rest .number ≡ 0 → Ran later (n + 1) ls rest)
+  run-next : ended d n (l ∷ ls) rest .reply .number ≡ 0 → (Stood (n + 1) later → n + 1 ≤ headerLines → ended later (n + 1) ls rest .reply .number ≡ 0 → Ran later (n + 1) ls rest)
       → Ran d n (l ∷ ls) rest
   unfolding over
   run-next k ih = ⊎-elim early late (below-or-not n headerLines)
@@ -265,7 +265,7 @@ module _ (d : Due) (n : ℕ) (l : List ℕ) (ls : List (List ℕ)) (rest : List 
       early : n < headerLines → Ran d n (l ∷ ls) rest
       early h = met h (line-met d l (not-closed n d s h))
 
-header-ran : (ls : List (List ℕ)) (d : Due) (n : ℕ) (rest : List ℕ) → Stood n d → n ≤ headerLines → ended d n ls rest .number ≡ 0 → Ran d n ls rest
+header-ran : (ls : List (List ℕ)) (d : Due) (n : ℕ) (rest : List ℕ) → Stood n d → n ≤ headerLines → ended d n ls rest .reply .number ≡ 0 → Ran d n ls rest
 header-ran [] d n rest s b h = run-end d n rest s b h
 header-ran (l ∷ ls) d n rest s b h =
     run-next d n l ls rest s h (λ t c k. header-ran ls (after d (columnsIn l)) (n + 1) rest t c k)
@@ -274,7 +274,7 @@ header-ran (l ∷ ls) d n rest s b h =
 pub opened-stood : Stood 0 (opening kind58)
 opened-stood = record { kind = refl; at = refl; second = refl; bounds = λ h. absurd (omega arith) }
 
-pub header-passed : (header : List ℕ) → headerOf header .number ≡ 0 → Passed header
+pub header-passed : (header : List ℕ) → headerOf header .reply .number ≡ 0 → Passed header
 unfolding headerOf judge
 header-passed header h = passes (header-ran (cut header .lines) (opening kind58) 0 (cut header .rest) opened-stood (omega arith) h)
   where
