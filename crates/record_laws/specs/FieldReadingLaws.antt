@@ -119,7 +119,7 @@ module _ (line : List ℕ) where
       of : (o : Optional) (i : Integer) → integerOf cols ≡ i → integerNumber r (blankIn o line) i ≡ 0 → Stands line (integer r o) (integerItem i) cols
       of never Blank e n = absurd (omega arith)
       of (within a b) Blank e n =
-          a-blank (integerOf-blanks cols e) (allBlank-sound (columnsOf a b line) (pick-passed (allBlank (columnsOf a b line)) 9 n))
+          a-blank (integerOf-blanks cols e) (allBlank-sound (columnsOf a b line) (pick-passed (allBlank (columnsOf a b line)) 23 n))
       of o Malformed e n = absurd (omega arith)
       of o OutOfRange e n = absurd (omega arith)
       of o (Value n v) e p =

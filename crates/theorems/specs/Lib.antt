@@ -18,4 +18,5 @@ pub mod ColumnsLaws
 pub mod LaidOut
 pub mod LaidOutLaws
 pub mod Theorems
+pub mod Bounds
 pub mod BoundsLaws
