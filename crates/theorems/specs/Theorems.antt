@@ -1,5 +1,5 @@
--- The theorems. A file is a list of bytes; `judged` (crates/judge) is the judge's reply, number and place, which the code is proved to
--- give for every file; `Proper` (crates/theory) says, from a list of sets alone, which files are proper writings of it.
+-- The theorems. A file is a list of bytes; `judged` (crates/judge) is the judge's reply, number, place and column, which the code is
+-- proved to give for every file; `Proper` (crates/theory) says, from a list of sets alone, which files are proper writings of it.
 use mathlib.Core.Path.{_≡_, refl, sym, ap, subst, _∙_}
 use mathlib.Core.Bool.{true}
 use mathlib.Core.List.{List, [], _∷_, _++_, map}
@@ -11,11 +11,12 @@ use lib.IntN.{ℤ, pos}
 use lib.ListN.{length, getD, take, drop, drop-of-length-le}
 use Rattle.laws.specs.Cut.{cut}
 use Rattle.line.specs.Line.{columns}
+use Rattle.line.specs.declared.Refusal.{Refusal}
 use Rattle.real.specs.Real.{realOf}
 use Rattle.exact.specs.Bits.{bitsOf}
 use Rattle.layout.specs.Layout.{numbersOf}
 use Rattle.judge.specs.declared.Reply.{Reply}
-use Rattle.judge.specs.Judge.{judged, reply}
+use Rattle.judge.specs.Judge.{judged, reply, atLine}
 use Rattle.parts.specs.Parts as Parts
 use Rattle.parts.specs.Parts.{partsOf}
 use Rattle.parts.specs.Function as Function
@@ -45,6 +46,10 @@ use Rattle.parts_laws.specs.Stored.{storedCount, storedItem}
 use Rattle.parts_laws.specs.OrderLaws.{columns-inside, columns-apart, first-column}
 use Rattle.parts_laws.specs.CaseLaws.{case-eight, declared-some, declared-most}
 use Rattle.parts_laws.specs.WholeLaws.{byte-owned}
+use Rattle.walk_laws.specs.Fault.{InLine}
+use Rattle.walk_laws.specs.FaultColumnLaws.{file-column}
+use Rattle.walk_laws.specs.FileFault.{FileFault, Judged}
+use Rattle.walk_laws.specs.FileFaultLaws.{judged-fault, fault-judged}
 use Rattle.theory.specs.Sets.{Set}
 use Rattle.theory.specs.Proper.{Ended, Proper}
 use Rattle.line_laws.specs.Ends.{CutInto, joined}
@@ -62,6 +67,8 @@ use Rattle.theorems.specs.LaidOut.{LaidOut, ReadAs}
 use Rattle.theorems.specs.LaidOutLaws.{laid-out, read-as}
 use Rattle.theorems.specs.Accepted.{Accepted}
 use Rattle.theorems.specs.AcceptedLaws.{judged-accepted, accepted-judged}
+use Rattle.theorems.specs.Bounds.{InBounds}
+use Rattle.theorems.specs.BoundsLaws.{judged-bounds}
 
 -- the columns of a file's lines
 abbrev lines : List ℕ → List (List ℕ)
@@ -94,6 +101,22 @@ proper-accepted {sets} {bytes} p =
 -- UNIQUE: no file is a proper writing of two lists.
 pub proper-unique : {a b : List Set} {bytes : List ℕ} → Proper a bytes → Proper b bytes → a ≡ b
 proper-unique {a} {b} p q = let e : outside a ≡ outside b = sym (proper-read p) ∙ proper-read q in cc
+
+-- REFUSED. A reply that names a line is that of the earliest bad one, for what is wrong with it and in the column where it is, all said from the
+-- lines (crates/walk_laws/specs/FileFault.antt); and a file of at most 16,777,216 bytes with something wrong is refused for it.
+pub refusal-sound : (bytes : List ℕ) → Judged bytes (judged bytes)
+refusal-sound bytes = judged-fault bytes
+
+pub refusal-complete : {bytes : List ℕ} {k : ℕ} {f : Refusal} → length bytes ≤ 16777216 → FileFault bytes k f → judged bytes ≡ atLine k f
+refusal-complete {bytes} h w = fault-judged bytes h w
+
+-- The column is 1 or more; for 2 it lies in the file, for any other number in 80 columns (crates/walk_laws/specs/Fault.antt).
+pub refusal-column : {bytes : List ℕ} {k : ℕ} {f : Refusal} → FileFault bytes k f → InLine bytes f
+refusal-column w = file-column w
+
+-- So it is 0 exactly where the reply names no line, and the word that carries a reply loses nothing of it (Bounds.antt).
+pub reply-bounds : (bytes : List ℕ) → InBounds (judged bytes)
+reply-bounds bytes = judged-bounds bytes
 
 -- LISTER. The sets of the list stand in the file in order, each as a part of it: its opening line and first byte, its own lines between its
 -- number line and its closing delimiter, and the byte past its closing line are the part's (crates/parts_laws/specs/Holds.antt).
