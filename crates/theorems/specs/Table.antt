@@ -20,12 +20,6 @@ pub data InTable (lines : ℕ) : Reply → Type 0 where
   -- 2 to 15, 24 and 25: a line, which can be one past the last, and one of its 80 columns, or for 2 any
   line : (n p c : ℕ) → LineNumber n → 1 ≤ p → p ≤ lines + 1 → 1 ≤ c → ((n ≡ 2 → ⊥) → c ≤ 80) → c ≤ 16777216 → InTable lines (replyAt n p c)
 
--- a reply of which the word that carries it loses nothing: it has 7 bits for the number, 32 for the place, 25 for the column
-pub record InWord (r : Reply) : Type 0 where
-  pub number : r .number ≤ 25
-  pub place : r .place ≤ 16777217
-  pub column : r .column ≤ 16777216
-
 -- a number that names no line
 abbrev pub OtherNumber : ℕ → Type 0
 OtherNumber n = (n ≤ 1) ⊎ ((16 ≤ n) × (n ≤ 23))

@@ -16,12 +16,14 @@ use Rattle.judge.specs.declared.Reply.{Reply}
 use Rattle.judge.specs.Judge.{judged}
 use Rattle.judge.specs.Refusal.{LineNumber}
 use Rattle.judge.specs.RefusalLaws.{line-number}
+use Rattle.host.specs.Packed.{InWord, word}
+use Rattle.host.specs.PackedLaws.{word-same}
 use Rattle.line_laws.specs.Fault.{LineFault}
 use Rattle.walk_laws.specs.FaultLaws.{fault-refused}
 use Rattle.walk_laws.specs.FaultColumnLaws.{file-column}
 use Rattle.walk_laws.specs.FileFault.{FileFault, Judged}
 use Rattle.walk_laws.specs.FileFaultLaws.{too-long-judged, judged-fault}
-use Rattle.theorems.specs.Table.{InTable, InWord}
+use Rattle.theorems.specs.Table.{InTable}
 
 -- the number of a line's own refusal
 pub own-number : {ended : Bool} {cs : List ℕ} {f : Refusal} → LineFault ended cs f → LineNumber (f .number)
@@ -68,13 +70,17 @@ lines-most (b ∷ bytes) = go (eqb b 10) (lines-most bytes)
     go false h = omega (arith, onto-lines b (cut bytes .lines) (cut bytes .rest))
 
 table-word : {lines : ℕ} {r : Reply} → lines ≤ 16777216 → InTable lines r → InWord r
-table-word h InTable.accepted = record { number = omega arith; place = omega arith; column = omega arith }
-table-word h InTable.too-long = record { number = omega arith; place = omega arith; column = omega arith }
-table-word h InTable.no-set = record { number = omega arith; place = omega arith; column = omega arith }
+table-word h InTable.accepted = record { number = omega arith; column = omega arith; place = omega arith }
+table-word h InTable.too-long = record { number = omega arith; column = omega arith; place = omega arith }
+table-word h InTable.no-set = record { number = omega arith; column = omega arith; place = omega arith }
 table-word h (InTable.line n p c w from last one eighty most) =
-    record { number = ⊎-elim (λ a. omega arith) (λ a. a .1) (w .1); place = omega arith; column = most }
+    record { number = ⊎-elim (λ a. omega arith) (λ a. omega (arith, a .1)) (w .1); column = omega arith; place = omega arith }
 
 pub judged-bounds : (bytes : List ℕ) → InWord (judged bytes)
 judged-bounds bytes =
     ⊎-elim (λ h. rw (too-long-judged bytes h) (table-word {lines = 0} (omega arith) InTable.too-long))
     (λ h. table-word (omega (arith, lines-most bytes)) (judge-table bytes)) (below-or-not 16777216 (length bytes))
+
+-- the word that carries a file's reply loses nothing of it
+pub judged-word : (a b : List ℕ) → word (judged a) ≡ word (judged b) → judged a ≡ judged b
+judged-word a b e = word-same (judged a) (judged b) (judged-bounds a) (judged-bounds b) e

@@ -30,7 +30,7 @@ use Rattle.stream.specs.declared.Answer.the-variants.{SoFar, Refused}
 use Rattle.stream.specs.Stream.{seen, Stepped, answerOf, paper, endReply, closed, freshRecord}
 use Rattle.stream_c.specs.Lent.{isShort, streamOf, startReply, startNumbers, startLine, endOf, endNumbers, Untouched, Burst, same}
 use Rattle.lister.specs.Lister.{rowsOf, listReply, listRows}
-use Rattle.host.specs.Packed.{numberIn}
+use Rattle.host.specs.Packed.{InWord, word, numberIn}
 use Rattle.host.specs.Answer.{numberAnswer, valueAnswer, replyFor, bytesAfter}
 use Rattle.theory.specs.Sets.{Set}
 use Rattle.theory.specs.Proper.{Proper}
@@ -46,7 +46,7 @@ use Rattle.walk_laws.specs.Fault.{InLine}
 use Rattle.walk_laws.specs.FileFault.{FileFault, Judged}
 use Rattle.stream_laws.specs.Streaming.{burstAnswer, joined, Bursts}
 use Rattle.stream_laws.specs.Calls.{Calls}
-use Rattle.theorems.specs.Table.{InTable, InWord, Replied, CallsInTable}
+use Rattle.theorems.specs.Table.{InTable, Replied, CallsInTable}
 use Rattle.theorems.specs.Stands.{SetAt, At58}
 use Rattle.theorems.specs.Answers.{Answered, NoSuch, AsJudged, InTurn, Filled, valueSaid, allSaid, ownBytes}
 use Rattle.theorems.specs.Columns.{Columns, DataByte, OfOneValue}
@@ -75,9 +75,6 @@ use Rattle.theorems.specs.ArrivalLaws as ArrivalLaws
 -- "A bad file or a bad question gets a number from document 01's table, with the line where the table says so."
 pub judge-table : (bytes : List ℕ) → InTable (length (cut bytes .lines)) (judged bytes)
 judge-table = TableLaws.judge-table
-
-pub judged-bounds : (bytes : List ℕ) → InWord (judged bytes)
-judged-bounds = TableLaws.judged-bounds
 
 pub judge-first : (bytes : List ℕ) → 0 < judged bytes .number → (k i room : ℕ) → AsJudged bytes k i room
 judge-first = ReaderLaws.judge-first
@@ -312,18 +309,25 @@ module _ {A : Type 0} {form : Reply → A} (ns bs : List ℕ) (s : isShort ns bs
 -- C-14. "Every refusal of a line now carries the column too: of the first such byte for 2 and 13, the field's first column for 10, 11, 12, 14, 24 and 25,
 -- otherwise 1.", "For 14 it is the earliest offending field.", "24, integer field blank, and 25, real field blank, in the places of 10 and 12, which keep the
 -- rest": a reply that names a line is the refusal of the earliest bad line, and `Fault` says from that line what is wrong there, and at which column
-pub judged-fault : (bytes : List ℕ) → length bytes ≤ 16777216 → Judged bytes (judged bytes)
-judged-fault = FileFaultLaws.judged-fault
+pub refusal-sound : (bytes : List ℕ) → length bytes ≤ 16777216 → Judged bytes (judged bytes)
+refusal-sound = FileFaultLaws.judged-fault
 
-pub fault-judged : (bytes : List ℕ) {k : ℕ} {f : Refusal} → length bytes ≤ 16777216 → FileFault bytes k f → judged bytes ≡ atLine k f
-fault-judged = FileFaultLaws.fault-judged
+pub refusal-complete : (bytes : List ℕ) {k : ℕ} {f : Refusal} → length bytes ≤ 16777216 → FileFault bytes k f → judged bytes ≡ atLine k f
+refusal-complete = FileFaultLaws.fault-judged
 
-pub file-column : {bytes : List ℕ} {k : ℕ} {f : Refusal} → FileFault bytes k f → InLine bytes f
-file-column = FaultColumnLaws.file-column
+pub refusal-column : {bytes : List ℕ} {k : ℕ} {f : Refusal} → FileFault bytes k f → InLine bytes f
+refusal-column = FaultColumnLaws.file-column
 
 -- "Any other reply of number and place carries 0.": `judge-table`, `calls-table` and `writer-table`, of bursts `any-cut` and `calls-answer`; and
-pub too-long-judged : (bytes : List ℕ) → 16777216 < length bytes → judged bytes ≡ reply 1 0
-too-long-judged = FileFaultLaws.too-long-judged
+pub refusal-too-long : (bytes : List ℕ) → 16777216 < length bytes → judged bytes ≡ reply 1 0
+refusal-too-long = FileFaultLaws.too-long-judged
+
+-- the word that carries the judge's reply to a host loses nothing of it (`InWord`)
+pub reply-bounds : (bytes : List ℕ) → InWord (judged bytes)
+reply-bounds = TableLaws.judged-bounds
+
+pub reply-word : (a b : List ℕ) → word (judged a) ≡ word (judged b) → judged a ≡ judged b
+reply-word = TableLaws.judged-word
 
 -- the writer's header is refused as the file that it opens, two lines up; past eleven lines, for its twelfth
 module _ (header : List ℕ) (h : 0 < headerOf header .reply .number) where
