@@ -5,8 +5,9 @@ ghost use Prim.Native.Nat.{_≤_};
 ghost use Rattle.judge.specs.Judge.{going, replyAt};
 ghost use Rattle.line.specs.Line.{columns, lineFault};
 ghost use Rattle.record_table.specs.TypedSets.{headerLines};
-ghost use Rattle.header.specs.Header.{answerWith, pastNumber, headerEnd, headerOf, FirstEleven};
+ghost use Rattle.header.specs.Header.{answerWith, pastFault, headerEnd, headerOf, FirstEleven};
 use judge::Reply;
+use line::Refusal;
 use record_table::HEADER_LINES;
 use record_table::KIND_58;
 use walk::Due;
@@ -32,15 +33,18 @@ fn refuse(number: u8, place: usize, column: usize) -> Header
 }
 
 // The refusal of a line past the eleventh: its own, otherwise 8.
-fn past_fault(line: &[u8]) -> u8
-    ensures { λ r. ⌜ r ≡ pastNumber (lineFault true (columns true (now (line .entry))) .number) ⌝ }
+fn past_fault(line: &[u8]) -> Refusal
+    ensures { λ r. ⌜ r ≡ pastFault (lineFault true (columns true (now (line .entry)))) ⌝ }
 {
     let n = line::columns_len(line, true);
     let fault = line::line_fault(&line[..n], true);
     if 0 < fault.number {
-        return fault.number;
+        return fault;
     }
-    8
+    Refusal {
+        number: 8,
+        column: 1,
+    }
 }
 
 // The end of a header that was not refused before, with the bytes after its last LF.
@@ -50,10 +54,10 @@ fn finish(s: State, lines: usize, rest: &[u8]) -> Header
 {
     if 0 < rest.len() {
         let fault = line::line_fault(rest, false);
-        return refuse(fault.number, lines + 1, 0);
+        return refuse(fault.number, lines + 1, fault.column);
     }
     if lines < HEADER_LINES {
-        return refuse(7, lines + 1, 0);
+        return refuse(7, lines + 1, 1);
     }
     let place = s.place;
     match place {
@@ -107,7 +111,8 @@ pub fn judge_header(header: &[u8]) -> Header
     let at = read.at;
     let end = line::find_end(header, at);
     if end < header.len() {
-        return refuse(past_fault(&header[at..end]), read.lines + 1, 0);
+        let fault = past_fault(&header[at..end]);
+        return refuse(fault.number, read.lines + 1, fault.column);
     }
     finish(read.state, read.lines, &header[at..])
 }

@@ -17,7 +17,6 @@ runOf s n k c = pick (eqb k 0) (going s n) (refused (replyAt k (n + 1) c))
 -- the finished lines of the bytes from a place on, after n others
 pub record LinesJudged (s : State) (n : ℕ) (b : List ℕ) (at : ℕ) (r : Lines) : Type 0 where
   pub run : runOf (r .state) (r .lines) (r .number) (r .column) ≡ over runStep (going s n) (cut (drop at b) .lines)
-  pub bare : r .column ≡ 0
   pub rest : r .number ≡ 0 → drop (r .at) b ≡ cut (drop at b) .rest
   pub within : r .at ≤ length b
   pub few : r .lines ≤ n + (length b - at)

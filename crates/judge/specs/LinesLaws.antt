@@ -19,7 +19,7 @@ use Rattle.walk.specs.declared.Outcome.{Outcome}
 use Rattle.walk.specs.declared.Outcome.the-variants.{Next, Refused}
 use Rattle.judge.specs.declared.Reply.{Reply}
 use Rattle.judge.specs.declared.Lines.{Lines}
-use Rattle.judge.specs.Judge.{reply, replyAt, lineStep, Run, going, refused, onOutcome, runStep, runEnd}
+use Rattle.judge.specs.Judge.{replyAt, atLine, lineStep, Run, going, refused, onOutcome, runStep, runEnd}
 use Rattle.judge.specs.Lines.{runOf, LinesJudged}
 use Rattle.judge.specs.JudgeLaws.{over-refused}
 use Rattle.judge.specs.Refusal.{LineNumber}
@@ -45,8 +45,8 @@ module _ (b : List ℕ) (from e : ℕ) (a : from ≤ length b) (q : e ≡ from +
       pub lines-next : (t : State) → o ≡ Next t → over runStep (going t (n + 1)) (cut (drop (e + 1) b) .lines) ≡ over runStep (going s n) (cut (drop from b) .lines)
       lines-next t u = sym (turn (Next t) u)
 
-      lines-stop : (f : Refusal) → o ≡ Refused f → refused (reply (f .number) (n + 1)) ≡ over runStep (going s n) (cut (drop from b) .lines)
-      lines-stop f u = sym (turn (Refused f) u ∙ over-refused (reply (f .number) (n + 1)) (cut (drop (e + 1) b) .lines))
+      lines-stop : (f : Refusal) → o ≡ Refused f → refused (atLine n f) ≡ over runStep (going s n) (cut (drop from b) .lines)
+      lines-stop f u = sym (turn (Refused f) u ∙ over-refused (atLine n f) (cut (drop (e + 1) b) .lines))
 
   cut-last : length b ≤ e → cut (drop from b) ≡ text [] (drop from b)
   cut-last h = cut-open (drop from b) (simp length-drop (omega arith))
@@ -54,12 +54,11 @@ module _ (b : List ℕ) (from e : ℕ) (a : from ≤ length b) (q : e ≡ from +
   module _ (s₀ : State) (n₀ at : ℕ) (w : at ≤ length b) (s : State) (n : ℕ) (few : n + at ≤ n₀ + from)
       (run : over runStep (going s n) (cut (drop from b) .lines) ≡ over runStep (going s₀ n₀) (cut (drop at b) .lines)) where
     pub judged-to-stop : e < length b → (o : Outcome) → o ≡ lineStep s (take (e - from) (drop from b)) → (f : Refusal) → o ≡ Refused f
-        → LinesJudged s₀ n₀ b at (record { state = s; lines = n; number = f .number; column = 0; at = from })
+        → LinesJudged s₀ n₀ b at (record { state = s; lines = n; number = f .number; column = f .column; at = from })
     judged-to-stop h o p f u =
         let z : 0 < f .number = refusal-sure s (take (e - from) (drop from b)) f (sym p ∙ u) in
         record {
           run = rw (ne-eqb (f .number) 0 (λ y. omega arith)) (lines-stop h s n o p f u ∙ run);
-          bare = refl;
           rest = λ y. absurd (omega arith);
           within = a;
           few = omega arith;
@@ -71,7 +70,6 @@ module _ (b : List ℕ) (from e : ℕ) (a : from ≤ length b) (q : e ≡ from +
     judged-to-end h rest =
         record {
           run = sym (rw (cut-last h) refl) ∙ run;
-          bare = refl;
           rest = λ y. sym (rw (cut-last h) refl) ∙ rest;
           within = a;
           few = omega arith;

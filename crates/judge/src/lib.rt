@@ -9,7 +9,7 @@ use walk::Outcome;
 use walk::Place;
 use walk::State;
 
-// Document 01's number and place; for an accepted file 0 and the number of its lines. The column is 0.
+// Document 01's number and place; for an accepted file 0 and the number of its lines. The column, from 1, of a line's refusal; any other reply's is 0.
 pub struct Reply {
     pub number: u8,
     pub place: usize,
@@ -82,7 +82,7 @@ pub fn judge_lines(state: State, lines: usize, bytes: &[u8], at: usize) -> Lines
                     state: s,
                     lines: n,
                     number: fault.number,
-                    column: 0,
+                    column: fault.column,
                     at: from,
                 };
             }
@@ -100,12 +100,12 @@ pub fn judge_lines(state: State, lines: usize, bytes: &[u8], at: usize) -> Lines
     }
 }
 
-// A file that ends inside a set: 7, past its lines.
+// A file that ends inside a set: 7, past its lines, in column 1.
 fn ends_inside(lines: usize) -> Reply
     requires { ⌜ lines ≤ 16777216 ⌝ }
-    ensures { λ r. ⌜ r ≡ reply 7 (lines + 1) ⌝ }
+    ensures { λ r. ⌜ r ≡ replyAt 7 (lines + 1) 1 ⌝ }
 {
-    bare_reply(7, lines + 1)
+    reply_at(7, lines + 1, 1)
 }
 
 // The reply at the end of a file that was not refused before, with the bytes after its last LF.
@@ -115,7 +115,7 @@ pub fn finish(s: State, lines: usize, rest: &[u8]) -> Reply
 {
     if 0 < rest.len() {
         let fault = line::line_fault(rest, false);
-        return bare_reply(fault.number, lines + 1);
+        return reply_at(fault.number, lines + 1, fault.column);
     }
     let place = s.place;
     match place {

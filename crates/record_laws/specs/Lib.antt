@@ -4,3 +4,8 @@ pub mod GroupLaws
 pub mod KeptReadingLaws
 pub mod LineReadingLaws
 pub mod RowGroupLaws
+pub mod Fault
+pub mod FieldFaultLaws
+pub mod StrayLaws
+pub mod BreaksLaws
+pub mod FaultLaws

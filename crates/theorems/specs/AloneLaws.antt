@@ -209,7 +209,7 @@ module _ {sets : List Set} {bytes : List ℕ} (w : Proper sets bytes) (k : ℕ) 
 
 -- THE SET ALONE. The bytes of set k of an accepted file, from its row's fourth number to its fifth, are a file of just that set, and every call
 -- answers of it as of set k in the whole file.
-pub set-alone : {sets : List Set} {bytes : List ℕ} → Proper sets bytes → {k : ℕ} {s : Set} {q : Part} → SetAt sets bytes k s q → Alone bytes (aloneIn bytes q) k s q
+pub set-alone : {sets : List Set} {bytes : List ℕ} → Proper sets bytes → {k : ℕ} {s : Set} {p : Part} → SetAt sets bytes k s p → Alone bytes (aloneIn bytes p) k s p
 set-alone {sets} {bytes} w {k} {s} {p} at =
     let ps = at .others in
     let d = at .stands in

@@ -1,24 +1,25 @@
 -- A file judged while it arrives: what the end accepts, and that a refused call leaves the record lent as it was.
 use mathlib.Core.Path.{_≡_, refl, sym, ap, _∙_}
-use mathlib.Core.Bool.{Bool, true, false, _||_}
-use mathlib.Core.List.{List, [], _∷_}
+use mathlib.Core.Bool.{Bool, true, false, _&&_, _||_}
+use mathlib.Core.List.{List}
 use mathlib.Core.Logic.{_⊎_, inl, inr, ⊎-elim}
 use Prim.Native.Nat.{ℕ, _<_, _≤_}
 use native.Mathlib.Omega.{arith}
-use borrow.Author.Tests.{lt-ltb, ltb-false}
-use lib.Dec.{ltb, eqb}
+use borrow.Author.Tests.{lt-ltb}
+use lib.Dec.{leb, ltb, eqb}
 use lib.ListN.{length, set}
 use Rattle.laws.specs.Choice.{pick}
 use Rattle.laws.specs.ChoiceLaws.{below-or-not, false-not-true}
 use Rattle.laws.specs.Cut.{cut}
+use Rattle.line.specs.Line.{refusal}
 use Rattle.walk.specs.declared.Place.{Place}
 use Rattle.walk.specs.declared.Place.the-variants.{Outside, Number, Plain, Typed}
 use Rattle.walk.specs.declared.State.{State}
 use Rattle.judge.specs.declared.Reply.{Reply}
-use Rattle.judge.specs.Judge.{judged, reply, going, atEnd, runEnd}
+use Rattle.judge.specs.Judge.{judged, reply, atLine, going, atEnd}
 use Rattle.stream.specs.declared.Stream.{Stream}
 use Rattle.stream.specs.declared.Answer.the-variants.{Refused}
-use Rattle.stream.specs.Stream.{isStrange, isPast, openOf, seen, answerOf, soFar, paper, endReply, closed, freshRecord}
+use Rattle.stream.specs.Stream.{OpenLine, columnsOf, faultOf, openFault, isStrange, isPast, openIn, seen, answerOf, soFar, paper, openEnd, endReply, closed, freshRecord}
 use Rattle.stream.specs.StreamLaws.{number-known, seen-past, seen-going, seen-refused, fresh-says}
 use Rattle.stream_c.specs.Lent.{isShort, streamOf, numbersAfter, lineAfter, startReply, startNumbers, startLine, endOf, endNumbers, Untouched, Burst, same}
 use Rattle.stream_laws.specs.Streaming.{burstAnswer, joined, Bursts}
@@ -26,7 +27,7 @@ use Rattle.stream_laws.specs.StreamingLaws as StreamingLaws
 use Rattle.theory.specs.Sets.{Set}
 use Rattle.theory.specs.Proper.{Proper}
 use Rattle.theorems.specs.JudgeLaws.{accepted-proper, proper-accepted}
-use Rattle.theorems.specs.TableLaws.{of-either, fault-number}
+use Rattle.theorems.specs.TableCallsLaws.{of-either}
 
 -- what is said of a fresh record brought up to date by bursts
 module _ {r : Stream} {bursts : List (List ℕ)} (k : Bursts freshRecord bursts r) where
@@ -47,48 +48,64 @@ module _ {r : Stream} {bursts : List (List ℕ)} (k : Bursts freshRecord bursts 
 pub burst-too-long : (bytes : List ℕ) → 16777216 < length bytes → burstAnswer bytes ≡ Refused (reply 1 0)
 burst-too-long bytes h = rw (lt-ltb 16777216 (length bytes) h) refl
 
--- the numbers that a record can tell
-known-few : (n : ℕ) → isStrange n ≡ false → n ≤ 15
+-- a number that is none of the calls' own
+abbrev Apart : ℕ → Type 0
+Apart n = (n ≤ 16) ⊎ (24 ≤ n)
+
+-- the numbers that a record can hold
+known-apart : (n : ℕ) → isStrange n ≡ false → Apart n
 unfolding isStrange
-known-few n h = by (eqb n 1) h
+known-apart n h =
+    ⊎-elim (λ a. ⊎-elim (λ b. by (eqb n 1) (rw (lt-ltb 15 n b, lt-ltb n 24 a) at h)) (λ b. inl (omega arith)) (below-or-not 15 n)) inr (below-or-not n 24)
   where
-    by : (t : Bool) → t || ltb 15 n ≡ false → n ≤ 15
+    by : (t : Bool) → t || true ≡ false → Apart n
     by true e = false-not-true (sym e)
-    by false e = ltb-false 15 n e
+    by false e = false-not-true (sym e)
 
-end-few : (p : Place) (sets n : ℕ) → atEnd p sets n .number ≤ 16
-end-few Outside sets n = of-either (λ (r : Reply). r .number ≤ 16) (eqb sets 0) (reply 16 0) (reply 0 n) (omega arith) (omega arith)
-end-few Number sets n = omega arith
-end-few Plain sets n = omega arith
-end-few (Typed d) sets n = omega arith
+end-apart : (p : Place) (sets n : ℕ) → Apart (atEnd p sets n .number)
+end-apart Outside sets n = of-either (λ (r : Reply). Apart (r .number)) (eqb sets 0) (reply 16 0) (reply 0 n) (inl (omega arith)) (inl (omega arith))
+end-apart Number sets n = inl (omega arith)
+end-apart Plain sets n = inl (omega arith)
+end-apart (Typed d) sets n = inl (omega arith)
 
-open-few : (s : State) (n : ℕ) (q : List ℕ) → runEnd (going s n) q .number ≤ 16
-open-few s n [] = end-few (s .place) (s .sets) n
-open-few s n (x ∷ xs) = omega (arith, fault-number (x ∷ xs) .1)
+fault-apart : (columns bad : ℕ) → Apart (faultOf false columns bad .number)
+unfolding faultOf
+fault-apart columns bad = by (ltb 0 bad && leb bad columns) (ltb 80 columns)
+  where
+    by : (b long : Bool) → Apart (pick b (refusal 2 bad) (pick long (refusal 3 1) (refusal 4 1)) .number)
+    by true long = inl (omega arith)
+    by false true = inl (omega arith)
+    by false false = inl (omega arith)
+
+open-apart : (s : State) (n : ℕ) (o : OpenLine) → Apart (openEnd (going s n) o .number)
+open-apart s n o =
+    of-either (λ (r : Reply). Apart (r .number)) (eqb (o .size) 0) (atEnd (s .place) (s .sets) n) (atLine n (openFault false o)) (end-apart (s .place) (s .sets) n)
+    (fault-apart (columnsOf false (o .last) (o .size)) (o .bad))
 
 record Told (c : Stream) : Type 0 where
-  so-far : (paper (soFar (seen c)) .number ≤ 16) ⊎ (paper (soFar (seen c)) .number ≡ 127)
-  end : endReply (seen c) .number ≤ 16
+  so-far : Apart (paper (soFar (seen c)) .number)
+  end : Apart (endReply (seen c) .number)
 
 told : (c : Stream) → Told c
 told c = by (isPast c) refl
   where
     by : (t : Bool) → isPast c ≡ t → Told c
-    by true e = record { so-far = inl (rw (seen-past c e) (omega arith)); end = rw (seen-past c e) (omega arith) }
+    by true e = record { so-far = rw (seen-past c e) (inl (omega arith)); end = rw (seen-past c e) (inl (omega arith)) }
     by false e =
         ⊎-elim (λ (h : 0 < c .number).
-        let few : c .number ≤ 16 = omega (arith, known-few (c .number) (number-known c e)) in
-        record { so-far = inl (rw (seen-refused c e h) few); end = rw (seen-refused c e h) few })
+        let z = seen-refused c e h in
+        let known = known-apart (c .number) (number-known c e) in
+        record { so-far = rw z known; end = rw z known })
         (λ (h : c .number ≤ 0).
         let z = seen-going c e (omega arith) in
-        record { so-far = inr (rw z refl); end = rw z (open-few (c .state) (c .lines) (openOf c)) })
+        record { so-far = rw z (inr (omega arith)); end = rw z (open-apart (c .state) (c .lines) (openIn c)) })
         (below-or-not 0 (c .number))
 
 -- an answer of a record that goes on is none of its refusals
 told-other : (c : Stream) (r : Reply) → r ≡ paper (soFar (seen c)) → (r .number ≡ 20) ⊎ (r .number ≡ 23) → ⊥
 told-other c r e n =
     let same-number : r .number ≡ paper (soFar (seen c)) .number = ap (λ (x : Reply). x .number) e in
-    ⊎-elim (λ few. ⊎-elim (λ h. omega arith) (λ h. omega arith) n) (λ far. ⊎-elim (λ h. omega arith) (λ h. omega arith) n) (told c .so-far)
+    ⊎-elim (λ few. ⊎-elim (λ h. omega arith) (λ h. omega arith) n) (λ many. ⊎-elim (λ h. omega arith) (λ h. omega arith) n) (told c .so-far)
 
 module _ {ns bs b ns′ bs′ : List ℕ} {r : Reply} (w : Burst same ns bs b ns′ bs′ r) (n : (r .number ≡ 20) ⊎ (r .number ≡ 23)) where
   kept-open : (t : Bool) → isShort ns bs ≡ false → streamOf ns bs .ended ≡ t → Untouched ns bs ns′ bs′
@@ -120,4 +137,4 @@ end-kept ns bs h = by (isShort ns bs) h
   where
     by : (t : Bool) → pick t (reply 20 0) (endReply (seen (streamOf ns bs))) .number ≡ 20 → pick t ns (set ns 11 1) ≡ ns
     by true h = refl
-    by false h = absurd (omega (arith, told (streamOf ns bs) .end))
+    by false h = absurd (⊎-elim (λ few. omega arith) (λ many. omega arith) (told (streamOf ns bs) .end))

@@ -27,7 +27,7 @@ use Rattle.writer.specs.Writer.{writeReply, writeOut}
 use Rattle.host.specs.Packed.{word, numberIn}
 use Rattle.host.specs.PackedLaws.{columnBits-most}
 use Rattle.host.specs.Answer.{valueBytes, numberShown, numberAnswer, valueAnswer, replyFor, bytesAfter}
-use Rattle.theorems.specs.TableLaws.{of-either}
+use Rattle.theorems.specs.TableCallsLaws.{of-either}
 
 -- the calls whose buffers are laid by their reply
 kept-by : (number : ℕ) (after before : List ℕ) → 0 < number → pick (eqb number 0) after before ≡ before

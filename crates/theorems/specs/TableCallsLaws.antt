@@ -1,23 +1,28 @@
--- The numbers that the calls answer are in document 01's table.
+-- The calls' replies are in document 01's table: the refusal of a line has a column, any other reply has none.
 use mathlib.Core.Path.{_≡_, refl}
 use mathlib.Core.Bool.{Bool, true, false, _&&_}
 use mathlib.Core.List.{List, [], _∷_, _++_}
+use mathlib.Core.Logic.{inl, inr}
 use Prim.{Unit, tt}
-use Prim.Native.Nat.{ℕ, zero, suc, _+_, _*_, _≤_}
+use Prim.Native.Nat.{ℕ, zero, suc, _+_, _*_, _≤_, _<_}
 use native.Mathlib.Omega.{arith}
+use borrow.Author.Tests.{ltb-true}
 use lib.Dec.{ltb, eqb}
 use lib.Ieee.{Float}
 use lib.IntN.{ℤ}
 use lib.ListN.{length}
 use Rattle.laws.specs.Choice.{pick}
 use Rattle.laws.specs.Cut.{cut, over, judge}
-use Rattle.line.specs.Line.{columns, refusal, passed, firstBad, lineFault}
+use Rattle.line.specs.declared.Refusal.{Refusal}
+use Rattle.line.specs.Line.{columns, refusal, lineFault}
 use Rattle.walk.specs.declared.Place.{Place}
 use Rattle.walk.specs.declared.Place.the-variants.{Outside, Number, Plain, Typed}
 use Rattle.walk.specs.declared.Outcome.{Outcome}
 use Rattle.walk.specs.declared.Outcome.the-variants.{Next, Refused}
 use Rattle.judge.specs.declared.Reply.{Reply}
-use Rattle.judge.specs.Judge.{judged, reply, lineStep, Run, going, refused, onOutcome}
+use Rattle.judge.specs.Judge.{judged, reply, atLine, lineStep, Run, going, refused, onOutcome}
+use Rattle.judge.specs.Refusal.{LineNumber}
+use Rattle.judge.specs.RefusalLaws.{line-number}
 use Rattle.real.specs.declared.Real.{Real}
 use Rattle.real.specs.declared.Real.the-variants as real
 use Rattle.exact.specs.declared.Exact.{Exact}
@@ -35,158 +40,210 @@ use Rattle.reader.specs.Reader.{Said, refusedBy, judgedFirst, setsFrom, realIn,
 use Rattle.values.specs.Values.{allFrom, allValues, replyIn, allReply}
 use Rattle.rewriter.specs.Rewriter.{rewrittenFile, rewriteReply}
 use Rattle.header.specs.declared.Header.{Header}
-use Rattle.header.specs.Header.{answer, replyOf, opened, pastNumber, headerStep, leaves, headerEnd, headerOf}
+use Rattle.header.specs.Header.{refusedAt, opened, pastFault, headerStep, leaves, headerEnd, headerOf}
 use Rattle.writer.specs.Writer.{firstUnfit, writtenSet, laidReply, writeReply}
-use Rattle.theorems.specs.Table.{CallsInTable}
-use Rattle.theorems.specs.TableLaws.{of-either, fault-number, refusal-few, judge-table}
+use Rattle.line_laws.specs.Fault.{LineFault}
+use Rattle.line_laws.specs.FaultLaws.{lineFault-fault}
+use Rattle.writer_laws.specs.HeaderRefusedLaws.{refused-place}
+use Rattle.walk_laws.specs.FaultLaws.{refused-fault}
+use Rattle.walk_laws.specs.FaultColumnLaws.{own-column, fault-column}
+use Rattle.walk_laws.specs.FileFaultLaws.{unended-some}
+use Rattle.theorems.specs.Table.{InTable, Replied, line, other, CallsInTable}
+use Rattle.theorems.specs.TableLaws.{own-number, judge-table}
 
--- a number of the table
-abbrev Few : Reply → Type 0
-Few r = r .number ≤ 22
+-- what holds of both holds of the one chosen
+pub of-either : {A : Type 0} (P : A → Type 0) (t : Bool) (a b : A) → P a → P b → P (pick t a b)
+of-either P true a b p q = p
+of-either P false a b p q = q
 
-few-judged : (bytes : List ℕ) → Few (judged bytes)
-few-judged bytes = omega (arith, judge-table bytes .number)
+-- the numbers of the calls' own replies
+abbrev Own : ℕ → Type 0
+Own n = (16 ≤ n) × (n ≤ 23)
 
--- the judge's reply, otherwise another of the table where the room is too short, otherwise 0
-few-in-room : (bytes : List ℕ) (short : Bool) (n place : ℕ) → n ≤ 22 → Few (pick (ltb 0 (judged bytes .number)) (judged bytes) (pick short (reply n 0) (reply 0 place)))
-few-in-room bytes short n place h =
-    of-either Few (ltb 0 (judged bytes .number)) (judged bytes) (pick short (reply n 0) (reply 0 place)) (few-judged bytes)
-    (of-either Few short (reply n 0) (reply 0 place) h (omega arith))
+-- an answer that is no refusal, and a refusal of the calls' own
+none : (p : ℕ) → Replied (reply 0 p)
+none p = other 0 p (inl (omega arith))
+
+own : (n p : ℕ) → Own n → Replied (reply n p)
+own n p h = other n p (inr h)
+
+judged-replied : (bytes : List ℕ) → Replied (judged bytes)
+judged-replied bytes = by (judge-table bytes)
+  where
+    by : {lines : ℕ} {r : Reply} → InTable lines r → Replied r
+    by {lines} InTable.accepted = none lines
+    by InTable.too-long = other 1 0 (inl (omega arith))
+    by InTable.no-set = own 16 0 (omega arith, omega arith)
+    by (InTable.line n p c w from last one eighty most) = line n p c w from one
+
+-- the judge's reply, otherwise another refusal where the room is too short, otherwise 0
+in-room : (bytes : List ℕ) (short : Bool) (n place : ℕ) → Own n
+    → Replied (pick (ltb 0 (judged bytes .number)) (judged bytes) (pick short (reply n 0) (reply 0 place)))
+in-room bytes short n place h =
+    of-either Replied (ltb 0 (judged bytes .number)) (judged bytes) (pick short (reply n 0) (reply 0 place)) (judged-replied bytes)
+    (of-either Replied short (reply n 0) (reply 0 place) (own n 0 h) (none place))
 
 -- the reader's refusals: the judge's, 18 and 21
-abbrev FewSaid : {A : Type 0} → Said A → Type 0
-FewSaid s = Few (s .reply)
+abbrev RepliedSaid : {A : Type 0} → Said A → Type 0
+RepliedSaid s = Replied (s .reply)
 
-few-after : {A : Type 0} (bytes : List ℕ) (s : Said A) → FewSaid s → FewSaid (judgedFirst (judged bytes) s)
-few-after bytes s h = of-either FewSaid (ltb 0 (judged bytes .number)) (refusedBy (judged bytes)) s (few-judged bytes) h
+no-such : Own 18
+no-such = (omega arith, omega arith)
 
-few-asked : {A : Type 0} (t : Bool) (s : Said A) → FewSaid s → FewSaid (pick t s (Reader.refused 18 0))
-few-asked t s h = of-either FewSaid t s (Reader.refused 18 0) h (omega arith)
+replied-after : {A : Type 0} (bytes : List ℕ) (s : Said A) → RepliedSaid s → RepliedSaid (judgedFirst (judged bytes) s)
+replied-after bytes s h = of-either RepliedSaid (ltb 0 (judged bytes .number)) (refusedBy (judged bytes)) s (judged-replied bytes) h
 
-few-shown : (a e : ℕ) (x : Real) → FewSaid (shownOf a e x)
-few-shown a e (real.Value n) = omega arith
-few-shown a e real.Blank = omega arith
-few-shown a e real.Malformed = omega arith
+replied-asked : {A : Type 0} (t : Bool) (s : Said A) → RepliedSaid s → RepliedSaid (pick t s (Reader.refused 18 0))
+replied-asked t s h = of-either RepliedSaid t s (Reader.refused 18 0) h (own 18 0 no-such)
 
-few-number : (bytes : List ℕ) (ps : List Part) (j : ℕ) → FewSaid (numberFrom bytes ps j)
-few-number bytes [] j = omega arith
-few-number bytes (p ∷ ps) j =
-    few-asked (ltb j (storedOf p)) (shownOf (firstByte p j) (pastByte p j) (realIn bytes p j)) (few-shown (firstByte p j) (pastByte p j) (realIn bytes p j))
+replied-shown : (a e : ℕ) (x : Real) → RepliedSaid (shownOf a e x)
+replied-shown a e (real.Value n) = none 0
+replied-shown a e real.Blank = own 18 0 no-such
+replied-shown a e real.Malformed = own 18 0 no-such
+
+replied-number : (bytes : List ℕ) (ps : List Part) (j : ℕ) → RepliedSaid (numberFrom bytes ps j)
+replied-number bytes [] j = own 18 0 no-such
+replied-number bytes (p ∷ ps) j =
+    replied-asked (ltb j (storedOf p)) (shownOf (firstByte p j) (pastByte p j) (realIn bytes p j)) (replied-shown (firstByte p j) (pastByte p j) (realIn bytes p j))
 
 -- of one number, and of several
-abbrev FewRead : Read → Type 0
-FewRead (read.Value x) = Unit
-FewRead (read.Refused n) = n ≤ 22
+abbrev OwnRead : Read → Type 0
+OwnRead (read.Value x) = Unit
+OwnRead (read.Refused n) = Own n
 
-few-exact : (x : Exact) → FewRead (onExact x)
-few-exact (exact.Value x) = tt
-few-exact exact.Outside = omega arith
+own-exact : (x : Exact) → OwnRead (onExact x)
+own-exact (exact.Value x) = tt
+own-exact exact.Outside = (omega arith, omega arith)
 
-few-read : (x : Real) → FewRead (readOf x)
+own-read : (x : Real) → OwnRead (readOf x)
 unfolding readOf
-few-read (real.Value n) = few-exact (exactOf (n .minus) (n .coefficient) (n .below) (n .scale))
-few-read real.Blank = omega arith
-few-read real.Malformed = omega arith
+own-read (real.Value n) = own-exact (exactOf (n .minus) (n .coefficient) (n .below) (n .scale))
+own-read real.Blank = no-such
+own-read real.Malformed = no-such
 
-data AllFew : List Read → Type 0 where
-  none : AllFew []
-  more : {r : Read} {rs : List Read} → FewRead r → AllFew rs → AllFew (r ∷ rs)
+data AllOwn : List Read → Type 0 where
+  nil : AllOwn []
+  more : {r : Read} {rs : List Read} → OwnRead r → AllOwn rs → AllOwn (r ∷ rs)
 
-few-reads : (g : ℕ → Real) (j k : ℕ) → AllFew (reads g j k)
+own-reads : (g : ℕ → Real) (j k : ℕ) → AllOwn (reads g j k)
 unfolding reads
-few-reads g j zero = none
-few-reads g j (suc k) = more (few-read (g j)) (few-reads g (suc j) k)
+own-reads g j zero = nil
+own-reads g j (suc k) = more (own-read (g j)) (own-reads g (suc j) k)
 
-few-whole : (place : ℕ) (xs : List Float) (rs : List Read) → AllFew rs → FewSaid (whole place xs rs)
+replied-whole : (place : ℕ) (xs : List Float) (rs : List Read) → AllOwn rs → RepliedSaid (whole place xs rs)
 unfolding whole
-few-whole place xs [] h = omega arith
-few-whole place xs (read.Value x ∷ rs) (more a h) = few-whole place (xs ++ (x ∷ [])) rs h
-few-whole place xs (read.Refused n ∷ rs) (more a h) = a
+replied-whole place xs [] h = none place
+replied-whole place xs (read.Value x ∷ rs) (more a h) = replied-whole place (xs ++ (x ∷ [])) rs h
+replied-whole place xs (read.Refused n ∷ rs) (more a h) = own n 0 a
 
-few-value : (bytes : List ℕ) (ps : List Part) (i : ℕ) → FewSaid (valueFrom bytes ps i)
+replied-value : (bytes : List ℕ) (ps : List Part) (i : ℕ) → RepliedSaid (valueFrom bytes ps i)
 unfolding valueWith
-few-value bytes [] i = omega arith
-few-value bytes (p ∷ ps) i =
+replied-value bytes [] i = own 18 0 no-such
+replied-value bytes (p ∷ ps) i =
     let c : ℕ = partCase p in
-    few-asked (ltb i (valuesIn p)) (valueWith (realIn bytes p) c i) (few-whole (valueKind c) [] _ (few-reads (realIn bytes p) (i * numbersOf c) (numbersOf c)))
+    replied-asked (ltb i (valuesIn p)) (valueWith (realIn bytes p) c i) (replied-whole (valueKind c) [] _ (own-reads (realIn bytes p) (i * numbersOf c) (numbersOf c)))
 
-few-all : (bytes : List ℕ) (ps : List Part) → FewSaid (allFrom bytes ps)
-few-all bytes [] = omega arith
-few-all bytes (p ∷ ps) =
-    few-asked (ltb 0 (valuesIn p)) (whole (storedOf p) [] (reads (realIn bytes p) 0 (storedOf p))) (few-whole (storedOf p) [] _ (few-reads (realIn bytes p) 0 (storedOf p)))
+replied-all : (bytes : List ℕ) (ps : List Part) → RepliedSaid (allFrom bytes ps)
+replied-all bytes [] = own 18 0 no-such
+replied-all bytes (p ∷ ps) =
+    replied-asked (ltb 0 (valuesIn p)) (whole (storedOf p) [] (reads (realIn bytes p) 0 (storedOf p))) (replied-whole (storedOf p) [] _ (own-reads (realIn bytes p) 0 (storedOf p)))
 
-few-places : (s : Said Float) (places : ℕ) → FewSaid s → Few (replyIn s places)
-few-places s places h =
+replied-places : (s : Said Float) (places : ℕ) → RepliedSaid s → Replied (replyIn s places)
+replied-places s places h =
     let room : Bool = ltb places (length (s .shown)) in
-    of-either Few (ltb 0 (s .reply .number)) (s .reply) (pick room (reply 20 0) (reply 0 (s .reply .place))) h
-    (of-either Few room (reply 20 0) (reply 0 (s .reply .place)) (omega arith) (omega arith))
+    of-either Replied (ltb 0 (s .reply .number)) (s .reply) (pick room (reply 20 0) (reply 0 (s .reply .place))) h
+    (of-either Replied room (reply 20 0) (reply 0 (s .reply .place)) (own 20 0 (omega arith, omega arith)) (none (s .reply .place)))
 
 pub calls-table : (bytes : List ℕ) (k i room : ℕ) → CallsInTable bytes k i room
 unfolding listReply storedNumber valueOf allReply allValues rewriteReply
 calls-table bytes k i room =
     record {
-      lister = few-in-room bytes (ltb room (6 * length (partsOf bytes))) 17 (length (partsOf bytes)) (omega arith);
-      number = few-after bytes (numberFrom bytes (setsFrom bytes k) i) (few-number bytes (setsFrom bytes k) i);
-      value = few-after bytes (valueFrom bytes (setsFrom bytes k) i) (few-value bytes (setsFrom bytes k) i);
-      all = few-places (judgedFirst (judged bytes) (allFrom bytes (setsFrom bytes k))) room (few-after bytes (allFrom bytes (setsFrom bytes k)) (few-all bytes (setsFrom bytes k)));
-      rewriter = few-in-room bytes (ltb room (length (rewrittenFile bytes))) 20 (length (rewrittenFile bytes)) (omega arith);
+      lister = in-room bytes (ltb room (6 * length (partsOf bytes))) 17 (length (partsOf bytes)) (omega arith, omega arith);
+      number = replied-after bytes (numberFrom bytes (setsFrom bytes k) i) (replied-number bytes (setsFrom bytes k) i);
+      value = replied-after bytes (valueFrom bytes (setsFrom bytes k) i) (replied-value bytes (setsFrom bytes k) i);
+      all = replied-places (judgedFirst (judged bytes) (allFrom bytes (setsFrom bytes k))) room (replied-after bytes (allFrom bytes (setsFrom bytes k)) (replied-all bytes (setsFrom bytes k)));
+      rewriter = in-room bytes (ltb room (length (rewrittenFile bytes))) 20 (length (rewrittenFile bytes)) (omega arith, omega arith);
     }
 
--- the writer's header
-fault-most : (cs : List ℕ) → lineFault true cs .number ≤ 4
-unfolding lineFault
-fault-most cs = go (ltb 0 (firstBad 1 cs)) (ltb 80 (length cs))
+-- the refusal of a line of the writer's header
+abbrev Lined : Refusal → Type 0
+Lined f = LineNumber (f .number) × (1 ≤ f .column)
+
+at-line : (n : ℕ) (f : Refusal) → Lined f → Replied (atLine n f)
+at-line n f h = line (f .number) (n + 1) (f .column) (h .0) (omega arith) (h .1)
+
+own-lined : {ended : Bool} {cs : List ℕ} {f : Refusal} → LineFault ended cs f → Lined f
+own-lined {cs = cs} w = (own-number w, own-column cs (omega arith) w .from)
+
+past-lined : (n c : ℕ) → (0 < n → Lined (refusal n c)) → Lined (pastFault (refusal n c))
+past-lined zero c h = ((omega arith, inl (omega arith)), omega arith)
+past-lined (suc n) c h = h (omega arith)
+
+abbrev RepliedRun : Run → Type 0
+RepliedRun (going s n) = Unit
+RepliedRun (refused r) = Replied r
+
+header-step-replied : (r : Run) (l : List ℕ) → RepliedRun r → RepliedRun (headerStep r l)
+header-step-replied (going s n) l h =
+    let own-fault : Refusal = lineFault true (columns true l) in
+    let late : Refusal = pastFault own-fault in
+    of-either RepliedRun (ltb n headerLines) (onOutcome n (lineStep s l)) (refused (atLine n late)) (go (lineStep s l) refl)
+    (at-line n late (past-lined (own-fault .number) (own-fault .column) (λ k. own-lined (lineFault-fault true (columns true l) k))))
   where
-    go : (bad long : Bool) → pick bad (refusal 2 (firstBad 1 cs)) (pick long (refusal 3 1) passed) .number ≤ 4
-    go true long = omega arith
-    go false true = omega arith
-    go false false = omega arith
-
-past-few : (n : ℕ) → n ≤ 4 → pastNumber n ≤ 22
-past-few zero h = omega arith
-past-few (suc n) h = omega arith
-
-abbrev FewRun : Run → Type 0
-FewRun (going s n) = Unit
-FewRun (refused r) = Few r
-
-few-header-step : (r : Run) (l : List ℕ) → FewRun r → FewRun (headerStep r l)
-few-header-step (going s n) l h =
-    of-either FewRun (ltb n headerLines) (onOutcome n (lineStep s l)) (refused (reply (pastNumber (lineFault true (columns true l) .number)) (n + 1))) (go (lineStep s l) refl)
-    (past-few (lineFault true (columns true l) .number) (fault-most (columns true l)))
-  where
-    go : (o : Outcome) → lineStep s l ≡ o → FewRun (onOutcome n o)
+    go : (o : Outcome) → lineStep s l ≡ o → RepliedRun (onOutcome n o)
     go (Next t) e = tt
-    go (Refused f) e = omega (arith, refusal-few s l f e)
-few-header-step (refused r) l h = h
+    go (Refused f) e = at-line n f (line-number s l f e, fault-column (refused-fault s l f e) .from)
+header-step-replied (refused r) l h = h
 
-few-header-lines : (ls : List (List ℕ)) (r : Run) → FewRun r → FewRun (over headerStep r ls)
+header-lines-replied : (ls : List (List ℕ)) (r : Run) → RepliedRun r → RepliedRun (over headerStep r ls)
 unfolding over
-few-header-lines [] r h = h
-few-header-lines (l ∷ ls) r h = few-header-lines ls (headerStep r l) (few-header-step r l h)
+header-lines-replied [] r h = h
+header-lines-replied (l ∷ ls) r h = header-lines-replied ls (headerStep r l) (header-step-replied r l h)
 
-few-leaves : (p : Place) → leaves p .number ≤ 22
-few-leaves Outside = omega arith
-few-leaves Number = omega arith
-few-leaves Plain = omega arith
-few-leaves (Typed d) = omega arith
+-- a header's reply that names a line; `leaves` has replies that name none, for places that eleven lines do not leave
+abbrev IfLined : Header → Type 0
+IfLined h = 1 ≤ h .reply .place → Replied (h .reply)
 
-few-header-end : (r : Run) (rest : List ℕ) → FewRun r → headerEnd r rest .number ≤ 22
-few-header-end (going s n) [] h =
-    of-either (λ (x : Header). x .number ≤ 22) (ltb n headerLines) (answer 7 (n + 1) 0 0) (leaves (s .place)) (omega arith) (few-leaves (s .place))
-few-header-end (going s n) (x ∷ xs) h = omega (arith, fault-number (x ∷ xs) .1)
-few-header-end (refused r) rest h = h
+leaves-replied : (p : Place) → IfLined (leaves p)
+leaves-replied Outside h = absurd (omega arith)
+leaves-replied Number h = absurd (omega arith)
+leaves-replied Plain h = absurd (omega arith)
+leaves-replied (Typed d) h = none 0
 
-pub writer-table : (header : List ℕ) (xs ss : List ℤ) (room : ℕ) → writeReply header xs ss room .number ≤ 22
-unfolding writeReply laidReply headerOf judge
-writer-table header xs ss room =
-    let h : Header = headerOf header in
-    let text : List ℕ = writtenSet header (h .case) xs ss in
-    let unfit : ℕ = firstUnfit (h .case) 0 xs ss in
-    let lay : Reply = pick (ltb room (length text)) (reply 20 0) (reply 0 (length text)) in
+header-end-replied : (r : Run) (rest : List ℕ) → RepliedRun r → IfLined (headerEnd r rest)
+header-end-replied (going s n) [] h =
+    of-either IfLined (ltb n headerLines) (refusedAt n (refusal 7 1)) (leaves (s .place))
+    (λ a. at-line n (refusal 7 1) ((omega arith, inl (omega arith)), omega arith)) (leaves-replied (s .place))
+header-end-replied (going s n) (x ∷ xs) h = λ a. at-line n (lineFault false (x ∷ xs)) (own-lined (lineFault-fault false (x ∷ xs) (unended-some (x ∷ xs))))
+header-end-replied (refused r) rest h = λ a. h
+
+header-lined : (header : List ℕ) → IfLined (headerOf header)
+unfolding headerOf judge
+header-lined header =
+    header-end-replied (over headerStep (going opened 0) (cut header .lines)) (cut header .rest) (header-lines-replied (cut header .lines) (going opened 0) tt)
+
+header-replied : (header : List ℕ) → 0 < headerOf header .reply .number → Replied (headerOf header .reply)
+header-replied header h = header-lined header (refused-place header h .0)
+
+laid-replied : (header : List ℕ) (c stored : ℕ) (xs ss : List ℤ) (room : ℕ) → Replied (laidReply header c stored xs ss room)
+unfolding laidReply
+laid-replied header c stored xs ss room =
+    let size : ℕ = length (writtenSet header c xs ss) in
+    let unfit : ℕ = firstUnfit c 0 xs ss in
+    let lay : Reply = pick (ltb room size) (reply 20 0) (reply 0 size) in
     let fit : Reply = pick (ltb unfit (length xs)) (reply 19 unfit) lay in
-    let few-lay : Few lay = of-either Few (ltb room (length text)) (reply 20 0) (reply 0 (length text)) (omega arith) (omega arith) in
-    let few-fit : Few fit = of-either Few (ltb unfit (length xs)) (reply 19 unfit) lay (omega arith) few-lay in
-    of-either Few (ltb 0 (h .number)) (replyOf h) (laidReply header (h .case) (h .stored) xs ss room)
-    (few-header-end (over headerStep (going opened 0) (cut header .lines)) (cut header .rest) (few-header-lines (cut header .lines) (going opened 0) tt))
-    (of-either Few (eqb (length xs) (h .stored) && eqb (length ss) (h .stored)) fit (reply 22 0) few-fit (omega arith))
+    of-either Replied (eqb (length xs) stored && eqb (length ss) stored) fit (reply 22 0)
+    (of-either Replied (ltb unfit (length xs)) (reply 19 unfit) lay (own 19 unfit (omega arith, omega arith))
+    (of-either Replied (ltb room size) (reply 20 0) (reply 0 size) (own 20 0 (omega arith, omega arith)) (none size)))
+    (own 22 0 (omega arith, omega arith))
+
+pub writer-table : (header : List ℕ) (xs ss : List ℤ) (room : ℕ) → Replied (writeReply header xs ss room)
+unfolding writeReply
+writer-table header xs ss room = by (ltb 0 (headerOf header .reply .number)) refl
+  where
+    laid : Reply
+    laid = laidReply header (headerOf header .case) (headerOf header .stored) xs ss room
+
+    by : (t : Bool) → ltb 0 (headerOf header .reply .number) ≡ t → Replied (pick t (headerOf header .reply) laid)
+    by true e = header-replied header (ltb-true 0 (headerOf header .reply .number) e)
+    by false e = laid-replied header (headerOf header .case) (headerOf header .stored) xs ss room

@@ -1,4 +1,4 @@
--- THE PAGE OF THEOREMS: the three demands and C-11, sentence by sentence, each with the theorems that carry it; what is proved stands in the files that
+-- THE PAGE OF THEOREMS: the three demands, C-11 and C-14, sentence by sentence, each with the theorems that carry it; what is proved stands in the files that
 -- they cite. A file is a list of bytes. Every call is proved to answer, for all bytes and numbers, by definitions that are named here, in its `ensures`
 -- (crates/host/src/lib.rt); `judged` is the judge's reply, and `Proper sets bytes` says from a list of sets alone that a text is a proper writing of it.
 use mathlib.Core.Path.{_≡_}
@@ -14,20 +14,23 @@ use Rattle.real.specs.Real.{realOf}
 use Rattle.exact.specs.Exact.{magnitudeOf}
 use Rattle.exact.specs.Bits.{bitsOf}
 use Rattle.layout.specs.Layout.{numbersOf}
+use Rattle.line.specs.declared.Refusal.{Refusal}
+use Rattle.record_table.specs.TypedSets.{headerLines}
 use Rattle.judge.specs.declared.Reply.{Reply}
-use Rattle.judge.specs.Judge.{judged, reply}
+use Rattle.judge.specs.Judge.{judged, reply, replyAt, atLine}
 use Rattle.parts.specs.Parts.{Part, partsOf, datasetOf, pastOf}
 use Rattle.parts.specs.Function.{countOf, dataStart, firstByte, pastByte}
 use Rattle.reader.specs.Reader.{said, refused, shownOf, storedNumber, valueOf, valueWith}
 use Rattle.values.specs.Values.{allValues, allReply, allPlaces}
-use Rattle.rewriter.specs.Rewriter.{rewrittenFile, rewriteReply, rewriteOut}
+use Rattle.rewriter.specs.Rewriter.{headText, rewrittenFile, rewriteReply, rewriteOut}
+use Rattle.header.specs.Header.{headerOf}
 use Rattle.writer.specs.Writer.{writeReply, writeOut}
 use Rattle.stream.specs.declared.Stream.{Stream}
 use Rattle.stream.specs.declared.Answer.the-variants.{SoFar, Refused}
 use Rattle.stream.specs.Stream.{seen, Stepped, answerOf, paper, endReply, closed, freshRecord}
 use Rattle.stream_c.specs.Lent.{isShort, streamOf, startReply, startNumbers, startLine, endOf, endNumbers, Untouched, Burst, same}
 use Rattle.lister.specs.Lister.{rowsOf, listReply, listRows}
-use Rattle.host.specs.Packed.{numberIn}
+use Rattle.host.specs.Packed.{InWord, word, numberIn}
 use Rattle.host.specs.Answer.{numberAnswer, valueAnswer, replyFor, bytesAfter}
 use Rattle.theory.specs.Sets.{Set}
 use Rattle.theory.specs.Proper.{Proper}
@@ -38,15 +41,21 @@ use Rattle.parts_laws.specs.Declared.{declared, setCase}
 use Rattle.parts_laws.specs.Stored.{storedCount, storedItem}
 use Rattle.rewriter_laws.specs.Form.{InForm, KeepsSpellings}
 use Rattle.writer_laws.specs.Reply.{Coefficients}
+use Rattle.writer_laws.specs.HeaderRefused.{twelfthFault}
+use Rattle.walk_laws.specs.Fault.{InLine}
+use Rattle.walk_laws.specs.FileFault.{FileFault, Judged}
 use Rattle.stream_laws.specs.Streaming.{burstAnswer, joined, Bursts}
 use Rattle.stream_laws.specs.Calls.{Calls}
-use Rattle.theorems.specs.Table.{InTable, CallsInTable}
+use Rattle.theorems.specs.Table.{InTable, Replied, CallsInTable}
 use Rattle.theorems.specs.Stands.{SetAt, At58}
 use Rattle.theorems.specs.Answers.{Answered, NoSuch, AsJudged, InTurn, Filled, valueSaid, allSaid, ownBytes}
 use Rattle.theorems.specs.Columns.{Columns, DataByte, OfOneValue}
 use Rattle.theorems.specs.Alone.{aloneIn, setsAlone, together, Alone}
 use Rattle.theorems.specs.LaidOut.{writtenText, LaidOut, ReadAs}
 use Rattle.exact.specs.ExactLaws as ExactLaws
+use Rattle.writer_laws.specs.HeaderRefusedLaws as HeaderRefusedLaws
+use Rattle.walk_laws.specs.FaultColumnLaws as FaultColumnLaws
+use Rattle.walk_laws.specs.FileFaultLaws as FileFaultLaws
 use Rattle.stream_laws.specs.StreamingLaws as StreamingLaws
 use Rattle.stream_laws.specs.CallsLaws as CallsLaws
 use Rattle.theorems.specs.TableLaws as TableLaws
@@ -73,7 +82,7 @@ judge-first = ReaderLaws.judge-first
 pub calls-table : (bytes : List ℕ) (k i room : ℕ) → CallsInTable bytes k i room
 calls-table = TableCallsLaws.calls-table
 
-pub writer-table : (header : List ℕ) (xs ss : List ℤ) (room : ℕ) → writeReply header xs ss room .number ≤ 22
+pub writer-table : (header : List ℕ) (xs ss : List ℤ) (room : ℕ) → Replied (writeReply header xs ss room)
 writer-table = TableCallsLaws.writer-table
 
 -- a set by its number from 1, a stored number or a value by its index from 0
@@ -296,3 +305,36 @@ module _ {A : Type 0} {form : Reply → A} (ns bs : List ℕ) (s : isShort ns bs
 
   pub calls-late : {b ns″ bs″ : List ℕ} {r : A} → Burst form (endNumbers ns′ bs′) bs′ b ns″ bs″ r → Untouched (endNumbers ns′ bs′) bs′ ns″ bs″ × (r ≡ form (reply 23 0))
   calls-late = CallsLaws.calls-late ns bs s k
+
+-- C-14. "Every refusal of a line now carries the column too: of the first such byte for 2 and 13, the field's first column for 10, 11, 12, 14, 24 and 25,
+-- otherwise 1.", "For 14 it is the earliest offending field.", "24, integer field blank, and 25, real field blank, in the places of 10 and 12, which keep the
+-- rest": a reply that names a line is the refusal of the earliest bad line, and `Fault` says from that line what is wrong there, and at which column
+pub refusal-sound : (bytes : List ℕ) → length bytes ≤ 16777216 → Judged bytes (judged bytes)
+refusal-sound = FileFaultLaws.judged-fault
+
+pub refusal-complete : (bytes : List ℕ) {k : ℕ} {f : Refusal} → length bytes ≤ 16777216 → FileFault bytes k f → judged bytes ≡ atLine k f
+refusal-complete = FileFaultLaws.fault-judged
+
+pub refusal-column : {bytes : List ℕ} {k : ℕ} {f : Refusal} → FileFault bytes k f → InLine bytes f
+refusal-column = FaultColumnLaws.file-column
+
+-- "Any other reply of number and place carries 0.": `judge-table`, `calls-table` and `writer-table`, of bursts `any-cut` and `calls-answer`; and
+pub refusal-too-long : (bytes : List ℕ) → 16777216 < length bytes → judged bytes ≡ reply 1 0
+refusal-too-long = FileFaultLaws.too-long-judged
+
+-- the word that carries the judge's reply to a host loses nothing of it (`InWord`)
+pub reply-bounds : (bytes : List ℕ) → InWord (judged bytes)
+reply-bounds = TableLaws.judged-bounds
+
+pub reply-word : (a b : List ℕ) → word (judged a) ≡ word (judged b) → judged a ≡ judged b
+reply-word = TableLaws.judged-word
+
+-- the writer's header is refused as the file that it opens, two lines up; past eleven lines, for its twelfth
+module _ (header : List ℕ) (h : 0 < headerOf header .reply .number) where
+  pub header-judged : (length (cut header .lines) ≤ headerLines) ⊎ (headerOf header .reply .place ≤ headerLines) → length (headText 58 ++ header) ≤ 16777216
+      → judged (headText 58 ++ header) ≡ replyAt (headerOf header .reply .number) (headerOf header .reply .place + 2) (headerOf header .reply .column)
+  header-judged = HeaderRefusedLaws.refused-judged header h
+
+  pub header-twelfth : headerLines < length (cut header .lines) → headerLines < headerOf header .reply .place
+      → headerOf header .reply ≡ atLine headerLines (twelfthFault (getD (cut header .lines) headerLines []))
+  header-twelfth = HeaderRefusedLaws.past-refused header h

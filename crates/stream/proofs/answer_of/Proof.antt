@@ -27,14 +27,14 @@ returns-2 c =
     let at-if1 = at-if2 .before .before in
     rw (c .bare-reply2 .ensures, seen-past (at-if1 .before .args .c) (sym (at-if2 .before .is-past .ensures) ∙ at-if2 .if2 .taken), at-if1 .if1 .left) refl
 
-add-bare-reply : tie.Need-add-bare-reply
-add-bare-reply c =
+add-reply-at : tie.Need-add-reply-at
+add-reply-at c =
     let at-is-past = c .before .before .before .before in
     let at-start = at-is-past .before .before in
     omega (arith, past-not (at-start .args .c) (sym (at-is-past .is-past .ensures) ∙ c .before .before .before .if2 .left))
 
-bare-reply-requires-3 : tie.Need-bare-reply-requires-3
-bare-reply-requires-3 c κs = search needs
+reply-at-requires : tie.Need-reply-at-requires
+reply-at-requires c κs = search needs
 
 returns-3 : tie.Need-returns-3
 unfolding answerOf
@@ -43,7 +43,7 @@ returns-3 c =
     let at-if2 = at-if3 .before .before in
     let at-if1 = at-if2 .before .before in
     let refused = seen-refused (at-if1 .before .args .c) (sym (at-if2 .before .is-past .ensures) ∙ at-if2 .if2 .left) (at-if3 .if3 .taken) in
-    rw (c .bare-reply3 .ensures, refused, at-if1 .if1 .left) refl
+    rw (c .reply-at .ensures, refused, at-if1 .if1 .left) refl
 
 returns-4 : tie.Need-returns-4
 unfolding answerOf
@@ -59,7 +59,7 @@ answer-of-spec = tie.close (tie.spec
     is-past-requires
     bare-reply-requires-2
     returns-2
-    add-bare-reply
-    bare-reply-requires-3
+    add-reply-at
+    reply-at-requires
     returns-3
     returns-4)

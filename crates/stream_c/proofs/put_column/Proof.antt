@@ -1,9 +1,9 @@
--- `stream_c::put_unused` meets its contract.
+-- `stream_c::put_column` meets its contract.
 use lib.ListN.{length-set}
-use Rattle.stream_c.specs.LentLaws.{four-laid}
+use Rattle.stream_c.specs.LentLaws.{column-laid}
 use borrow.Author.Needs.{needs}
-use Rattle.stream_c.proofs.put_unused.Statement.{statement}
-use Rattle.stream_c.proofs.put_unused.Tie as tie
+use Rattle.stream_c.proofs.put_column.Statement.{statement}
+use Rattle.stream_c.proofs.put_column.Tie as tie
 
 slice-write-out : tie.Need-slice-write-out
 slice-write-out c = search needs
@@ -21,10 +21,10 @@ same-length : tie.Need-same-length
 same-length c = search needs
 
 returns : tie.Need-returns
-returns c = four-laid (c .args .out .now) (c .pre)
+returns c = column-laid (c .args .out .now) (c .args .column) (c .pre)
 
-pub put-unused-spec : {M : Type 1} → statement M
-put-unused-spec =
+pub put-column-spec : {M : Type 1} → statement M
+put-column-spec =
     tie.close
     (tie.spec
     slice-write-out
