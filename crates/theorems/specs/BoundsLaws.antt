@@ -85,8 +85,11 @@ unfolding judged
 too-long-judged bytes h = rw (lt-ltb 16777216 (length bytes) h) refl
 
 pub judged-bounds : (bytes : List ℕ) → InBounds (judged bytes)
-judged-bounds bytes = ⊎-elim (λ h. rw (too-long-judged bytes h) (bare-bounds 1 0 (inr (inl refl)) (omega arith) (omega arith))) (λ h. by h (judged-fault bytes) refl) (below-or-not 16777216 (length bytes))
+judged-bounds bytes = ⊎-elim long (λ h. by h (judged-fault bytes) refl) (below-or-not 16777216 (length bytes))
   where
+    long : 16777216 < length bytes → InBounds (judged bytes)
+    long h = rw (too-long-judged bytes h) (bare-bounds 1 0 (inr (inl refl)) (omega arith) (omega arith))
+
     by : {r : Reply} → length bytes ≤ 16777216 → Judged bytes r → judged bytes ≡ r → InBounds r
     by h (accepted n) e = bare-bounds 0 n (inl refl) (omega arith) (omega (arith, judged-accepted bytes n e .lines, lines-most bytes))
     by h too-long e = bare-bounds 1 0 (inr (inl refl)) (omega arith) (omega arith)
