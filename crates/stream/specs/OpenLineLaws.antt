@@ -59,7 +59,9 @@ firstBad-from h k (x ∷ l) p = go (isAllowed x) (firstBad-from h (k + 1) l (ome
 first-append : (a b : List ℕ) → take 80 (take 80 a ++ b) ≡ take 80 (a ++ b)
 first-append a b =
     ⊎-elim
-    (λ h. let n : length (take 80 a) ≡ 80 = length-take-le 80 a (omega arith) in take-append-le 80 (take 80 a) b (omega arith) ∙ take-take 80 80 a (omega arith) ∙ sym (take-append-le 80 a b (omega arith)))
+    (λ h.
+    let n : length (take 80 a) ≡ 80 = length-take-le 80 a (omega arith) in
+    take-append-le 80 (take 80 a) b (omega arith) ∙ take-take 80 80 a (omega arith) ∙ sym (take-append-le 80 a b (omega arith)))
     (λ h. ap (λ (x : List ℕ). take 80 (x ++ b)) (take-all 80 a h))
     (below-or-not 80 (length a))
 

@@ -4,9 +4,10 @@ use mathlib.Core.Path.{_≡_}
 use mathlib.Core.Bool.{Bool, true, false, _&&_, _||_}
 use mathlib.Core.List.{List, [], _∷_, _++_}
 use mathlib.Core.Logic.{_⊎_}
-use Prim.Native.Nat.{ℕ, _+_, _-_, _≤_, _<_}
+use Prim.Native.Nat.{ℕ, _+_, _-_, _≤_, _<_, min}
 use lib.Dec.{leb, ltb, eqb}
-use lib.ListN.{length, getD, take, replicate}
+use lib.ListN.{length, getD, take, set, replicate}
+use lib.Seq.{paste}
 use Rattle.laws.specs.Choice.{pick}
 use Rattle.laws.specs.Cut.{cut, over}
 use Rattle.line.specs.Line.{refusal, passed, firstBad}
@@ -101,24 +102,77 @@ isPast c = ((ltb 16777216 (c .total) || ltb (c .total) (c .lines)) || ltb (c .to
 abbrev pub lineIn : List ℕ → ℕ → ℕ → OpenLine
 lineIn p h k = openLine (take h (take 80 p)) (getD p 80 0) h k
 
+abbrev pub openIn : Stream → OpenLine
+openIn c = lineIn (c .pending) (c .held) (c .column)
+
+-- the refusal that a record holds
+abbrev pub refusalIn : Stream → Reply
+refusalIn c = replyAt (c .number) (c .lines + 1) (c .column)
+
 -- what a record says. Its open bytes past the held ones say nothing, nor its state and open line once a line is refused, nor all but its length and
--- its end once past the limit: there two correct programs may differ, and no answer does. What a record answers that no bursts give is not the
--- paper's; like any other it answers 23 where it is ended, otherwise 1 where it is past, otherwise the number, line and column that it holds, or "so far", with a
--- place of at most 16,777,217.
+-- its end once past the limit: no answer depends on them. What a record answers that no bursts give is not the paper's; like any other it answers 23 where
+-- it is ended, otherwise 1 where it is past, otherwise the number, line and column that it holds, or "so far", with a place of at most 16,777,217.
 unfoldable pub seen : Stream → Seen
 seen c =
     pick (isPast c) past
     (pick (eqb (c .number) 0)
-    (inLimit (going (c .state) (c .lines)) (lineIn (c .pending) (c .held) (c .column)) (c .total))
-    (inLimit (refused (replyAt (c .number) (c .lines + 1) (c .column))) (openOf []) (c .total)))
+    (inLimit (going (c .state) (c .lines)) (openIn c) (c .total))
+    (inLimit (refused (refusalIn c)) (openOf []) (c .total)))
 
--- a record brought up to date by a burst: untouched after the end was asked, otherwise one burst further; past the limit the running length stays
--- at 16,777,217
+-- a record made by a burst
+abbrev pub made : State → ℕ → ℕ → ℕ → ℕ → List ℕ → ℕ → Stream
+made s n k c t p h = record { state = s; lines = n; number = k; column = c; total = t; pending = p; held = h; ended = false }
+
+-- the record at another running length
+abbrev pub atTotal : Stream → ℕ → Stream
+atTotal c t =
+    record {
+      state = c .state;
+      lines = c .lines;
+      number = c .number;
+      column = c .column;
+      total = t;
+      pending = c .pending;
+      held = c .held;
+      ended = c .ended;
+    }
+
+-- a record's bytes with more of the open line after its first h: as far as 80, and the last one
+unfoldable pub pushed : List ℕ → ℕ → List ℕ → List ℕ
+pushed p h b = pick (eqb (length b) 0) p (set (paste p (min h 80) b (min (80 - min h 80) (length b))) 80 (getD b (length b - 1) 0))
+
+-- the record that a burst leaves: by its lines after the first, from the state before them, and its rest; by its first line, which ends the open one; by
+-- whether it has one
+abbrev pub linesLeft : State → Run → List ℕ → ℕ → Stream
+linesLeft s (going t n) rest total = made t n 0 (firstBad 1 rest) total (pushed (replicate 81 0) 0 rest) (length rest)
+linesLeft s (refused r) rest total = made s (r .place - 1) (r .number) (r .column) total (replicate 81 0) 0
+
+abbrev pub endLeft : Stream → List ℕ → Outcome → List (List ℕ) → List ℕ → ℕ → Stream
+endLeft c p (Outcomes.Next s) ls rest total = linesLeft s (over runStep (going s (c .lines + 1)) ls) rest total
+endLeft c p (Outcomes.Refused f) ls rest total = made (c .state) (c .lines) (f .number) (f .column) total p 0
+
+abbrev pub burstLeft : Stream → List (List ℕ) → List ℕ → ℕ → Stream
+burstLeft c [] rest total = made (c .state) (c .lines) 0 (longer (openIn c) rest .bad) total (pushed (c .pending) (c .held) rest) (c .held + length rest)
+burstLeft c (l ∷ ls) rest total = endLeft c (pushed (c .pending) (c .held) l) (openOutcome (c .state) (longer (openIn c) l)) ls rest total
+
+-- the whole of it: past the limit, and once a line is refused, only the running length moves on; after the end was asked nothing does
+unfoldable pub leftOpen : Stream → List ℕ → Stream
+leftOpen c b =
+    pick (isPast c || ltb 16777216 (c .total + length b)) (atTotal c 16777217)
+    (pick (eqb (c .number) 0) (burstLeft c (cut b .lines) (cut b .rest) (c .total + length b))
+    (atTotal c (c .total + length b)))
+
+unfoldable pub left : Stream → List ℕ → Stream
+left c b = pick (c .ended) c (leftOpen c b)
+
+-- a record brought up to date by a burst: untouched after the end was asked, otherwise what it says is one burst further; past the limit the running
+-- length stays at 16,777,217. The whole of it is fixed.
 pub record Stepped (c : Stream) (b : List ℕ) (r : Stream) : Type 0 where
   pub untouched : c .ended ≡ true → r ≡ c
   pub further : c .ended ≡ false → seen r ≡ stepOf (seen c) b
   pub saturated : c .ended ≡ false → seen r ≡ past → r .total ≡ 16777217
   pub ended : r .ended ≡ c .ended
+  pub whole : r ≡ left c b
 
 -- the answer of a burst, from the record it leaves: "23, a burst after the end was asked, first of all"; "1 once the running length is past the
 -- limit, otherwise the refusal of the earliest bad line whose LF has come, otherwise 'so far' with the number of finished lines"
@@ -167,19 +221,16 @@ freshRecord = record { state = start; lines = 0; number = 0; column = 0; total =
 unfoldable pub judgedOn : State → ℕ → List ℕ → ℕ → Seen
 judgedOn s n l total = kept (over runStep (going s n) (cut l .lines)) (openOf (cut l .rest)) total
 
--- the record at another running length
-abbrev pub atTotal : Stream → ℕ → Stream
-atTotal c t =
-    record {
-      state = c .state;
-      lines = c .lines;
-      number = c .number;
-      column = c .column;
-      total = t;
-      pending = c .pending;
-      held = c .held;
-      ended = c .ended;
-    }
+-- what is seen after a burst on a record that is neither past the limit nor refused
+abbrev pub arrivedOn : Stream → List ℕ → ℕ → Seen
+arrivedOn c b total = arrived (going (c .state) (c .lines)) (openIn c) (cut b .lines) (cut b .rest) total
+
+-- and the records that are left
+abbrev pub linesOn : State → ℕ → List ℕ → ℕ → Stream
+linesOn s n l total = linesLeft s (over runStep (going s n) (cut l .lines)) (cut l .rest) total
+
+abbrev pub leftOn : Stream → List ℕ → ℕ → Stream
+leftOn c b total = burstLeft c (cut b .lines) (cut b .rest) total
 
 -- the running length with m bytes more, or a number past the limit
 pub record Running (c : Stream) (m r : ℕ) : Type 0 where
@@ -192,7 +243,4 @@ pub record Pushed (line : List ℕ) (h : ℕ) (b line′ : List ℕ) : Type 0 wh
   pub wide : length line′ ≡ 81
   pub first : take (h + length b) (take 80 line′) ≡ take 80 (take h (take 80 line) ++ b)
   pub last : getD line′ 80 0 ≡ getD b (length b - 1) (getD line 80 0)
-
--- a record made by a burst
-abbrev pub made : State → ℕ → ℕ → ℕ → ℕ → List ℕ → ℕ → Stream
-made s n k c t p h = record { state = s; lines = n; number = k; column = c; total = t; pending = p; held = h; ended = false }
+  pub whole : line′ ≡ pushed line h b

@@ -1,15 +1,15 @@
 -- The laws that a burst's step needs: what a record says, and the bytes that come, cut into lines.
 use mathlib.Core.Path.{_≡_, refl, sym, ap, _∙_}
 use mathlib.Core.Bool.{Bool, true, false, _||_}
-use mathlib.Core.List.{List, [], _∷_, _++_, append-assoc, append-nil}
+use mathlib.Core.List.{List, [], _∷_, _++_, append-nil}
 use mathlib.Core.Logic.{_⊎_, inl, inr, ⊎-elim}
-use Prim.Native.Nat.{ℕ, suc, _+_, _-_, _≤_, _<_, min}
+use Prim.Native.Nat.{ℕ, _+_, _-_, _≤_, _<_, min}
 use native.Mathlib.Numerals.{add-one}
 use native.Mathlib.Omega.{arith}
 use borrow.Author.Tests.{ltb-false, lt-ltb, le-ltb, eq-eqb, ne-eqb}
 use lib.Dec.{ltb, eqb}
 use lib.ListN.{length, getD, take, drop, set, replicate, length-append, length-take, length-drop, length-set}
-use lib.Seq.{take-all, take-take, take-suc, take-suc-set, take-append-add, take-set-le, length-take-le, getD-set-same}
+use lib.Seq.{paste, paste-suc, length-paste, take-paste, take-all, take-take, take-append-add, take-set-le, length-take-le, getD-set-same}
 use Rattle.laws.specs.Choice.{pick}
 use Rattle.laws.specs.ChoiceLaws.{below-or-not, false-not-true}
 use Rattle.laws.specs.Cut.{cut, lineLen, over}
@@ -18,6 +18,7 @@ use Rattle.line.specs.Line.{firstBad}
 use Rattle.line.specs.LineLaws.{lineLen-most}
 use Rattle.line.specs.declared.Refusal.{Refusal}
 use Rattle.walk.specs.declared.State.{State}
+use Rattle.walk.specs.declared.Outcome.{Outcome}
 use Rattle.walk.specs.declared.Outcome.the-variants.{Next, Refused}
 use Rattle.walk.specs.Step.{start}
 use Rattle.judge.specs.Judge.{replyAt, atLine, Run, going, refused, onOutcome, runStep, runEnd}
@@ -29,12 +30,17 @@ use Rattle.judge.specs.Refusal.{LineNumber}
 use Rattle.judge.specs.LinesLaws.{judged-number}
 use Rattle.stream.specs.declared.Stream.{Stream}
 use Rattle.stream.specs.Stream.{OpenLine, openOf, longer, columnsOf, faultOf, openOutcome, Seen, inLimit, past, kept, lineEnd, arrived, stepOf, isStrange, isPast}
-use Rattle.stream.specs.Stream.{lineIn, seen, Stepped, endReply, closed, freshRecord, judgedOn, atTotal, Running, Pushed, made}
+use Rattle.stream.specs.Stream.{lineIn, openIn, refusalIn, seen, Stepped, endReply, closed, freshRecord, judgedOn, arrivedOn, atTotal, Running, Pushed, made}
+use Rattle.stream.specs.Stream.{pushed, linesLeft, endLeft, burstLeft, leftOpen, left, linesOn, leftOn}
 use Rattle.stream.specs.OpenLineLaws.{getD-within, longer-none, open-number}
 
 or-left : (a b : Bool) → a || b ≡ false → a ≡ false
 or-left true b h = h
 or-left false b h = refl
+
+or-true : (a : Bool) → a || true ≡ true
+or-true true = refl
+or-true false = refl
 
 or-right : (a b : Bool) → a || b ≡ false → b ≡ false
 or-right true b h = false-not-true (sym h)
@@ -68,11 +74,11 @@ module _ (c : Stream) where
   unfolding seen
   seen-past p = rw p refl
 
-  pub seen-going : isPast c ≡ false → c .number ≡ 0 → seen c ≡ inLimit (going (c .state) (c .lines)) (lineIn (c .pending) (c .held) (c .column)) (c .total)
+  pub seen-going : isPast c ≡ false → c .number ≡ 0 → seen c ≡ inLimit (going (c .state) (c .lines)) (openIn c) (c .total)
   unfolding seen
   seen-going p z = rw (p, eq-eqb (c .number) 0 z) refl
 
-  pub seen-refused : isPast c ≡ false → 0 < c .number → seen c ≡ inLimit (refused (replyAt (c .number) (c .lines + 1) (c .column))) (openOf []) (c .total)
+  pub seen-refused : isPast c ≡ false → 0 < c .number → seen c ≡ inLimit (refused (refusalIn c)) (openOf []) (c .total)
   unfolding seen
   seen-refused p z = rw (p, ne-eqb (c .number) 0 (λ e. omega arith)) refl
 
@@ -119,7 +125,7 @@ module _ (c : Stream) (b : List ℕ) (total : ℕ) (few : c .lines + length b �
     (e : ℕ) (at : e ≡ lineLen b) (p : List ℕ) (k : ℕ) (pushed : Pushed (c .pending) (c .held) (take e b) p)
     (found : k ≡ pick (ltb 0 (c .column)) (c .column) (firstBad (c .held + 1) (take e b))) where
   abbrev Arrived : Seen → Type 0
-  Arrived s = s ≡ arrived (going (c .state) (c .lines)) (lineIn (c .pending) (c .held) (c .column)) (cut b .lines) (cut b .rest) total
+  Arrived s = s ≡ arrivedOn c b total
 
   abbrev open-now : OpenLine
   open-now = lineIn p (c .held + e) k
@@ -127,7 +133,7 @@ module _ (c : Stream) (b : List ℕ) (total : ℕ) (few : c .lines + length b �
   part-long : length (take e b) ≡ e
   part-long = length-take-le e b (omega (arith, lineLen-most b))
 
-  grown : open-now ≡ longer (lineIn (c .pending) (c .held) (c .column)) (take e b)
+  grown : open-now ≡ longer (openIn c) (take e b)
   grown = ap (λ (n : ℕ). lineIn p (c .held + n) k) (sym part-long) ∙ held-longer (c .pending) (c .held) (c .column) (take e b) p k pushed found
 
   pub burst-still : length b ≤ e → Arrived (seen (made (c .state) (c .lines) 0 k total p (c .held + e)))
@@ -136,9 +142,25 @@ module _ (c : Stream) (b : List ℕ) (total : ℕ) (few : c .lines + length b �
       made-going (c .state) (c .lines) total p limit (omega arith) k (c .held + e) (omega (arith, lineLen-most b)) ∙
       rw (grown, all, cut-open b (rw at at l)) refl
 
+  pub burst-still-whole : length b ≤ e → made (c .state) (c .lines) 0 k total p (c .held + e) ≡ leftOn c b total
+  unfolding longer
+  burst-still-whole l =
+      let all : take e b ≡ b = take-all e b l in
+      let n : e ≡ length b = omega (arith, lineLen-most b) in
+      rw (cut-open b (rw at at l), found, pushed .whole, all, n) refl
+
   module _ (l : e < length b) where
     abbrev rest : List ℕ
     rest = drop (e + 1) b
+
+    first-whole : endLeft c p (openOutcome (c .state) open-now) (cut rest .lines) (cut rest .rest) total ≡ leftOn c b total
+    first-whole = rw (grown, cut-line b (rw at at l), ← at, pushed .whole) refl
+
+    pub burst-next-whole : (s : State) → openOutcome (c .state) open-now ≡ Next s → linesOn s (c .lines + 1) rest total ≡ leftOn c b total
+    burst-next-whole s o = rw (← first-whole, o) refl
+
+    pub burst-stops-whole : (f : Refusal) → openOutcome (c .state) open-now ≡ Refused f → made (c .state) (c .lines) (f .number) (f .column) total p 0 ≡ leftOn c b total
+    burst-stops-whole f o = rw (← first-whole, o) refl
 
     first-line : Arrived (kept (over runStep (onOutcome (c .lines) (openOutcome (c .state) open-now)) (cut rest .lines)) (openOf (cut rest .rest)) total)
     first-line = rw (grown, cut-line b (rw at at l), ← at) refl
@@ -154,10 +176,10 @@ module _ (c : Stream) (b : List ℕ) (total : ℕ) (few : c .lines + length b �
 
 -- the lines of a burst from a place on
 module _ (s : State) (n : ℕ) (b : List ℕ) (at total : ℕ) (few : n + (length b - at) ≤ total) (limit : total ≤ 16777216) (r : Lines) (j : LinesJudged s n b at r) where
-  pub lines-refused : (p : List ℕ) → 0 < r .number → seen (made (r .state) (r .lines) (r .number) (r .column) total p 0) ≡ judgedOn s n (drop at b) total
+  pub lines-refused : (p : List ℕ) → 0 < r .number → seen (made s (r .lines) (r .number) (r .column) total p 0) ≡ judgedOn s n (drop at b) total
   unfolding judgedOn
   lines-refused p z =
-      made-refused (r .state) (r .lines) total p limit (omega (arith, j .few)) (r .number) (r .column) (judged-number s n b at r j z) ∙
+      made-refused s (r .lines) total p limit (omega (arith, j .few)) (r .number) (r .column) (judged-number s n b at r j z) ∙
       rw (← j .run, ne-eqb (r .number) 0 (λ e. omega arith)) refl
 
   pub lines-going : (p q p′ : List ℕ) (k : ℕ) → r .number ≤ 0 → length b ≤ total → lineIn p 0 0 ≡ openOf [] → q ≡ drop (r .at) b → Pushed p 0 q p′ → k ≡ firstBad 1 q
@@ -171,6 +193,18 @@ module _ (s : State) (n : ℕ) (b : List ℕ) (at total : ℕ) (few : n + (lengt
       made-going (r .state) (r .lines) total p′ limit (omega (arith, j .few)) k (length b - r .at) (omega arith) ∙
       rw (o, ← j .run, eq-eqb (r .number) 0 z′, ← j .rest z′) refl
 
+-- the record that they leave
+module _ (s : State) (n : ℕ) (b : List ℕ) (at total : ℕ) (r : Lines) (j : LinesJudged s n b at r) where
+  pub lines-refused-whole : 0 < r .number → made s (r .lines) (r .number) (r .column) total (replicate 81 0) 0 ≡ linesOn s n (drop at b) total
+  lines-refused-whole z = let e : r .lines + 1 - 1 ≡ r .lines = omega arith in rw (← j .run, ne-eqb (r .number) 0 (λ e. omega arith), e) refl
+
+  pub lines-going-whole : (q p′ : List ℕ) (k : ℕ) → r .number ≤ 0 → q ≡ drop (r .at) b → Pushed (replicate 81 0) 0 q p′ → k ≡ firstBad 1 q
+      → made (r .state) (r .lines) 0 k total p′ (length b - r .at) ≡ linesOn s n (drop at b) total
+  lines-going-whole q p′ k z e pushed found =
+      let z′ : r .number ≡ 0 = omega arith in
+      let h : length b - r .at ≡ length (drop (r .at) b) = sym (length-drop (r .at) b) in
+      rw (← j .run, eq-eqb (r .number) 0 z′, ← j .rest z′, found, pushed .whole, e, h) refl
+
 -- a loop that lays bytes after the first f of a record's line
 module _ (line : List ℕ) (h : ℕ) (b : List ℕ) (f : ℕ) (clip : f ≡ min h 80) (wide : length line ≡ 81) where
   clipped : take h (take 80 line) ≡ take f line
@@ -180,20 +214,21 @@ module _ (line : List ℕ) (h : ℕ) (b : List ℕ) (f : ℕ) (clip : f ≡ min 
       (λ l. let e : f ≡ h = omega arith in rw e (take-take h 80 line l))
       (below-or-not 80 h)
 
-  pub lay-start : take (f + 0) line ≡ take f line ++ take 0 b
-  lay-start = let e : f + 0 ≡ f = omega arith in rw (e, append-nil (take f line)) refl
+  module _ (line′ : List ℕ) (i : ℕ) (pasted : line′ ≡ paste line f b i) (within : i ≤ length b) (room : f + i ≤ 80) where
+    pub lay-next : f + i < 80 → i < length b → set line′ (f + i) (getD b i 0) ≡ paste line f b (i + 1)
+    lay-next r m = rw (pasted, add-one i) (paste-suc line f b i 0 (omega arith) m)
 
-  module _ (line′ : List ℕ) (i : ℕ) (wide′ : length line′ ≡ 81) (laid : take (f + i) line′ ≡ take f line ++ take i b) where
-    pub lay-next : f + i < 80 → i < length b → take (f + (i + 1)) (set line′ (f + i) (getD b i 0)) ≡ take f line ++ take (i + 1) b
-    lay-next r m =
-        let k : f + (i + 1) ≡ suc (f + i) = omega arith in
-        rw (k, add-one i, take-suc-set line′ (f + i) (getD b i 0) (omega arith), laid, take-suc b i 0 m) (append-assoc (take f line) (take i b) (getD b i 0 ∷ []))
+    wide′ : length line′ ≡ 81
+    wide′ = ap length pasted ∙ length-paste line f b i (omega arith) within ∙ wide
+
+    laid : take (f + i) line′ ≡ take f line ++ take i b
+    laid = rw pasted (take-paste line f b i (omega arith) within)
 
     module _ (all : i ≡ min (80 - f) (length b)) where
       full : 80 ≤ f + length b → take (h + length b) (take 80 line′) ≡ take 80 (take f line ++ b)
       full m =
           let j : f + i ≡ 80 = omega arith in
-          let n : length (take 80 line′) ≡ 80 = length-take-le 80 line′ (omega arith) in
+          let n : length (take 80 line′) ≡ 80 = length-take-le 80 line′ (omega (arith, wide′)) in
           let g : length (take f line) ≡ f = length-take-le f line (omega arith) in
           let j′ : 80 ≡ length (take f line) + i = omega arith in
           take-all (h + length b) (take 80 line′) (omega arith) ∙ rw j at laid ∙ rw j′ (sym (take-append-add (take f line) b i))
@@ -209,20 +244,24 @@ module _ (line : List ℕ) (h : ℕ) (b : List ℕ) (f : ℕ) (clip : f ≡ min 
 
       -- and then the last byte
       pub laid-pushed : 0 < length b → Pushed line h b (set line′ 80 (getD b (length b - 1) 0))
+      unfolding pushed
       laid-pushed g =
           record {
             wide = simp length-set wide′;
             first = rw (take-set-le 80 line′ 80 (getD b (length b - 1) 0) (omega arith)) laid-first;
-            last = getD-set-same line′ 80 (getD b (length b - 1) 0) 0 (omega arith) ∙ getD-within b (length b - 1) 0 (getD line 80 0) (omega arith);
+            last = getD-set-same line′ 80 (getD b (length b - 1) 0) 0 (omega (arith, wide′)) ∙ getD-within b (length b - 1) 0 (getD line 80 0) (omega arith);
+            whole = rw (ne-eqb (length b) 0 (λ e. omega arith), pasted, ← clip, ← all) refl;
           }
 
 pub none-pushed : (line : List ℕ) (h : ℕ) (b : List ℕ) → length line ≡ 81 → length b ≡ 0 → Pushed line h b line
+unfolding pushed
 none-pushed line h [] w e =
     let n : h + 0 ≡ h = omega arith in
     record {
       wide = w;
       first = rw (n, append-nil (take h (take 80 line))) (sym (take-all 80 (take h (take 80 line)) (omega (arith, length-take h (take 80 line), length-take 80 line))));
       last = refl;
+      whole = refl;
     }
 none-pushed line h (x ∷ b) w e = absurd (omega arith)
 
@@ -238,20 +277,19 @@ module _ (c : Stream) (b : List ℕ) where
   step-past (inl p) = rw (seen-past c p) refl
   step-past (inr l) = go (isPast c) (eqb (c .number) 0)
     where
-      go : (p z : Bool) → stepOf (pick p past (pick z (inLimit (going (c .state) (c .lines)) (lineIn (c .pending) (c .held) (c .column)) (c .total)) (inLimit (refused (replyAt (c .number) (c .lines + 1) (c .column))) (openOf []) (c .total)))) b ≡ past
+      go : (p z : Bool) → stepOf (pick p past (pick z (inLimit (going (c .state) (c .lines)) (openIn c) (c .total)) (inLimit (refused (refusalIn c)) (openOf []) (c .total)))) b ≡ past
       go true z = refl
       go false true = rw (lt-ltb 16777216 (c .total + length b) l) refl
       go false false = rw (lt-ltb 16777216 (c .total + length b) l) refl
 
   module _ (p : isPast c ≡ false) (l : c .total + length b ≤ 16777216) where
-    step-refused : 0 < c .number → stepOf (seen c) b ≡ inLimit (refused (replyAt (c .number) (c .lines + 1) (c .column))) (openOf []) (c .total + length b)
+    step-refused : 0 < c .number → stepOf (seen c) b ≡ inLimit (refused (refusalIn c)) (openOf []) (c .total + length b)
     unfolding stepOf
     step-refused z =
         rw (seen-refused c p z, le-ltb 16777216 (c .total + length b) l)
-        (arrived-refused (replyAt (c .number) (c .lines + 1) (c .column)) (openOf []) (cut b .lines) (cut b .rest) (c .total + length b))
+        (arrived-refused (refusalIn c) (openOf []) (cut b .lines) (cut b .rest) (c .total + length b))
 
-    step-going : c .number ≡ 0
-        → stepOf (seen c) b ≡ arrived (going (c .state) (c .lines)) (lineIn (c .pending) (c .held) (c .column)) (cut b .lines) (cut b .rest) (c .total + length b)
+    step-going : c .number ≡ 0 → stepOf (seen c) b ≡ arrivedOn c b (c .total + length b)
     unfolding stepOf
     step-going z = rw (seen-going c p z, le-ltb 16777216 (c .total + length b) l) refl
 
@@ -271,17 +309,50 @@ arrived-within : {A : Type 0} (r : Run) (o : OpenLine) (ls : List (List ℕ)) (r
 arrived-within r o [] rest n e = kept-within r (longer o rest) n e
 arrived-within r o (l ∷ ls) rest n e = kept-within (over runStep (lineEnd r (longer o l)) ls) (openOf rest) n e
 
+-- the end is not asked in a record that a burst leaves
+lines-ended : (s : State) (r : Run) (rest : List ℕ) (total : ℕ) → linesLeft s r rest total .ended ≡ false
+lines-ended s (going t n) rest total = refl
+lines-ended s (refused p) rest total = refl
+
+end-ended : (c : Stream) (p : List ℕ) (o : Outcome) (ls : List (List ℕ)) (rest : List ℕ) (total : ℕ) → endLeft c p o ls rest total .ended ≡ false
+end-ended c p (Next s) ls rest total = lines-ended s (over runStep (going s (c .lines + 1)) ls) rest total
+end-ended c p (Refused f) ls rest total = refl
+
+left-ended : (c : Stream) (ls : List (List ℕ)) (rest : List ℕ) (total : ℕ) → burstLeft c ls rest total .ended ≡ false
+left-ended c [] rest total = refl
+left-ended c (l ∷ ls) rest total = end-ended c (pushed (c .pending) (c .held) l) (openOutcome (c .state) (longer (openIn c) l)) ls rest total
+
 -- a burst, after the end was asked and before
 module _ (c : Stream) (b : List ℕ) where
   pub stepped-ended : c .ended ≡ true → Stepped c b c
-  stepped-ended e = record { untouched = λ h. refl; further = λ h. false-not-true (sym h ∙ e); saturated = λ h. false-not-true (sym h ∙ e); ended = refl }
+  unfolding left
+  stepped-ended e =
+      record {
+        untouched = λ h. refl;
+        further = λ h. false-not-true (sym h ∙ e);
+        saturated = λ h. false-not-true (sym h ∙ e);
+        ended = refl;
+        whole = rw e refl;
+      }
 
   module _ (e : c .ended ≡ false) (total : ℕ) (t : Running c (length b) total) where
-    stepped : (r : Stream) → seen r ≡ stepOf (seen c) b → (seen r ≡ past → r .total ≡ 16777217) → r .ended ≡ c .ended → Stepped c b r
-    stepped r s l k = record { untouched = λ h. false-not-true (sym e ∙ h); further = λ h. s; saturated = λ h. l; ended = k }
+    stepped : (r : Stream) → seen r ≡ stepOf (seen c) b → (seen r ≡ past → r .total ≡ 16777217) → r .ended ≡ c .ended → r ≡ left c b → Stepped c b r
+    stepped r s l k w = record { untouched = λ h. false-not-true (sym e ∙ h); further = λ h. s; saturated = λ h. l; ended = k; whole = w }
+
+    left-now : left c b ≡ leftOpen c b
+    unfolding left
+    left-now = ap (λ (t : Bool). pick t c (leftOpen c b)) e
+
+    left-past : 16777216 < total → atTotal c total ≡ left c b
+    unfolding leftOpen
+    left-past l = ap (atTotal c) (t .stops l) ∙ sym (left-now ∙ go (t .beyond l))
+      where
+        go : (isPast c ≡ true) ⊎ (16777216 < c .total + length b) → leftOpen c b ≡ atTotal c 16777217
+        go (inl p) = rw p refl
+        go (inr m) = rw (lt-ltb 16777216 (c .total + length b) m, or-true (isPast c)) refl
 
     pub stepped-past : (r : Stream) → 16777216 < total → r ≡ atTotal c total → Stepped c b r
-    stepped-past r l q = rw q (stepped (atTotal c total) (seen-past (atTotal c total) (too-long (atTotal c total) l) ∙ sym (step-past c b (t .beyond l))) (λ p. t .stops l) refl)
+    stepped-past r l q = rw q (stepped (atTotal c total) (seen-past (atTotal c total) (too-long (atTotal c total) l) ∙ sym (step-past c b (t .beyond l))) (λ p. t .stops l) refl (left-past l))
 
     module _ (l : total ≤ 16777216) where
       stays : isPast c ≡ false
@@ -299,18 +370,23 @@ module _ (c : Stream) (b : List ℕ) where
       pub room : c .held + length b ≤ total
       room = omega (arith, past-not c stays, grown-total)
 
+      left-within : left c b ≡ pick (eqb (c .number) 0) (leftOn c b total) (atTotal c total)
+      unfolding leftOpen
+      left-within = left-now ∙ rw (stays, le-ltb 16777216 (c .total + length b) (rw grown-total at l), ← grown-total) refl
+
       pub stepped-refused : (r : Stream) → 0 < c .number → r ≡ atTotal c total → Stepped c b r
       stepped-refused r z q =
           let u = seen-refused (atTotal c total) (not-past (atTotal c total) l few (omega (arith, room)) (number-known c stays)) z in
+          let w : left c b ≡ atTotal c total = left-within ∙ rw (ne-eqb (c .number) 0 (λ y. omega arith)) refl in
           rw q (stepped (atTotal c total)
-          (u ∙ rw grown-total (sym (step-refused c b stays (rw grown-total at l) z))) (λ p. not-past-limit _ _ _ (sym u ∙ p)) refl)
+          (u ∙ rw grown-total (sym (step-refused c b stays (rw grown-total at l) z))) (λ p. not-past-limit _ _ _ (sym u ∙ p)) refl (sym w))
 
-      pub stepped-going : (r : Stream) → c .number ≤ 0
-          → seen r ≡ arrived (going (c .state) (c .lines)) (lineIn (c .pending) (c .held) (c .column)) (cut b .lines) (cut b .rest) total → r .ended ≡ false → Stepped c b r
-      stepped-going r z q k =
+      pub stepped-going : (r : Stream) → c .number ≤ 0 → seen r ≡ arrivedOn c b total → r ≡ leftOn c b total → Stepped c b r
+      stepped-going r z q w =
           stepped r (q ∙ rw grown-total (sym (step-going c b stays (rw grown-total at l) (omega arith))))
-          (λ p. arrived-within (going (c .state) (c .lines)) (lineIn (c .pending) (c .held) (c .column)) (cut b .lines) (cut b .rest) total (sym q ∙ p))
-          (k ∙ sym e)
+          (λ p. arrived-within (going (c .state) (c .lines)) (openIn c) (cut b .lines) (cut b .rest) total (sym q ∙ p))
+          (ap (λ (x : Stream). x .ended) w ∙ left-ended c (cut b .lines) (cut b .rest) total ∙ sym e)
+          (w ∙ sym (left-within ∙ rw (eq-eqb (c .number) 0 (omega arith)) refl))
 
 -- no byte is held in a line of zeros
 pub none-held : lineIn (replicate 81 0) 0 0 ≡ openOf []

@@ -1,14 +1,12 @@
 // A file judged while it arrives: one standing record, brought up to date by each burst.
 ghost use mathlib.Core.Path.{_≡_};
-ghost use mathlib.Core.Bool.{false};
 ghost use Prim.Native.Nat.{_+_, _-_, _≤_, min};
 ghost use lib.ListN.{length, drop};
 ghost use lib.Dec.{ltb};
 ghost use Rattle.laws.specs.Choice.{pick};
-ghost use Rattle.laws.specs.Cut.{cut};
 ghost use Rattle.line.specs.Line.{firstBad};
-ghost use Rattle.judge.specs.Judge.{going};
-ghost use Rattle.stream.specs.Stream.{lineIn, columnsOf, faultOf, openOutcome, arrived, isStrange, isPast, seen, Stepped, answerOf, endReply, closed, freshRecord, Running, Pushed, atTotal, judgedOn};
+ghost use Rattle.stream.specs.Stream.{lineIn, columnsOf, faultOf, openOutcome, isStrange, isPast, seen, Stepped, answerOf, endReply, closed};
+ghost use Rattle.stream.specs.Stream.{freshRecord, Running, Pushed, atTotal, judgedOn, arrivedOn, linesOn, leftOn};
 use judge::Reply;
 use line::Refusal;
 use walk::Outcome;
@@ -201,7 +199,7 @@ fn at_total(c: Stream, total: usize) -> Stream
 // After an open line that is finished: the finished lines of the burst from `at` on are judged, and what is left is the open line.
 fn lines_step(state: State, lines: usize, burst: &[u8], at: usize, total: usize) -> Stream
     requires { ⌜ (at ≤ length (now burst)) × (lines + (length (now burst) - at) ≤ total) × (length (now burst) ≤ total) × (total ≤ 16777216) ⌝ }
-    ensures { λ r. ⌜ (seen r ≡ judgedOn state lines (drop at (now (burst .entry))) total) × (r .ended ≡ false) ⌝ }
+    ensures { λ r. ⌜ (seen r ≡ judgedOn state lines (drop at (now (burst .entry))) total) × (r ≡ linesOn state lines (drop at (now (burst .entry))) total) ⌝ }
 {
     let judged = judge::judge_lines(state, lines, burst, at);
     let mut line = [0u8; 81];
@@ -209,7 +207,7 @@ fn lines_step(state: State, lines: usize, burst: &[u8], at: usize, total: usize)
     let last = judged.state;
     if 0 < judged.number {
         return Stream {
-            state: last,
+            state,
             lines: judged.lines,
             number: judged.number,
             column: judged.column,
@@ -220,6 +218,7 @@ fn lines_step(state: State, lines: usize, burst: &[u8], at: usize, total: usize)
         };
     }
     let rest = &burst[from..];
+    let held = burst.len() - from;
     push(&mut line, 0, rest);
     Stream {
         state: last,
@@ -228,7 +227,7 @@ fn lines_step(state: State, lines: usize, burst: &[u8], at: usize, total: usize)
         column: line::first_bad(rest),
         total,
         pending: line,
-        held: burst.len() - from,
+        held,
         ended: false,
     }
 }
@@ -236,7 +235,7 @@ fn lines_step(state: State, lines: usize, burst: &[u8], at: usize, total: usize)
 // A record that is neither past the limit nor refused, a burst further.
 fn open_step(c: Stream, burst: &[u8], total: usize) -> Stream
     requires { ⌜ (c .lines + length (now burst) ≤ total) × (c .held + length (now burst) ≤ total) × (total ≤ 16777216) ⌝ }
-    ensures { λ r. ⌜ (seen r ≡ arrived (going (c .state) (c .lines)) (lineIn (c .pending) (c .held) (c .column)) (cut (now (burst .entry)) .lines) (cut (now (burst .entry)) .rest) total) × (r .ended ≡ false) ⌝ }
+    ensures { λ r. ⌜ (seen r ≡ arrivedOn c (now (burst .entry)) total) × (r ≡ leftOn c (now (burst .entry)) total) ⌝ }
 {
     let mut line = c.pending;
     let state = c.state;

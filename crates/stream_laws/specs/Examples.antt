@@ -76,9 +76,13 @@ unfolding stepOf answerOf openOf longer columnsOf faultOf openOutcome over cut i
 late-return = refl
 
 -- 84 blanks and a CR, then CR LF: the first CR is a byte not allowed, at its own column; and so it is where the file ends with it
-pub late-returns : (answers fresh (replicate 84 32 ∷ (13 ∷ []) ∷ (13 ∷ 10 ∷ []) ∷ []) ≡ SoFar 0 ∷ SoFar 0 ∷ Refused (replyAt 2 1 85) ∷ []) × (ends fresh (replicate 84 32 ∷ (13 ∷ []) ∷ []) ≡ replyAt 2 1 85)
+pub late-returns : answers fresh (replicate 84 32 ∷ (13 ∷ []) ∷ (13 ∷ 10 ∷ []) ∷ []) ≡ SoFar 0 ∷ SoFar 0 ∷ Refused (replyAt 2 1 85) ∷ []
 unfolding stepOf answerOf openOf longer columnsOf faultOf openOutcome over cut isAllowed withoutReturn columns firstBad lineFault lineStep
-late-returns = (refl, refl)
+late-returns = refl
+
+pub last-return : ends fresh (replicate 84 32 ∷ (13 ∷ []) ∷ []) ≡ replyAt 2 1 85
+unfolding stepOf openOf longer columnsOf faultOf over cut isAllowed firstBad
+last-return = refl
 
 -- Wrong calls on a lent record, each with an input on which it breaks the promise: a burst that does not store the record, one that answers for the
 -- record before it, an end that does not mark the record.

@@ -17,7 +17,8 @@ then-none : (ms : List (List ℕ)) (r′ : List ℕ) → text ms r′ ≡ textTh
 then-none [] r′ = refl
 then-none (m ∷ ms) r′ = refl
 
-then-line : (ls : List (List ℕ)) (r : List ℕ) (ms : List (List ℕ)) (r′ : List ℕ) → text ([] ∷ textThen ls r ms r′ .lines) (textThen ls r ms r′ .rest) ≡ textThen ([] ∷ ls) r ms r′
+then-line : (ls : List (List ℕ)) (r : List ℕ) (ms : List (List ℕ)) (r′ : List ℕ)
+    → text ([] ∷ textThen ls r ms r′ .lines) (textThen ls r ms r′ .rest) ≡ textThen ([] ∷ ls) r ms r′
 then-line ls r [] r′ = refl
 then-line ls r (m ∷ ms) r′ = refl
 
@@ -28,16 +29,19 @@ then-onto x [] r (m ∷ ms) r′ = refl
 then-onto x (l ∷ ls) r [] r′ = refl
 then-onto x (l ∷ ls) r (m ∷ ms) r′ = refl
 
+-- a byte before a text, by whether it is an LF
+abbrev withByte : ℕ → Bool → Text → Text
+withByte x t u = pick t (text ([] ∷ u .lines) (u .rest)) (onto x (u .lines) (u .rest))
+
+then-byte : (x : ℕ) (t : Bool) (ls : List (List ℕ)) (r : List ℕ) (ms : List (List ℕ)) (r′ : List ℕ)
+    → withByte x t (textThen ls r ms r′) ≡ textThen (withByte x t (text ls r) .lines) (withByte x t (text ls r) .rest) ms r′
+then-byte x true ls r ms r′ = then-line ls r ms r′
+then-byte x false ls r ms r′ = then-onto x ls r ms r′
+
 cut-then : (a b : List ℕ) → cut (a ++ b) ≡ textThen (cut a .lines) (cut a .rest) (cut b .lines) (cut b .rest)
 unfolding cut
 cut-then [] b = then-none (cut b .lines) (cut b .rest)
-cut-then (x ∷ a) b = go (eqb x 10) (cut-then a b)
-  where
-    go : (t : Bool) → cut (a ++ b) ≡ textThen (cut a .lines) (cut a .rest) (cut b .lines) (cut b .rest)
-        → pick t (text ([] ∷ cut (a ++ b) .lines) (cut (a ++ b) .rest)) (onto x (cut (a ++ b) .lines) (cut (a ++ b) .rest))
-        ≡ textThen (pick t (text ([] ∷ cut a .lines) (cut a .rest)) (onto x (cut a .lines) (cut a .rest)) .lines) (pick t (text ([] ∷ cut a .lines) (cut a .rest)) (onto x (cut a .lines) (cut a .rest)) .rest) (cut b .lines) (cut b .rest)
-    go true h = rw h (then-line (cut a .lines) (cut a .rest) (cut b .lines) (cut b .rest))
-    go false h = rw h (then-onto x (cut a .lines) (cut a .rest) (cut b .lines) (cut b .rest))
+cut-then (x ∷ a) b = ap (withByte x (eqb x 10)) (cut-then a b) ∙ then-byte x (eqb x 10) (cut a .lines) (cut a .rest) (cut b .lines) (cut b .rest)
 
 -- what is kept of both
 then-kept : (r : Run) (ls : List (List ℕ)) (q : List ℕ) (ms : List (List ℕ)) (q′ : List ℕ) (n : ℕ)

@@ -1,7 +1,7 @@
 -- `stream::lines_step` meets its contract.
 use mathlib.Core.Path.{refl}
 use Rattle.laws.specs.CutLaws.{tail-part}
-use Rattle.stream.specs.StreamLaws.{lines-refused, lines-going, none-held}
+use Rattle.stream.specs.StreamLaws.{lines-refused, lines-going, lines-refused-whole, lines-going-whole, none-held}
 use native.Mathlib.Omega.{arith}
 use borrow.Author.Needs.{needs}
 use Rattle.stream.proofs.lines_step.Statement.{statement}
@@ -13,7 +13,8 @@ judge-lines-requires c κs = (c .before .pre .0, omega (arith, c .before .pre))
 returns : tie.Need-returns
 returns c =
     let at-start = c .before .before .before .before .before in
-    (lines-refused _ _ _ _ _ (at-start .pre .1) (at-start .pre .3) _ (c .before .before .before .judge-lines .ensures) _ (c .if1 .taken), refl)
+    let judged = c .before .before .before .judge-lines .ensures in
+    (lines-refused _ _ _ _ _ (at-start .pre .1) (at-start .pre .3) _ judged _ (c .if1 .taken), lines-refused-whole _ _ _ _ _ _ judged (c .if1 .taken))
 
 sub-rest : tie.Need-sub-rest
 sub-rest c = omega (arith, c .before .before .before .judge-lines .ensures .within)
@@ -24,16 +25,14 @@ part-rest-start c = omega (arith, c .before .before .before .judge-lines .ensure
 part-rest-end : tie.Need-part-rest-end
 part-rest-end c = search needs
 
+sub-held : tie.Need-sub-held
+sub-held c = omega (arith, c .before .before .before .before .judge-lines .ensures .within)
+
 push-requires : tie.Need-push-requires
 push-requires c κs = refl
 
 first-bad-requires : tie.Need-first-bad-requires
 first-bad-requires c κs = search needs
-
-sub-t20 : tie.Need-sub-t20
-sub-t20 c =
-    let at-judge-lines = c .before .before .before .before .before .before .before in
-    omega (arith, at-judge-lines .judge-lines .ensures .within)
 
 returns-2 : tie.Need-returns-2
 returns-2 c =
@@ -43,7 +42,12 @@ returns-2 c =
     let pre = at-start .pre in
     let judged = at-judge-lines .judge-lines in
     let rest = tail-part (at-start .args .burst .now) (judged .result .at) in
-    (lines-going _ _ _ _ _ (pre .1) (pre .3) _ (judged .ensures) _ _ _ _ (at-if1 .if1 .left) (pre .2) none-held rest (c .before .push .ensures) (c .first-bad .ensures), refl)
+    let going = at-if1 .if1 .left in
+    let pushed = c .before .push .ensures in
+    let found = c .first-bad .ensures in (
+      lines-going _ _ _ _ _ (pre .1) (pre .3) _ (judged .ensures) _ _ _ _ going (pre .2) none-held rest pushed found,
+      lines-going-whole _ _ _ _ _ _ (judged .ensures) _ _ _ going rest pushed found,
+    )
 
 pub lines-step-spec : {M : Type 1} → statement M
 lines-step-spec =
@@ -54,7 +58,7 @@ lines-step-spec =
     sub-rest
     part-rest-start
     part-rest-end
+    sub-held
     push-requires
     first-bad-requires
-    sub-t20
     returns-2)

@@ -1,12 +1,12 @@
 -- `stream::open_step` meets its contract.
-use mathlib.Core.Path.{_≡_, refl, sym, _∙_}
+use mathlib.Core.Path.{_≡_, sym, _∙_}
 use mathlib.Core.List.{List}
 use Prim.Native.Nat.{ℕ}
 use lib.ListN.{length-take}
 use lib.Seq.{length-take-le}
 use Rattle.laws.specs.Cut.{lineLen}
 use Rattle.line.specs.LineLaws.{lineLen-most}
-use Rattle.stream.specs.StreamLaws.{burst-still, burst-next, burst-stops}
+use Rattle.stream.specs.StreamLaws.{burst-still, burst-next, burst-stops, burst-still-whole, burst-next-whole, burst-stops-whole}
 use native.Mathlib.Omega.{arith}
 use borrow.Author.Needs.{needs}
 use Rattle.stream.proofs.open_step.Statement.{statement}
@@ -44,8 +44,10 @@ returns c =
     let burst : List ℕ = at-start .args .burst .now in
     let pre = at-start .pre in
     let ends : at-find-end .find-end .result ≡ lineLen burst = omega (arith, at-find-end .find-end .ensures) in
-    let found = at-bad-column .bad-column .ensures in
-    (burst-still (at-start .args .c) burst (at-start .args .total) (pre .0) (pre .1) (pre .2) _ ends _ _ (at-push .push .ensures) found (c .if1 .taken), refl)
+    let found = at-bad-column .bad-column .ensures in (
+      burst-still (at-start .args .c) burst (at-start .args .total) (pre .0) (pre .1) (pre .2) _ ends _ _ (at-push .push .ensures) found (c .if1 .taken),
+      burst-still-whole (at-start .args .c) burst (at-start .args .total) (pre .0) (pre .1) (pre .2) _ ends _ _ (at-push .push .ensures) found (c .if1 .taken),
+    )
 
 open-outcome-requires : tie.Need-open-outcome-requires
 open-outcome-requires c κs = search needs
@@ -79,7 +81,8 @@ returns-2 c =
     let found = at-bad-column .bad-column .ensures in
     let outcome = sym (at-outcome .open-outcome .ensures) ∙ c .before .before .before .next .given .1 in
     let next = burst-next (at-start .args .c) burst (at-start .args .total) (pre .0) (pre .1) (pre .2) _ ends _ _ (at-push .push .ensures) found (at-if1 .if1 .left) _ outcome in
-    (c .lines-step .ensures .0 ∙ next, c .lines-step .ensures .1)
+    let whole = burst-next-whole (at-start .args .c) burst (at-start .args .total) (pre .0) (pre .1) (pre .2) _ ends _ _ (at-push .push .ensures) found (at-if1 .if1 .left) _ outcome in
+    (c .lines-step .ensures .0 ∙ next, c .lines-step .ensures .1 ∙ whole)
 
 returns-3 : tie.Need-returns-3
 returns-3 c =
@@ -93,8 +96,10 @@ returns-3 c =
     let pre = at-start .pre in
     let ends : at-find-end .find-end .result ≡ lineLen burst = omega (arith, at-find-end .find-end .ensures) in
     let found = at-bad-column .bad-column .ensures in
-    let outcome = sym (at-outcome .open-outcome .ensures) ∙ c .before .fault .given .1 in
-    (burst-stops (at-start .args .c) burst (at-start .args .total) (pre .0) (pre .1) (pre .2) _ ends _ _ (at-push .push .ensures) found (at-if1 .if1 .left) _ outcome, refl)
+    let outcome = sym (at-outcome .open-outcome .ensures) ∙ c .before .fault .given .1 in (
+      burst-stops (at-start .args .c) burst (at-start .args .total) (pre .0) (pre .1) (pre .2) _ ends _ _ (at-push .push .ensures) found (at-if1 .if1 .left) _ outcome,
+      burst-stops-whole (at-start .args .c) burst (at-start .args .total) (pre .0) (pre .1) (pre .2) _ ends _ _ (at-push .push .ensures) found (at-if1 .if1 .left) _ outcome,
+    )
 
 pub open-step-spec : {M : Type 1} → statement M
 open-step-spec =

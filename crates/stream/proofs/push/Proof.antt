@@ -1,11 +1,12 @@
 -- `stream::push` meets its contract.
 use mathlib.Core.Path.{_≡_, _∙_}
-use mathlib.Core.List.{List, _++_}
-use Prim.Native.Nat.{ℕ, _+_, _-_, _≤_}
-use lib.ListN.{length, take, length-set}
+use mathlib.Core.List.{List}
+use Prim.Native.Nat.{ℕ, _-_, _≤_}
+use lib.ListN.{length, length-set}
+use lib.Seq.{paste, paste-zero}
 use native.Mathlib.Omega.{arith}
 use borrow.Author.Needs.{needs}
-use Rattle.stream.specs.StreamLaws.{lay-start, lay-next, laid-pushed, none-pushed}
+use Rattle.stream.specs.StreamLaws.{lay-next, laid-pushed, none-pushed}
 use Rattle.stream.proofs.push.Statement.{statement}
 use Rattle.stream.proofs.push.Tie as tie
 
@@ -13,7 +14,7 @@ use Rattle.stream.proofs.push.Tie as tie
 record Laid (line₀ bytes : List ℕ) (from count : ℕ) (line : List ℕ) (i : ℕ) : Type 0 where
   within : i ≤ count
   wide : length line ≡ 81
-  laid : take (from + i) line ≡ take from line₀ ++ take i bytes
+  pasted : line ≡ paste line₀ from bytes i
 
 abbrev Inv-loop : tie.InvT-loop
 Inv-loop line₀ held bytes n from count i₀ line i = Laid line₀ bytes from count line i
@@ -37,7 +38,7 @@ loop-holds : tie.Need-loop-holds Inv-loop μ-loop
 loop-holds c =
     let at-least = c .before in
     let at-start = at-least .before .before .before in
-    record { within = search needs; wide = at-start .pre; laid = lay-start _ (at-start .args .held) (at-start .args .bytes .now) _ (at-least .least .ensures) (at-start .pre) }
+    record { within = search needs; wide = at-start .pre; pasted = paste-zero (at-start .args .line .now) (at-least .least .result) (at-start .args .bytes .now) }
 
 shared-slice-read-line : tie.Need-shared-slice-read-line Inv-loop μ-loop
 shared-slice-read-line c = search needs
@@ -64,10 +65,11 @@ loop-again c =
     let more = c .before .loop-test .taken in
     let from = at-least .least .ensures in
     let count = at-least2 .least2 .ensures in
+    let next = lay-next (at-start .args .line .now) (at-start .args .held) (at-start .args .bytes .now) _ from (at-start .pre) in
     record {
       within = search needs;
       wide = simp length-set (inv .wide);
-      laid = lay-next (at-start .args .line .now) (at-start .args .held) (at-start .args .bytes .now) _ from (at-start .pre) _ _ (inv .wide) (inv .laid) (omega (arith, more, from, count)) (omega (arith, more, from, count));
+      pasted = next (at-loop .loop .line) (at-loop .loop .i) (inv .pasted) (omega (arith, more, count)) (omega (arith, more, from, count)) (omega (arith, more, from, count)) (omega (arith, more, count));
     }
 
 sub-line : tie.Need-sub-line Inv-loop μ-loop
@@ -89,7 +91,9 @@ returns-2 c =
     let from = at-least .least .ensures in
     let count = at-least2 .least2 .ensures in
     let done : at-loop .loop .i ≡ at-least2 .least2 .result = omega (arith, inv .within, c .before .loop-test .left) in
-    laid-pushed (at-start .args .line .now) (at-start .args .held) (at-start .args .bytes .now) _ from (at-start .pre) _ _ (inv .wide) (inv .laid) (done ∙ count) (omega (arith, at-least .before .if1 .left))
+    let pushed = laid-pushed (at-start .args .line .now) (at-start .args .held) (at-start .args .bytes .now) _ from (at-start .pre) in
+    let pasted = pushed (at-loop .loop .line) (at-loop .loop .i) (inv .pasted) (omega (arith, done, count)) (omega (arith, done, from, count)) in
+    pasted (done ∙ count) (omega (arith, at-least .before .if1 .left))
 
 pub push-spec : {M : Type 1} → statement M
 push-spec =

@@ -31,8 +31,8 @@ returns-2 : tie.Need-returns-2
 returns-2 c =
     let at-if2 = c .before in
     let at-start = at-if2 .before .before .before .before .before .before .before in
-    let room = sym (at-if2 .before .before .before .is-short .ensures) ∙ at-if2 .before .before .if1 .left in
-    rw (c .bare-reply2 .ensures) (burst-ended (at-start .args .numbers .now) (at-start .args .line .now) _ room (omega (arith, at-if2 .if2 .taken)))
+    let long = sym (at-if2 .before .before .before .is-short .ensures) ∙ at-if2 .before .before .if1 .left in
+    rw (c .bare-reply2 .ensures) (burst-ended (at-start .args .numbers .now) (at-start .args .line .now) _ long (omega (arith, at-if2 .if2 .taken)))
 
 record-in-requires : tie.Need-record-in-requires
 record-in-requires c κs =

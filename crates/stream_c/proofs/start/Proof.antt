@@ -40,9 +40,8 @@ returns-2 c =
     let at-fresh = at-put-record .before in
     let at-if1 = at-fresh .before .before .before in
     let at-is-short = at-if1 .before in
-    let room = sym (at-is-short .is-short .ensures) ∙ at-if1 .if1 .left in
     let put = at-put-record .put-record .ensures in
-    rw (c .bare-reply2 .ensures) (start-lays _ _ room _ (at-fresh .fresh .ensures) _ _ (put .0) (put .1))
+    rw (c .bare-reply2 .ensures) (start-lays _ _ (sym (at-is-short .is-short .ensures) ∙ at-if1 .if1 .left) _ (at-fresh .fresh .ensures) _ _ (put .0) (put .1))
 
 pub start-spec : {M : Type 1} → statement M
 start-spec =
