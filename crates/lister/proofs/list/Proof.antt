@@ -48,7 +48,8 @@ returns-3 c =
     let at-count-sets = at-if2 .before in
     let at-if1 = at-count-sets .before in
     let at-judge = at-if1 .before .before in
-    rw (c .bare-reply2 .ensures) (list-done _ _ _ (at-judge .judge .ensures) (at-if1 .if1 .left) _ (at-count-sets .count-sets .ensures .0) _ (at-if2 .if2 .left) (at-rows .before .before .put-rows .ensures))
+    let done = list-done _ _ _ (at-judge .judge .ensures) (at-if1 .if1 .left) _ (at-count-sets .count-sets .ensures .0) _ (at-if2 .if2 .left) in
+    rw (c .bare-reply2 .ensures) (done (at-rows .before .before .put-rows .ensures))
 
 pub list-spec : {M : Type 1} → statement M
 list-spec =

@@ -39,7 +39,8 @@ returns-3 c =
     let at-rewritten-len = at-if2 .before in
     let at-if1 = at-rewritten-len .before in
     let at-judge = at-if1 .before .before in
-    rw (c .bare-reply2 .ensures) (accepted-both _ _ _ (at-judge .judge .ensures) (at-if1 .if1 .left) _ (at-rewritten-len .rewritten-len .ensures) (at-if2 .if2 .left) _ (at-sets .before .before .put-sets .ensures))
+    let both = accepted-both _ _ _ (at-judge .judge .ensures) (at-if1 .if1 .left) _ (at-rewritten-len .rewritten-len .ensures) (at-if2 .if2 .left) in
+    rw (c .bare-reply2 .ensures) (both _ (at-sets .before .before .put-sets .ensures))
 
 pub rewrite-spec : {M : Type 1} → statement M
 rewrite-spec =

@@ -27,7 +27,8 @@ returns-2 c =
     let at-judge = at-if2 .before .before .before .before .before in
     let at-start = at-judge .before .before .before in
     let args = at-start .args in
-    rw (c .bare-reply .ensures) (none-there (args .file .now) (args .set) (args .out .now) _ (at-judge .judge .ensures) (at-if2 .before .before .before .if1 .left) _ (at-if2 .before .before .find-data .ensures) (at-if2 .if2 .taken))
+    let none = none-there (args .file .now) (args .set) (args .out .now) _ (at-judge .judge .ensures) (at-if2 .before .before .before .if1 .left) in
+    rw (c .bare-reply .ensures) (none _ (at-if2 .before .before .find-data .ensures) (at-if2 .if2 .taken))
 
 cast-stored : tie.Need-cast-stored
 cast-stored c = search needs
@@ -70,14 +71,15 @@ bare-reply-requires-3 c κs = search needs
 returns-4 : tie.Need-returns-4
 returns-4 c =
     let at-if4 = c .before in
-    let at-if2 = at-if4 .before .before .before .before .before in
+    let at-if3 = at-if4 .before in
+    let at-if2 = at-if3 .before .before .before .before in
     let at-find-data = at-if2 .before .before in
     let at-if1 = at-find-data .before in
     let at-judge = at-if1 .before .before in
     let at-start = at-judge .before .before .before in
     let args = at-start .args in
     let few = too-few (args .file .now) (args .set) (args .out .now) _ (at-judge .judge .ensures) (at-if1 .if1 .left) _ (at-find-data .find-data .ensures) (at-if2 .if2 .left) in
-    rw (c .bare-reply3 .ensures) (few _ _ _ refl (at-if4 .before .before .before .numbers-of .ensures) (at-if4 .before .before .first-refusal .ensures) (at-if4 .before .if3 .left) (at-if4 .if4 .taken))
+    rw (c .bare-reply3 .ensures) (few _ _ _ refl (at-if3 .before .before .numbers-of .ensures) (at-if3 .before .first-refusal .ensures) (at-if3 .if3 .left) (at-if4 .if4 .taken))
 
 fill-requires : tie.Need-fill-requires
 fill-requires c κs =
@@ -105,7 +107,8 @@ returns-5 c =
     let at-start = at-judge .before .before .before in
     let args = at-start .args in
     let filled = all-filled (args .file .now) (args .set) (args .out .now) _ (at-judge .judge .ensures) (at-if1 .if1 .left) _ (at-find-data .find-data .ensures) (at-if2 .if2 .left) in
-    rw (c .bare-reply4 .ensures) (filled _ _ _ refl (at-numbers-of .numbers-of .ensures) (at-first-refusal .first-refusal .ensures) (at-if3 .if3 .left) (at-if4 .if4 .left) _ (at-fill .before .before .fill .ensures))
+    let all = filled _ _ _ refl (at-numbers-of .numbers-of .ensures) (at-first-refusal .first-refusal .ensures) (at-if3 .if3 .left) (at-if4 .if4 .left) in
+    rw (c .bare-reply4 .ensures) (all _ (at-fill .before .before .fill .ensures))
 
 pub values-spec : {M : Type 1} → statement M
 values-spec =

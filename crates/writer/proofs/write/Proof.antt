@@ -13,7 +13,8 @@ judge-header-requires c κs = search needs
 returns : tie.Need-returns
 returns c =
     let at-start = c .before .before .before .before .before .before in
-    header-both (at-start .args .header .now) (at-start .args .coefficients .now) (at-start .args .scales .now) (at-start .args .out .now) _ (c .before .before .before .judge-header .ensures) (c .if1 .taken)
+    let args = at-start .args in
+    header-both (args .header .now) (args .coefficients .now) (args .scales .now) (args .out .now) _ (c .before .before .before .judge-header .ensures) (c .if1 .taken)
 
 bare-reply-requires : tie.Need-bare-reply-requires
 bare-reply-requires c κs = search needs
@@ -54,7 +55,8 @@ bare-reply-requires-3 c κs = search needs
 returns-4 : tie.Need-returns-4
 returns-4 c =
     let at-if5 = c .before in
-    let at-if3 = at-if5 .before .before .before .before in
+    let at-if4 = at-if5 .before .before in
+    let at-if3 = at-if4 .before .before in
     let at-if2 = at-if3 .before .before in
     let at-if1 = at-if2 .before .before in
     let at-judge-header = at-if1 .before .before .before in
@@ -62,7 +64,7 @@ returns-4 c =
     let args = at-start .args in
     let counts = eqb-true _ _ (not-false _ (at-if3 .if3 .left)) in
     let both = short-both (args .header .now) (args .coefficients .now) (args .scales .now) (args .out .now) _ (at-judge-header .judge-header .ensures) (at-if1 .if1 .left) (at-if2 .if2 .left) in
-    rw (c .bare-reply3 .ensures) (both counts _ (at-if5 .before .before .before .first-unfit .ensures) (at-if5 .before .before .if4 .left) _ (at-if5 .before .set-fits .ensures) (not-true _ (at-if5 .if5 .taken)))
+    rw (c .bare-reply3 .ensures) (both counts _ (at-if4 .before .first-unfit .ensures) (at-if4 .if4 .left) _ (at-if5 .before .set-fits .ensures) (not-true _ (at-if5 .if5 .taken)))
 
 put-set-requires : tie.Need-put-set-requires
 put-set-requires c κs =
