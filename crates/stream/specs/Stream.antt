@@ -23,7 +23,7 @@ use Rattle.stream.specs.declared.Answer.{Answer}
 use Rattle.stream.specs.declared.Answer.the-variants.{SoFar, Refused}
 
 -- what an answer needs of the open line: its first 80 bytes, its last one (0 where it has none), how many bytes it has, and the column of the first
--- byte not allowed (0 where all are). "No copy of the line": a longer one is refused, 2 at that column or 3.
+-- byte not allowed (0 where all are). A line of more than 80 columns is refused whatever else it holds: 2 at that column, otherwise 3.
 pub record OpenLine : Type 0 where
   pub first : List ℕ
   pub last : ℕ
@@ -43,8 +43,7 @@ longer o b =
     openLine (take 80 (o .first ++ b)) (getD b (length b - 1) (o .last)) (o .size + length b)
     (pick (ltb 0 (o .bad)) (o .bad) (firstBad (o .size + 1) b))
 
--- how many columns it has, by its last byte, when its LF comes (true) or at the file's end: a CR that comes last belongs to the line's end, where there is
--- an LF
+-- how many columns it has, by its last byte, when its LF comes (true) or at the file's end: a CR that comes last belongs to the line's end, where there is an LF
 unfoldable pub columnsOf : Bool → ℕ → ℕ → ℕ
 columnsOf ended last size = pick (ended && eqb last 13) (size - 1) size
 
