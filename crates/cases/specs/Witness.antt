@@ -7,12 +7,18 @@ use Rattle.judge.specs.Judge.{reply, judged}
 use Rattle.cases.specs.Files.{none, _⊕_, example}
 use Rattle.cases.specs.Computed.{computed-judge}
 
--- a set 1815: its first eight records, the next ten, the others with its lists
-abbrev eightRecords : List ℕ → List ℕ
-eightRecords rest = "    -1" ⊕ "  1815" ⊕ "           1Overall" ⊕ "  0.0000000E+00  0.0000000E+00" ⊕ " 0     0 0     1           0" ⊕ "  0.0000000E+00  0.0000000E+00" ⊕ "  0.0000000E+00  0.0000000E+00" ⊕ "  0.0000000E+00  0.0000000E+00  0.0000000E+00           0 0" ⊕ "  0.0000000E+00 0           0     0" ⊕ "           0" ⊕ rest
+-- a set 1815: its records up to the 4th, the 8th, the 12th and the 18th, the others with its lists
+abbrev to4th : List ℕ → List ℕ
+to4th rest = "    -1" ⊕ "  1815" ⊕ "           1Overall" ⊕ "  0.0000000E+00  0.0000000E+00" ⊕ " 0     0 0     1           0" ⊕ "  0.0000000E+00  0.0000000E+00" ⊕ rest
 
-abbrev tenRecords : List ℕ → List ℕ
-tenRecords rest = "     0  0.0000000E+00" ⊕ " 0     1           0  0.0000000E+00  0.0000000E+00" ⊕ " 0     1  0.0000000E+00  0.0000000E+00  0.0000000E+00" ⊕ "     2     0     0 0 0 0 0 0 0 0 0" ⊕ "" ⊕ "" ⊕ "           0     1     0     0 0" ⊕ "     0  0.0000000E+00  0.0000000E+00" ⊕ " 0           0  0.0000000E+00" ⊕ " 0" ⊕ rest
+abbrev to8th : List ℕ → List ℕ
+to8th rest = "  0.0000000E+00  0.0000000E+00" ⊕ "  0.0000000E+00  0.0000000E+00  0.0000000E+00           0 0" ⊕ "  0.0000000E+00 0           0     0" ⊕ "           0" ⊕ rest
+
+abbrev to12th : List ℕ → List ℕ
+to12th rest = "     0  0.0000000E+00" ⊕ " 0     1           0  0.0000000E+00  0.0000000E+00" ⊕ " 0     1  0.0000000E+00  0.0000000E+00  0.0000000E+00" ⊕ "     2     0     0 0 0 0 0 0 0 0 0" ⊕ rest
+
+abbrev to18th : List ℕ → List ℕ
+to18th rest = "" ⊕ "" ⊕ "           0     1     0     0 0" ⊕ "     0  0.0000000E+00  0.0000000E+00" ⊕ " 0           0  0.0000000E+00" ⊕ " 0" ⊕ rest
 
 abbrev lastRecords : List ℕ
 lastRecords = " 0 0           0" ⊕ "" ⊕ "" ⊕ "" ⊕ "" ⊕ "           0           6" ⊕ "  0.0000000E+00  0.0000000E+00  0.0000000E+00  0.0000000E+00  0.0000000E+00" ⊕ "  0.0000000E+00" ⊕ "    -1" ⊕ none
@@ -38,7 +44,7 @@ cases =
     -- 151, its three integers blank
     (case ("    -1" ⊕ "   151" ⊕ "model" ⊕ "" ⊕ "program" ⊕ "15-NOV-26 10:00:00" ⊕ "15-NOV-26 10:00:00" ⊕ "program" ⊕ "15-NOV-26 10:00:00" ⊕ "    -1" ⊕ none) 10) ⊞
     -- 1815, two lists
-    (case (eightRecords (tenRecords lastRecords)) 29) ⊞
+    (case (to4th (to8th (to12th (to18th lastRecords)))) 29) ⊞
     -- a plain set, with a blank line
     (case ("" ⊕ "    -1" ⊕ "  2420" ⊕ "anything" ⊕ "" ⊕ "    -1" ⊕ "" ⊕ none) 7) ⊞
     L.[]

@@ -1,6 +1,8 @@
 // The layout of 58's data lines: the eight cases as one table, and the columns computed from it.
 ghost use mathlib.Core.Path.{_≡_};
+ghost use lib.Dec.{eqb};
 ghost use lib.ListN.{getD};
+ghost use Rattle.laws.specs.Choice.{pick};
 ghost use Rattle.laws.specs.Table.{tabulate};
 ghost use Rattle.layout.specs.Columns.{fieldStart};
 ghost use Rattle.layout.specs.Layout.{layoutOf, fieldsOf, valuesOf, caseFor, numbersOf, cellOf};
@@ -18,45 +20,34 @@ pub const LAYOUTS: [[u8; 8]; 8] = [
     [13, 20, 20, 0, 0, 0, 3, 1],
 ];
 
+// The even case where the spacing is 1, the uneven one where it is 0; 8 for any other spacing.
+fn by_spacing(spacing: u32, even: usize, uneven: usize) -> usize
+    ensures { λ r. ⌜ r ≡ pick (eqb spacing 1) even (pick (eqb spacing 0) uneven 8) ⌝ }
+{
+    if spacing == 1 {
+        return even;
+    }
+    if spacing == 0 {
+        return uneven;
+    }
+    8
+}
+
 // The case, counted from 0, of an ordinate type and a spacing (1 even, 0 uneven); 8 where there is none.
 pub fn case_of(ordinate_type: u32, spacing: u32) -> usize
     ensures { λ r. ⌜ r ≡ caseFor «ordinate_type» spacing ⌝ }
 {
     if ordinate_type == 2 {
-        if spacing == 1 {
-            return 0;
-        }
-        if spacing == 0 {
-            return 1;
-        }
-        return 8;
+        return by_spacing(spacing, 0, 1);
     }
     if ordinate_type == 5 {
-        if spacing == 1 {
-            return 2;
-        }
-        if spacing == 0 {
-            return 3;
-        }
-        return 8;
+        return by_spacing(spacing, 2, 3);
     }
     if ordinate_type == 4 {
-        if spacing == 1 {
-            return 4;
-        }
-        if spacing == 0 {
-            return 5;
-        }
-        return 8;
+        return by_spacing(spacing, 4, 5);
     }
     if ordinate_type == 6 {
-        if spacing == 1 {
-            return 6;
-        }
-        if spacing == 0 {
-            return 7;
-        }
-        return 8;
+        return by_spacing(spacing, 6, 7);
     }
     8
 }

@@ -1,10 +1,12 @@
 // Real fields of any width.
 ghost use mathlib.Core.Path.{_≡_};
 ghost use mathlib.Core.Logic.{_⊎_};
-ghost use Prim.Native.Nat.{_^_, _<_};
+ghost use Prim.Native.Nat.{_^_, _-_, _≤_, _<_};
+ghost use lib.ListN.{length, drop};
 ghost use Rattle.real.specs.Real.{malformed, push, next, onCoefficient, exponentDigit, onExponent, onDigit};
 ghost use Rattle.real.specs.Real.{afterCoefficient, onSign, onPoint, onLetter, onBlank, isLetter, scanStep, scaled, realEnd, realOf};
-ghost use Rattle.real.specs.Plain.{isPlain, Few};
+ghost use Rattle.real.specs.Spelling.{ExponentSpelling};
+ghost use Rattle.real.specs.Plain.{isPlain, isLettered, isBare, Few};
 use laws::wide;
 use text::blanks_before;
 use text::is_digit;
@@ -38,6 +40,12 @@ pub struct Scan {
     pub after: u8,
     pub down: bool,
     pub exponent: u16,
+}
+
+// An exponent: whether its sign is a minus, and its digits as a number; 10^18 where there is none.
+pub struct Exponent {
+    pub down: bool,
+    pub size: u64,
 }
 
 // 10^18: one digit more than a coefficient may have.
@@ -339,13 +347,53 @@ fn push_digits(m: u64, s: &[u8]) -> u64
     c
 }
 
-// Whether these columns are those of the usual spelling that hold no digit: a blank, a blank or a minus, the point, the letter
-// and its sign.
-fn is_plain(first: u8, second: u8, point: u8, letter: u8, sign: u8) -> bool
-    ensures { λ r. ⌜ r ≡ isPlain first second point letter sign ⌝ }
+// Whether these columns are those before the exponent in the usual spelling that hold no digit: a blank, a blank or a minus, and
+// the point.
+fn is_plain(first: u8, second: u8, point: u8) -> bool
+    ensures { λ r. ⌜ r ≡ isPlain first second point ⌝ }
 {
-    ((first == 32) & ((second == 32) | (second == 45)))
-        & ((point == 46) & (is_letter(letter) & ((sign == 43) | (sign == 45))))
+    (first == 32) & (((second == 32) | (second == 45)) & (point == 46))
+}
+
+// Whether a letter and a sign stand in these columns.
+fn is_lettered(letter: u8, sign: u8) -> bool
+    ensures { λ r. ⌜ r ≡ isLettered letter sign ⌝ }
+{
+    is_letter(letter) & ((sign == 43) | (sign == 45))
+}
+
+// Whether a sign without a letter before it stands in these columns.
+fn is_bare(before: u8, sign: u8) -> bool
+    ensures { λ r. ⌜ r ≡ isBare before sign ⌝ }
+{
+    !is_letter(before) & ((sign == 43) | (sign == 45))
+}
+
+// The exponent in the last four columns of a field: a letter, a sign and two digits, or a sign and three digits.
+fn plain_exponent(s: &[u8]) -> Exponent
+    requires { ⌜ 9 ≤ length (now s) ⌝ }
+    ensures { λ r. ⌜ (r .size < 10 ^ 18 → ExponentSpelling (r .down) (r .size) (drop (length (now (s .entry)) - 4) (now (s .entry)))) ⌝ }
+{
+    let fourth = s.len() - 4;
+    let third = s.len() - 3;
+    let second = s.len() - 2;
+    if is_lettered(s[fourth], s[third]) {
+        return Exponent {
+            down: s[third] == 45,
+            size: push_digits(0, &s[second..]),
+        };
+    }
+    let before = s.len() - 5;
+    if is_bare(s[before], s[fourth]) {
+        return Exponent {
+            down: s[fourth] == 45,
+            size: push_digits(0, &s[third..]),
+        };
+    }
+    Exponent {
+        down: false,
+        size: NO_COEFFICIENT,
+    }
 }
 
 // What a field of the usual spelling holds; Malformed where it is spelled otherwise, whatever it then holds.
@@ -355,20 +403,18 @@ fn plain_field(s: &[u8]) -> Real
     if s.len() < 9 {
         return Real::Malformed;
     }
-    let letter = s.len() - 4;
-    let sign = s.len() - 3;
-    let exponent = s.len() - 2;
-    if !is_plain(s[0], s[1], s[3], s[letter], s[sign]) {
+    if !is_plain(s[0], s[1], s[3]) {
         return Real::Malformed;
     }
-    let part = &s[4..letter];
+    let e = plain_exponent(s);
+    if 999 < e.size {
+        return Real::Malformed;
+    }
+    let past = s.len() - 4;
+    let part = &s[4..past];
     let whole = push_digits(0, &s[2..3]);
     let c = push_digits(whole, part);
-    let x = push_digits(0, &s[exponent..]);
     if NO_COEFFICIENT <= c {
-        return Real::Malformed;
-    }
-    if 99 < x {
         return Real::Malformed;
     }
     let after = part.len() as u8;
@@ -378,8 +424,8 @@ fn plain_field(s: &[u8]) -> Real
         coefficient: c,
         digits: after + 1,
         after,
-        down: s[sign] == 45,
-        exponent: x as u16,
+        down: e.down,
+        exponent: e.size as u16,
     })
 }
 

@@ -155,12 +155,6 @@ module _ (k c : ℕ) (cols : List ℕ) where
 
 -- one turn of a loop over the fields: field k, of width w, from the column at on
 module _ (ks ws line : List ℕ) (k at w : ℕ) (h : k < length ws) (l : length ws ≤ length ks) (q : w ≡ getD ws k 0) where
-  pub field-fits : at + total (drop k ws) ≤ 80 → at + w ≤ 80
-  field-fits f = let t : total (drop k ws) ≡ getD ws k 0 + total (drop (k + 1) ws) = total-next ws k h in omega arith
-
-  pub fields-fit : at + total (drop k ws) ≤ 80 → at + w + total (drop (k + 1) ws) ≤ 80
-  fields-fit f = let t : total (drop k ws) ≡ getD ws k 0 + total (drop (k + 1) ws) = total-next ws k h in omega arith
-
   pub fieldsFault-stop : w ≡ 0 → fieldsFault (fieldList (drop k ks) (drop k ws)) at line ≡ passed
   unfolding fieldsFault
   fieldsFault-stop e = rw (fieldList-stop ks ws k h l (sym q ∙ e)) refl

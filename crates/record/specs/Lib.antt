@@ -1,5 +1,7 @@
 pub mod Check
 pub mod CheckLaws
+pub mod Going
+pub mod GoingLaws
 pub mod NumberLaws
 pub mod Condition
 pub mod ConditionLaws

@@ -57,6 +57,10 @@ beforeAxes = 7
 abbrev pub lineSeven : ℕ
 lineSeven = 6
 
+-- how many records a 1815 has, the most of any set
+abbrev pub mostRecords : ℕ
+mostRecords = 24
+
 unfoldable pub typedSets : List TypedSet
 typedSets =
     -- lines 1 to 11, then the data

@@ -12,7 +12,8 @@ use Rattle.laws.specs.Ranges.{allAre}
 use Rattle.laws.specs.RangesLaws.{in-range}
 use Rattle.record_table.specs.Row.{Condition, none, zeroIfUneven, aboveZero}
 use Rattle.record_table.specs.Records.{noRecord, records, recordOf}
-use Rattle.record_table.specs.TypedSets.{Following, nothing, list, lists, dataLines, TypedSet, typedSet, kind58, kind82, kind151, kind164, kind1815, untyped, headerLines, typedSets, kindOf, sequence, following}
+use Rattle.record_table.specs.TypedSets.{Following, nothing, list, lists, dataLines, TypedSet, typedSet, typedSets, sequence, following}
+use Rattle.record_table.specs.TypedSets.{kind58, kind82, kind151, kind164, kind1815, untyped, kindOf, headerLines}
 
 -- the names of the kinds and the count of 58's records are the table's
 pub kinds-named : map kindOf (58 ∷ 82 ∷ 151 ∷ 164 ∷ 1815 ∷ 1 ∷ []) ≡ kind58 ∷ kind82 ∷ kind151 ∷ kind164 ∷ kind1815 ∷ untyped ∷ []

@@ -70,6 +70,9 @@ pub const BEFORE_AXES: usize = 7;
 
 pub const LINE_SEVEN: usize = 6;
 
+// How many records a 1815 has, the most of any set.
+pub const MOST_RECORDS: usize = 24;
+
 // A record's fields: their forms, and their widths, which a width of 0 ends.
 pub struct RowNumbers {
     pub forms: [u8; 12],

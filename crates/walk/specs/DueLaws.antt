@@ -22,7 +22,7 @@ use Rattle.field.specs.Item.{natural, Item}
 use Rattle.field.specs.Field.{integerItem}
 use Rattle.record_table.specs.Row.{Row, none, breach, firstFields}
 use Rattle.record_table.specs.Records.{records, recordOf, dataRow, noRecord}
-use Rattle.record_table.specs.TypedSets.{typedSets, sequence, untyped, Following, nothing, list, lists, dataLines, kind58, kind82, kind1815, lineSeven, beforeAxes, following}
+use Rattle.record_table.specs.TypedSets.{typedSets, sequence, untyped, Following, nothing, list, lists, dataLines, kind58, kind82, kind1815, lineSeven, beforeAxes, mostRecords, following}
 use Rattle.record.specs.Check.{orElse, otherwise, strayFault, fieldsFault, stray, fieldsRefusal, conditionFault, rowRefusal, itemsOf}
 use Rattle.record_table.specs.TypedSetsLaws.{isCounted, is-counted, typed-sound, sequence-past, following-past}
 use Rattle.record_table.specs.TabledLaws.{recordOf-past}
@@ -31,11 +31,11 @@ use Rattle.record.specs.DeclaredLaws.{declares-items}
 use Rattle.walk.specs.declared.Due.{Due}
 use Rattle.walk.specs.Due.{due, recordDue, listRow, rowDue, settled, afterList, fullRow, countPlace, next, itemsDue, afterRecord, afterItems, after, mayClose, mayContinue}
 
--- no sequence is longer than 24
+-- no sequence is longer than the longest
 abbrev short : ℕ → Bool
-short k = leb (length (sequence k)) 24
+short k = leb (length (sequence k)) mostRecords
 
-sequence-short : (k : ℕ) → length (sequence k) ≤ 24
+sequence-short : (k : ℕ) → length (sequence k) ≤ mostRecords
 unfolding sequence typedSets
 sequence-short k =
     ⊎-elim (λ h. leb-true _ _ (in-range short true 0 untyped k refl (omega arith) (omega arith))) (λ h. rw (sequence-past k h) (omega arith)) (below-or-not k untyped)
@@ -45,14 +45,14 @@ module _ (d : Due) where
   unfolding recordDue
   recordDue-kind-past h = rw (sequence-past (d .kind) h) refl
 
-  pub recordDue-at-past : 24 ≤ d .at → recordDue d ≡ noRecord
+  pub recordDue-at-past : mostRecords ≤ d .at → recordDue d ≡ noRecord
   unfolding recordDue
-  recordDue-at-past h = let s : length (sequence (d .kind)) ≤ 24 = sequence-short (d .kind) in List·getD-eq-default (sequence (d .kind)) noRecord (omega arith)
+  recordDue-at-past h = let s : length (sequence (d .kind)) ≤ mostRecords = sequence-short (d .kind) in List·getD-eq-default (sequence (d .kind)) noRecord (omega arith)
 
-  -- a record is due only before the 24th has come
-  pub recordDue-at : recordDue d < noRecord → d .at < 24
+  -- a record is due only before as many have come
+  pub recordDue-at : recordDue d < noRecord → d .at < mostRecords
   recordDue-at h =
-      ⊎-elim (λ l. l) (λ l. let e : recordDue d ≡ noRecord = recordDue-at-past l in absurd (omega arith)) (below-or-not (d .at) 24)
+      ⊎-elim (λ l. l) (λ l. let e : recordDue d ≡ noRecord = recordDue-at-past l in absurd (omega arith)) (below-or-not (d .at) mostRecords)
 
   -- the code's sequence of a kind
   pub recordDue-sequence : (rs : List ℕ) (k : ℕ) → rs ≡ sequence k → d .kind ≡ k → getD rs (d .at) noRecord ≡ recordDue d
@@ -202,7 +202,7 @@ module _ (d : Due) (line : List ℕ) where
   afterRecord-trace k a = rw (k, a) refl
 
   pub afterRecord-orders : d .kind ≡ kind1815 → d .at ≡ 23
-      → settled (due kind1815 24 0 (numberIn 0 12 line) (numberIn 12 24 line)) ≡ afterRecord d (itemsDue d line)
+      → settled (due kind1815 mostRecords 0 (numberIn 0 12 line) (numberIn 12 24 line)) ≡ afterRecord d (itemsDue d line)
   unfolding afterRecord following typedSets rowDue recordDue sequence recordOf records itemsOf numberIn naturalAt
   afterRecord-orders k a = rw (k, a) refl
 

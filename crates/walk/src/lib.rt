@@ -4,7 +4,7 @@ ghost use Prim.Native.Nat.{_≤_, _<_};
 ghost use lib.ListN.{length, getD};
 ghost use Rattle.line.specs.Line.{refusal};
 ghost use Rattle.record_table.specs.Records.{noRecord};
-ghost use Rattle.record_table.specs.TypedSets.{kind58, kind82, kind1815, beforeAxes, kindOf, isTyped};
+ghost use Rattle.record_table.specs.TypedSets.{kind58, kind82, kind1815, beforeAxes, mostRecords, kindOf, isTyped};
 ghost use Rattle.record.specs.Check.{rowRefusal};
 ghost use Rattle.record.specs.Declared.{numberIn, caseIn, countIn, storedIn};
 ghost use Rattle.walk.specs.Due.{due, next, recordDue, listRow, rowDue, mayClose, mayContinue, settled, itemsDue, afterRecord, afterList, after};
@@ -19,6 +19,7 @@ use record_table::KIND_151;
 use record_table::KIND_164;
 use record_table::KIND_1815;
 use record_table::LINE_SEVEN;
+use record_table::MOST_RECORDS;
 use record_table::NO_RECORD;
 use record_table::ORDER_LISTS;
 use record_table::TRACE_ENTRIES;
@@ -67,7 +68,7 @@ const RECORDS_151: [u8; 7] = [0, 0, 0, 7, 8, 0, 8];
 
 const RECORDS_164: [u8; 3] = [9, 10, 11];
 
-const RECORDS_1815: [u8; 24] = [
+const RECORDS_1815: [u8; MOST_RECORDS] = [
     12,
     13,
     14,
@@ -251,13 +252,13 @@ fn after_trace(line: &[u8; 80]) -> Due
 
 // After 1815's record 24: two lists follow.
 fn after_orders(line: &[u8; 80]) -> Due
-    ensures { λ r. ⌜ r ≡ settled (due kind1815 24 0 (numberIn 0 12 (now (line .entry))) (numberIn 12 24 (now (line .entry)))) ⌝ }
+    ensures { λ r. ⌜ r ≡ settled (due kind1815 mostRecords 0 (numberIn 0 12 (now (line .entry))) (numberIn 12 24 (now (line .entry)))) ⌝ }
 {
     let first = number_in(line, 0, 12) as usize;
     let second = number_in(line, 12, 24) as usize;
     settled(Due {
         kind: KIND_1815,
-        at: 24,
+        at: MOST_RECORDS,
         case: 0,
         left: first,
         second,
@@ -266,7 +267,7 @@ fn after_orders(line: &[u8; 80]) -> Due
 
 // The next record is due.
 fn next_record(d: Due) -> Due
-    requires { ⌜ d .at < 24 ⌝ }
+    requires { ⌜ d .at < mostRecords ⌝ }
     ensures { λ r. ⌜ r ≡ next d ⌝ }
 {
     Due {
@@ -280,7 +281,7 @@ fn next_record(d: Due) -> Due
 
 // After a record: 58's line 7, 82's line 1 and 1815's record 24 say how many numbers follow the records.
 fn after_record(d: Due, line: &[u8; 80]) -> Due
-    requires { ⌜ d .at < 24 ⌝ }
+    requires { ⌜ d .at < mostRecords ⌝ }
     ensures { λ r. ⌜ r ≡ afterRecord d (itemsDue d (now (line .entry))) ⌝ }
 {
     if d.kind == KIND_58 {
