@@ -349,6 +349,7 @@ fn check_outcomes(run: &Run) {
 
 fn main() {
     let mut run = Run { random: Random::new(0x5EED_0C11_0B57_0127), cuts: 0, bursts: 0, ends: [0; 26] };
+    run.take_columns();
     for edge in edges::edges() {
         for _ in 0..CUTS {
             run.take(&edge.name, &edge.file);
@@ -357,7 +358,6 @@ fn main() {
     let mut random = Random::new(0x5EED_0F58_0C11_0151);
     take_generated(&mut run, &mut random);
     run.take_long_lines();
-    run.take_columns();
     run.take_any_lines(&mut random);
     too_short();
     made_up(&mut random, 20_000);
