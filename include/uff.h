@@ -154,9 +154,9 @@ uint64_t uff_write(const uint8_t *header, size_t header_len, const int64_t *coef
  * UFF_STREAM_LINE bytes that the caller keeps. Any contents of the record are safe; one that uff_start
  * laid out starts a new file.
  *
- * Of the numbers (from 0) the ninth, numbers[8], is the refusal's number, or 0; numbers[12] is the
- * refusal's column, and while there is no refusal that of the first bad byte that was dropped from the
- * line that is open, of which only the first and the last bytes are kept, or 0.
+ * Of a line that is still open the record keeps its first 80 bytes, its last one, its length and, in
+ * numbers[12], the column of its first byte that is not allowed, or 0. Once a line is refused
+ * numbers[12] is the refusal's column. No caller need read it: the replies have it.
  *
  * uff_start lays out such a record. The answer is 0. Refused with 20 where a buffer is shorter.
  */

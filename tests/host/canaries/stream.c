@@ -6,14 +6,14 @@
 
 /*
  * Which of the record's numbers is the refusal's, which says that the end was asked, and which, the last that is used, is
- * the refusal's column.
+ * the column: the refusal's, or while there is none that of the open line's first byte not allowed.
  */
 #define REFUSAL 8
 #define MARK 11
 #define COLUMN 12
 #define USED_NUMBERS (COLUMN + 1)
 
-/* Of the line, 80 columns and a byte are used. */
+/* Of the line, 80 columns and the last byte are used. */
 #define USED_LINE (80 + 1)
 
 /* A record whose buffers have so many places. */
@@ -228,13 +228,13 @@ static void unused_stay(void)
     take_back_record(&r);
 }
 
-/* A record with this refusal number and column 27, which no bursts gave: what it answers. */
-static void made_up(uint64_t refusal, struct due due)
+/* A record with this refusal number and column, which no bursts gave: what it answers. */
+static void made_up(uint64_t refusal, uint64_t column, struct due due)
 {
     struct record r = lend_record(UFF_STREAM_NUMBERS, UFF_STREAM_LINE);
     check_reply(start(&r), 0, 0);
     numbers_of(&r)[REFUSAL] = refusal;
-    numbers_of(&r)[COLUMN] = 27;
+    numbers_of(&r)[COLUMN] = column;
     check_due(burst(&r, (const uint8_t *)"\n", 1), due);
     check_due(end(&r), due);
     take_back_record(&r);
@@ -246,11 +246,41 @@ static void refusal_numbers(void)
     static const uint64_t others[] = {1, 16, 17, 20, 23, 26, 126, 127, 128, 129, 255, 256, 258, 280, 281, 384, 4294967298, UINT64_MAX};
     name = "a record with a made-up refusal number";
     for (size_t i = 0; i < sizeof others / sizeof *others; i++)
-        made_up(others[i], (struct due){1, 0, 0});
+        made_up(others[i], 27, (struct due){1, 0, 0});
     for (uint64_t n = 2; n <= 15; n++)
-        made_up(n, (struct due){n, 1, 27});
-    made_up(24, (struct due){24, 1, 27});
-    made_up(25, (struct due){25, 1, 27});
+        made_up(n, 27, (struct due){n, 1, 27});
+    made_up(24, 27, (struct due){24, 1, 27});
+    made_up(25, 27, (struct due){25, 1, 27});
+    name = "a record with a made-up column";
+    made_up(5, 0, (struct due){5, 1, 0});
+    made_up(5, 33554431, (struct due){5, 1, 33554431});
+    made_up(5, 33554432, (struct due){5, 1, 33554431});
+    made_up(5, UINT64_MAX, (struct due){5, 1, 33554431});
+}
+
+/*
+ * The column of a record that bursts grew: while the line is open that of its first byte not allowed, then the refusal's;
+ * where the bad byte is a CR that the LF makes part of the line's end, none.
+ */
+static void columns_kept(void)
+{
+    struct record r = lend_record(UFF_STREAM_NUMBERS, UFF_STREAM_LINE);
+    name = "the column that a record keeps";
+    check_reply(start(&r), 0, 0);
+    check_reply(burst(&r, (const uint8_t *)EIGHTY EIGHTY "\t", 161), 127, 0);
+    check_reply(burst(&r, (const uint8_t *)EIGHTY "\t", 81), 127, 0);
+    if (numbers_of(&r)[REFUSAL] != 0 || numbers_of(&r)[COLUMN] != 161)
+        differs("not the first bad byte's column");
+    check_refusal(burst(&r, (const uint8_t *)"\n", 1), 2, 1, 161);
+    if (numbers_of(&r)[REFUSAL] != 2 || numbers_of(&r)[COLUMN] != 161)
+        differs("not the refusal's column");
+    check_refusal(burst(&r, (const uint8_t *)"\t\n", 2), 2, 1, 161);
+    check_reply(start(&r), 0, 0);
+    check_reply(burst(&r, (const uint8_t *)"    -1\r", 7), 127, 0);
+    check_reply(burst(&r, (const uint8_t *)"\n", 1), 127, 1);
+    if (numbers_of(&r)[COLUMN] != 0)
+        differs("the column of a CR that ended its line");
+    take_back_record(&r);
 }
 
 void try_stream(void)
@@ -260,6 +290,7 @@ void try_stream(void)
     wild_records();
     unused_stay();
     refusal_numbers();
+    columns_kept();
 }
 
 /* 1 replaces the refusal of line 1. */
