@@ -227,7 +227,9 @@ impl Run {
             for end in column - 1..=(column + 1).min(file.len()) {
                 self.take_cut(name, &file, &[end]);
             }
-            self.take_cut(name, &file, &[1, 82, 84, column - 1, column]);
+            let mut ends = [1, 82, 84, column - 1, column];
+            ends.sort_unstable();
+            self.take_cut(name, &file, &ends);
         }
     }
 
