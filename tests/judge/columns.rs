@@ -1,7 +1,8 @@
 //! Request C-14: files whose refusals have a column, each typed from the documents' FORMATs.
 //!
 //! Each wrong program that the request's issue names is told apart by one of these files; the comment
-//! above a list says which.
+//! above a list says which. A column beside 19 is told apart by `tests/writer`, number and column
+//! exchanged in the word by every refusal here whose two differ.
 
 use super::{accepted, no_line, put, refused, with, List, HEADER, ORDERS, TRACE, UNITS};
 use crate::common::files::{empty_sets, function, lines};

@@ -467,7 +467,7 @@ fn refused_headers() -> Vec<(&'static str, String, Reply)> {
     ]
 }
 
-/// Refusals of numbers and room by the good header.
+/// Refusals of numbers and room by the good header. None has a column: tells apart one beside 19, whose place is an index.
 fn refused_numbers() -> Vec<Fixed> {
     // Lines of 7, 7, 18, 5, 19, 5, 5, 81, 70, 49, 52, 52, 52, 27 and 7 bytes.
     const LENGTH: usize = 456;
