@@ -47,7 +47,7 @@ int misused(const char *what, const char *word);
 /* The lines in some bytes; one that is open at their end counts if `open`. */
 uint64_t count_lines(const uint8_t *bytes, size_t count, bool open);
 
-/* Prints a reply in the paper's form, and a refusal's text; `lines` are the lines that came. */
+/* Prints a reply in the paper's form, and a refusal's column, where it has one, and text; `lines` are the lines that came. */
 void print_reply(FILE *to, uint64_t reply, uint64_t lines);
 
 /* Writes what was printed in one piece; where that fails there is nothing left to do. */

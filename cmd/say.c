@@ -114,9 +114,12 @@ void print_reply(FILE *to, uint64_t reply, uint64_t lines)
         fprintf(to, "accepted %u\n", place);
     else if (number == UFF_SO_FAR)
         fprintf(to, "so far %u\n", place);
-    else
-        fprintf(to, "refused %u at line %u: %s%s\n", number, place, uff_text(number),
-                place > lines ? " (the file ends before that line)" : "");
+    else {
+        fprintf(to, "refused %u at line %u: ", number, place);
+        if (UFF_COLUMN(reply) != 0)
+            fprintf(to, "column %u: ", UFF_COLUMN(reply));
+        fprintf(to, "%s%s\n", uff_text(number), place > lines ? " (the file ends before that line)" : "");
+    }
 }
 
 void flush_output(void)

@@ -19,7 +19,7 @@
 #include <stddef.h>
 #include <stdint.h>
 
-#define UFF_VERSION "2.0"
+#define UFF_VERSION "3.0"
 
 /* The most bytes that a file has, the most sets, and the numbers that the lister gives for a set. */
 #define UFF_LONGEST 16777216
@@ -37,8 +37,13 @@
 
 /*
  * Every call replies with one word: number * 2^57 + column * 2^32 + place. The number is one of the
- * table below. The column is 0 in this version. With number 0 the place is the answer that the call
- * names; with a refusal it is the line, for 19 the index of the number, and 0 where none is named.
+ * table below. With number 0 the place is the answer that the call names; with a refusal it is the
+ * line, for 19 the index of the number, and 0 where none is named.
+ *
+ * The column of a refusal that has a line is that of the first such byte for 2 and 13, the first of the
+ * field for 10, 11, 12, 14, 24 and 25, and otherwise 1. Every other reply has column 0. Only 2 has a
+ * column past 80. No column of a file is over UFF_LONGEST; of a header lent to uff_write one over
+ * 33,554,431, which the word has no room for, is given as 33,554,431.
  */
 #define UFF_NUMBER(reply) ((unsigned)((uint64_t)(reply) >> 57))
 #define UFF_COLUMN(reply) ((uint32_t)((uint64_t)(reply) >> 32 & 0x1ffffff))
@@ -62,9 +67,9 @@ static inline const char *uff_text(unsigned number)
     case 7: return "the set ends while lines are still due";
     case 8: return "another line stands where the closing delimiter is due";
     case 9: return "a text that must not be blank is blank";
-    case 10: return "an integer field is blank or malformed";
+    case 10: return "an integer field is malformed";
     case 11: return "an integer is out of range, or its code is not listed";
-    case 12: return "a real field is blank or malformed";
+    case 12: return "a real field is malformed";
     case 13: return "a byte that is not blank stands outside the fields due on the line";
     case 14: return "minimum or increment is not zero with uneven spacing, or a factor is not above zero";
     case 15: return "the file has more than 4,096 sets";
@@ -76,6 +81,8 @@ static inline const char *uff_text(unsigned number)
     case 21: return "a number is outside the range that is read exactly";
     case 22: return "coefficients and scales do not agree in count with each other and the header";
     case 23: return "a burst came after the end was asked";
+    case 24: return "an integer field is blank";
+    case 25: return "a real field is blank";
     case 127: return "so far every finished line is good";
     default: return "not a number of this table";
     }
@@ -87,7 +94,7 @@ extern "C" {
 
 /*
  * The judge: whether the bytes are a Universal File. The answer is the last line. A refusal, 1 to 16,
- * is that of the earliest bad line.
+ * 24 or 25, is that of the earliest bad line.
  */
 uint64_t uff_judge(const uint8_t *file, size_t file_len);
 
@@ -162,6 +169,10 @@ uint64_t uff_write(const uint8_t *header, size_t header_len, const int64_t *coef
  * A file judged while it arrives, in bursts of any size, with a record of UFF_STREAM_NUMBERS numbers and
  * UFF_STREAM_LINE bytes that the caller keeps. Any contents of the record are safe; one that uff_start
  * laid out starts a new file.
+ *
+ * Of a line that is still open the record keeps its first 80 bytes, its last one, its length and, in
+ * numbers[12], the column of its first byte that is not allowed, or 0. Once a line is refused
+ * numbers[12] is the refusal's column. No caller need read it: the replies have it.
  *
  * uff_start lays out such a record. The answer is 0. Refused with 20 where a buffer is shorter.
  */

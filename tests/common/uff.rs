@@ -75,10 +75,11 @@ impl Word {
     }
 }
 
-/// A number and its place, with no column.
+/// Number, place and column; a column over 33,554,431 is given as 33,554,431.
 impl From<Reply> for Word {
     fn from(reply: Reply) -> Word {
-        Word((u64::from(reply.number) << 57) + u64::from(reply.place))
+        let column = reply.column.min(33_554_431);
+        Word((u64::from(reply.number) << 57) + (u64::from(column) << 32) + u64::from(reply.place))
     }
 }
 

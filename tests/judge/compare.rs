@@ -21,12 +21,15 @@ const FILES: usize = 240_000;
 /// Strings of bytes that are a file by chance only.
 const ARBITRARY: usize = 60_000;
 
+/// Lines of any length, with bad bytes and CRs in any column.
+const LONG_LINES: usize = 60_000;
+
 /// Files around the limit of 4,096 sets.
 const FILES_OF_MANY_SETS: usize = 48;
 
 /// Each refusal must come at least so often among the generated files. 1 and 16 are left to the
 /// edge files: 1 needs 16 MB.
-const LEAST: [(usize, u32); 15] = [
+const LEAST: [(usize, u32); 17] = [
     (0, 120_000),
     (2, 1_000),
     (3, 1_000),
@@ -42,6 +45,8 @@ const LEAST: [(usize, u32); 15] = [
     (13, 1_000),
     (14, 1_000),
     (15, 12),
+    (24, 1_000),
+    (25, 1_000),
 ];
 
 /// So many reals of the proper files must have an exponent without a letter.
@@ -61,7 +66,7 @@ struct Run {
     files: u32,
     bytes: usize,
     /// How often each refusal came.
-    came: [u32; 17],
+    came: [u32; 26],
     /// Exponents without a letter in the proper files.
     without_letter: u32,
 }
@@ -98,7 +103,7 @@ fn fail(name: &str, file: &[u8], replies: &[(&str, Word)]) -> ! {
     std::process::exit(1);
 }
 
-/// Generated files, proper, faulty and damaged, arbitrary bytes and files of many sets.
+/// Generated files, proper, faulty and damaged, arbitrary bytes, lines of any length and files of many sets.
 fn take_generated(run: &mut Run) {
     let mut random = Random::new(0x5EED_0F58_0082_0151);
     for n in 0..FILES {
@@ -106,7 +111,7 @@ fn take_generated(run: &mut Run) {
             // A proper writing must be accepted, at its last line.
             0 | 2 => {
                 let made = generate::proper(&mut random);
-                let expected = Reply { number: 0, place: made.lines };
+                let expected = Reply::accepted(made.lines);
                 run.without_letter += made.without_letter;
                 run.take("proper file", &made.file, Some(expected));
             }
@@ -133,6 +138,9 @@ fn take_generated(run: &mut Run) {
     for _ in 0..ARBITRARY {
         run.take("arbitrary bytes", &generate::arbitrary(&mut random), None);
     }
+    for _ in 0..LONG_LINES {
+        run.take("a line of any length", &generate::long_line(&mut random), None);
+    }
     take_many_sets(run, &mut random);
 }
 
@@ -140,7 +148,7 @@ fn take_many_sets(run: &mut Run, random: &mut Random) {
     for n in 0..FILES_OF_MANY_SETS {
         let sets = SETS - 1 + n % 4;
         let mut made = generate::many_sets(random, sets);
-        let expected = (sets <= SETS).then_some(Reply { number: 0, place: made.lines });
+        let expected = (sets <= SETS).then_some(Reply::accepted(made.lines));
         run.take("many sets", &made.file, expected);
         if n % 8 >= 4 {
             generate::damage(random, &mut made.file);
@@ -166,18 +174,17 @@ fn check_outcomes(run: &Run) {
 
 fn main() {
     let alone = std::env::args().any(|argument| argument == "--self");
-    let mut run = Run { alone, files: 0, bytes: 0, came: [0; 17], without_letter: 0 };
+    let mut run = Run { alone, files: 0, bytes: 0, came: [0; 26], without_letter: 0 };
     for edge in edges::edges() {
-        let expected = Reply { number: edge.number, place: edge.place };
-        run.take(&edge.name, &edge.file, Some(expected));
+        run.take(&edge.name, &edge.file, Some(edge.reply));
     }
     let edge_files = run.files;
     let edge_came = run.came;
-    run.came = [0; 17];
+    run.came = [0; 26];
     take_generated(&mut run);
 
     println!("refusal  edge files  generated files");
-    for number in 0..17 {
+    for number in (0..17).chain(24..26) {
         println!("{number:7}  {:10}  {:15}", edge_came[number], run.came[number]);
     }
     check_outcomes(&run);

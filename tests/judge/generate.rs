@@ -3,7 +3,8 @@
 //! `proper` writes a random list of sets in random spellings; both judges must accept the result.
 //! `faulty` does the same but now and then writes a wrong field, a wrong line or a wrong count.
 //! `damage` changes the bytes of a finished file: bytes, lines, line ends, columns, exponents, length.
-//! `arbitrary` gives strings of bytes that are a file by chance only.
+//! `arbitrary` gives strings of bytes that are a file by chance only, `long_line` one line with bad
+//! bytes in any column.
 //! All choices come from one xorshift generator, so a seed always gives the same files.
 
 /// xorshift64 with a closing product.
@@ -878,6 +879,26 @@ pub fn arbitrary(random: &mut Random) -> Vec<u8> {
             file
         }
     }
+}
+
+/// One line, often about as long as a line may be, with up to four bad bytes or CRs in any column, and any
+/// end or none; now and then a blank line before it and another after it.
+pub fn long_line(random: &mut Random) -> Vec<u8> {
+    let length = match random.below(4) {
+        0 => random.below(80),
+        1 | 2 => 76 + random.below(14),
+        _ => random.below(400),
+    };
+    let mut line = vec![random.pick(b" x"); length];
+    for _ in 0..random.below(5) {
+        if length > 0 {
+            line[random.below(length)] = random.pick(b"\t\r\r\0\x1f\x7f\x80\xff");
+        }
+    }
+    let end: &[u8] = random.pick(&[b"\n".as_slice(), b"\r\n", b"\r\r\n", b"\r", b""]);
+    let before: &[u8] = if random.one_in(4) { b" \n" } else { b"" };
+    let after: &[u8] = if random.one_in(4) { b"\r\n\t" } else { b"" };
+    [before, &line, end, after].concat()
 }
 
 // Damage ---------------------------------------------------------------------------------------

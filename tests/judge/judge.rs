@@ -1,16 +1,51 @@
 //! A plain, strict judge of Universal Files: the second opinion.
 //!
-//! It was written from the papers alone (document 01, the source documents it names and request C-12
-//! of document 02, with the readings settled for them) and shares nothing with the proved judge, so
-//! that each can be held against the other. It answers refusals 0 to 16 with their places as document
-//! 01's table says. Safe Rust, standard library only, nothing allocated; every line is looked at once,
-//! in order, and the first bad line decides.
+//! It was written from the papers alone (document 01, the source documents it names and requests C-12
+//! and C-14 of document 02, with the readings settled for them) and shares nothing with the proved
+//! judge, so that each can be held against the other. It answers refusals 0 to 16, 24 and 25 with their
+//! places as document 01's table says and their columns as C-14 does. Safe Rust, standard library only,
+//! nothing allocated; every line is looked at once, in order, and the first bad line decides.
 
-/// A refusal's number (0 is "accepted") and its place.
+/// A refusal's number (0 is "accepted"), its place, and its column, which is 0 where no line is named.
 #[derive(Clone, Copy, Debug, PartialEq, Eq)]
 pub struct Reply {
     pub number: u32,
     pub place: u32,
+    pub column: u32,
+}
+
+impl Reply {
+    /// No refusal: the place is the answer.
+    pub const fn accepted(place: u32) -> Reply {
+        Reply { number: 0, place, column: 0 }
+    }
+
+    /// A refusal that has no place.
+    pub const fn no_line(number: u32) -> Reply {
+        Reply { number, place: 0, column: 0 }
+    }
+
+    /// A refusal of a line, with its column (from 1).
+    pub const fn refused(number: u32, place: u32, column: u32) -> Reply {
+        Reply { number, place, column }
+    }
+}
+
+/// Why a line is refused: a number, and the column (from 1) that C-14 names.
+#[derive(Clone, Copy)]
+struct Fault {
+    number: u32,
+    column: usize,
+}
+
+/// "Otherwise 1".
+const fn whole_line(number: u32) -> Fault {
+    Fault { number, column: 1 }
+}
+
+/// The fault of what begins after so many columns.
+fn after(columns: usize) -> impl Fn(u32) -> Fault {
+    move |number| Fault { number, column: columns + 1 }
 }
 
 const LONGEST_FILE: usize = 16_777_216;
@@ -240,7 +275,7 @@ enum Due {
 /// Judges a whole file.
 pub fn judge(file: &[u8]) -> Reply {
     if file.len() > LONGEST_FILE {
-        return Reply { number: 1, place: 0 };
+        return Reply::no_line(1);
     }
     let mut due = Due::Opening;
     let mut sets = 0;
@@ -261,47 +296,45 @@ pub fn judge(file: &[u8]) -> Reply {
                 rest = &[];
             }
         }
-        let outcome = match form(line, end.is_some()) {
-            0 => step(due, line, &mut sets),
-            number => Err(number),
-        };
-        match outcome {
+        match form(line, end.is_some()).and_then(|()| step(due, line, &mut sets)) {
             Ok(next) => due = next,
-            Err(number) => return Reply { number, place: lines },
+            Err(Fault { number, column }) => return Reply::refused(number, lines, column as u32),
         }
     }
     match due {
-        Due::Opening if sets == 0 => Reply { number: 16, place: 0 },
-        Due::Opening => Reply { number: 0, place: lines },
-        _ => Reply { number: 7, place: lines + 1 },
+        Due::Opening if sets == 0 => Reply::no_line(16),
+        Due::Opening => Reply::accepted(lines),
+        _ => Reply::refused(7, lines + 1, 1),
     }
 }
 
-/// The refusals that any line may get, wherever it stands: 2, 3 and 4, or 0 for none.
-fn form(line: &[u8], ended: bool) -> u32 {
-    if line.iter().fold(false, |bad, &b| bad | !(32..=126).contains(&b)) {
-        2
+/// The refusals that any line may get, wherever it stands: 2, 3 and 4.
+fn form(line: &[u8], ended: bool) -> Result<(), Fault> {
+    let allowed = |b: &u8| (32..=126).contains(b);
+    if line.iter().fold(false, |bad, b| bad | !allowed(b)) {
+        let before = line.iter().take_while(|b| allowed(b)).count();
+        Err(after(before)(2))
     } else if line.len() > MOST_COLUMNS {
-        3
+        Err(whole_line(3))
     } else if !ended {
-        4
+        Err(whole_line(4))
     } else {
-        0
+        Ok(())
     }
 }
 
 /// Judges one line by its place and says what is due after it.
-fn step(due: Due, line: &[u8], sets: &mut u32) -> Result<Due, u32> {
+fn step(due: Due, line: &[u8], sets: &mut u32) -> Result<Due, Fault> {
     if is_delimiter(line) {
         return match due {
-            Due::Opening if *sets == MOST_SETS => Err(15),
+            Due::Opening if *sets == MOST_SETS => Err(whole_line(15)),
             Due::Opening => {
                 *sets += 1;
                 Ok(Due::Number)
             }
-            Due::Number => Err(6),
+            Due::Number => Err(whole_line(6)),
             Due::Plain | Due::Closing => Ok(Due::Opening),
-            _ => Err(7),
+            _ => Err(whole_line(7)),
         };
     }
     match due {
@@ -309,11 +342,11 @@ fn step(due: Due, line: &[u8], sets: &mut u32) -> Result<Due, u32> {
             if is_blank(line) {
                 Ok(due)
             } else {
-                Err(5)
+                Err(whole_line(5))
             }
         }
         Due::Number => match number_line(line) {
-            None => Err(6),
+            None => Err(whole_line(6)),
             Some(58) => Ok(Due::Head58(1)),
             Some(82) => Ok(Due::Head82),
             Some(151) => Ok(Due::Line151(1)),
@@ -322,7 +355,7 @@ fn step(due: Due, line: &[u8], sets: &mut u32) -> Result<Due, u32> {
             Some(_) => Ok(Due::Plain),
         },
         Due::Plain => Ok(due),
-        Due::Closing => Err(8),
+        Due::Closing => Err(whole_line(8)),
         Due::Head58(n) => head_58(n, line),
         Due::Axis58(n, widths, numbers) => {
             record(R58_AXIS, line)?;
@@ -374,8 +407,8 @@ fn step(due: Due, line: &[u8], sets: &mut u32) -> Result<Due, u32> {
                 }
                 2 => {
                     let signs = record(R164_FACTORS, line)?;
-                    if signs[..3].iter().any(|&sign| sign <= 0) {
-                        return Err(14);
+                    if let Some(n) = signs[..3].iter().position(|&sign| sign <= 0) {
+                        return Err(after(25 * n)(14));
                     }
                 }
                 _ => {
@@ -405,7 +438,7 @@ fn list(widths: &'static [usize], left: u32, more: u32) -> Due {
 }
 
 /// 58, lines 1 to 7.
-fn head_58(n: u32, line: &[u8]) -> Result<Due, u32> {
+fn head_58(n: u32, line: &[u8]) -> Result<Due, Fault> {
     match n {
         1..=5 => {
             text(line)?;
@@ -419,13 +452,17 @@ fn head_58(n: u32, line: &[u8]) -> Result<Due, u32> {
             // For a real the sign of its value is kept: -1, 0 or 1.
             let got = record(R58_FORM, line)?;
             let (ordinate, count, spacing) = (got[0], got[1] as u32, got[2]);
-            if spacing == 0 && (got[3] != 0 || got[4] != 0) {
-                return Err(14);
+            // Minimum and increment, in columns 31 to 43 and 44 to 56.
+            if spacing == 0 && got[3] != 0 {
+                return Err(after(30)(14));
+            }
+            if spacing == 0 && got[4] != 0 {
+                return Err(after(43)(14));
             }
             match CASES.iter().find(|c| c.ordinate == ordinate && c.spacing == spacing) {
                 Some(case) => Ok(Due::Axis58(8, case.widths, count * case.numbers)),
                 // The codes have been checked, so a case is always found.
-                None => Err(11),
+                None => Err(whole_line(11)),
             }
         }
     }
@@ -456,9 +493,9 @@ fn number_line(line: &[u8]) -> Option<i64> {
 }
 
 /// A text line that may not be blank.
-fn text(line: &[u8]) -> Result<(), u32> {
+fn text(line: &[u8]) -> Result<(), Fault> {
     if is_blank(line) {
-        Err(9)
+        Err(whole_line(9))
     } else {
         Ok(())
     }
@@ -466,25 +503,25 @@ fn text(line: &[u8]) -> Result<(), u32> {
 
 /// Judges a line by a record: the fields from left to right, then the bytes outside of them.
 /// Answers the value of each integer and, for each real, the sign of its value.
-fn record(items: &[Item], line: &[u8]) -> Result<[i64; MOST_ITEMS], u32> {
+fn record(items: &[Item], line: &[u8]) -> Result<[i64; MOST_ITEMS], Fault> {
     let mut got = [0; MOST_ITEMS];
     let mut from = 0;
     for (item, place) in items.iter().zip(&mut got) {
         match *item {
             Int(width, codes) => {
-                let value = integer(columns(line, from, from + width), width)?;
+                let value = integer(columns(line, from, from + width), width).map_err(after(from))?;
                 let listed = match codes {
                     Codes::Span(least, greatest) => least <= value && value <= greatest,
                     Codes::Listed(list) => list.contains(&value),
                 };
                 if !listed {
-                    return Err(11);
+                    return Err(after(from)(11));
                 }
                 *place = value;
                 from += width;
             }
             Real(width) => {
-                *place = real(columns(line, from, from + width), width)?;
+                *place = real(columns(line, from, from + width), width).map_err(after(from))?;
                 from += width;
             }
             Text(width) | Skip(width) => from += width,
@@ -494,38 +531,41 @@ fn record(items: &[Item], line: &[u8]) -> Result<[i64; MOST_ITEMS], u32> {
     for item in items {
         match *item {
             Skip(width) => {
-                if !is_blank(columns(line, from, from + width)) {
-                    return Err(13);
-                }
+                no_stray(line, from, from + width)?;
                 from += width;
             }
             Int(width, _) | Real(width) | Text(width) => from += width,
         }
     }
-    if is_blank(columns(line, from, MOST_COLUMNS)) {
-        Ok(got)
-    } else {
-        Err(13)
+    no_stray(line, from, MOST_COLUMNS)?;
+    Ok(got)
+}
+
+/// Columns outside the fields, from one up to another (from 0, the last left out): all blank.
+fn no_stray(line: &[u8], from: usize, to: usize) -> Result<(), Fault> {
+    match columns(line, from, to).iter().position(|&b| b != b' ') {
+        Some(more) => Err(after(from + more)(13)),
+        None => Ok(()),
     }
 }
 
 /// Judges a line of reals with fields of these widths and nothing after them.
-fn reals(widths: &[usize], line: &[u8]) -> Result<(), u32> {
+fn reals(widths: &[usize], line: &[u8]) -> Result<(), Fault> {
     let mut from = 0;
     for &width in widths {
-        real(columns(line, from, from + width), width)?;
+        real(columns(line, from, from + width), width).map_err(after(from))?;
         from += width;
     }
-    if is_blank(columns(line, from, MOST_COLUMNS)) {
-        Ok(())
-    } else {
-        Err(13)
-    }
+    no_stray(line, from, MOST_COLUMNS)
 }
 
 /// An integer field: blanks, an optional sign, digits up to the last column. A field that the
-/// line ends before (it is filled with blanks) can't have a digit in its last column.
+/// line ends before (it is filled with blanks) can't have a digit in its last column. Refused with
+/// 24 (blank), 10 (malformed) or 11.
 fn integer(field: &[u8], width: usize) -> Result<i64, u32> {
+    if is_blank(field) {
+        return Err(24);
+    }
     if field.len() < width {
         return Err(10);
     }
@@ -545,8 +585,11 @@ fn integer(field: &[u8], width: usize) -> Result<i64, u32> {
 
 /// A real field: blanks, an optional sign, 1 to 18 digits with one point, and then a letter, a sign and
 /// two or three digits, or a sign and just three digits, up to the last column. Answers the sign of the
-/// value: -1, 0 or 1.
+/// value: -1, 0 or 1. Refused with 25 (blank) or 12 (malformed).
 fn real(field: &[u8], width: usize) -> Result<i64, u32> {
+    if is_blank(field) {
+        return Err(25);
+    }
     if field.len() < width {
         return Err(12);
     }

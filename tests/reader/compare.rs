@@ -29,7 +29,6 @@ mod subject;
 mod value;
 mod values;
 
-use judge::Reply;
 use run::{Call, Run};
 use subject::Subject;
 
@@ -53,8 +52,7 @@ fn main() {
         run.take_fixed(&fixed);
     }
     for edge in edges::edges() {
-        let expected = Reply { number: edge.number, place: edge.place };
-        run.take(&edge.name, &edge.file, Some(expected), false);
+        run.take(&edge.name, &edge.file, Some(edge.reply), false);
     }
     generated::take_generated(&mut run);
     outcomes::check_outcomes(&run);

@@ -29,7 +29,7 @@ pub fn take_generated(run: &mut Run) {
 fn take_files(run: &mut Run, random: &mut Random) {
     for n in 0..FILES {
         let mut made = generate::proper(random);
-        let good = Some(Reply { number: 0, place: made.lines });
+        let good = Some(Reply::accepted(made.lines));
         match n % 4 {
             0 => run.take("proper file", &made.file, good, false),
             1 => {
@@ -56,7 +56,7 @@ fn take_many_sets(run: &mut Run, random: &mut Random) {
     for n in 0..FILES_OF_MANY_SETS {
         let sets = SETS - 1 + n % 4;
         let made = generate::many_sets(random, sets);
-        let good = (sets <= SETS).then_some(Reply { number: 0, place: made.lines });
+        let good = (sets <= SETS).then_some(Reply::accepted(made.lines));
         run.take("many sets", &made.file, good, false);
     }
 }

@@ -2,9 +2,10 @@
 
 use crate::common::uff::{self, Row, NUMBER_BYTES};
 use crate::fixed::Fixed;
+use crate::judge::Reply;
 use crate::reader::{self, Accepted, Number};
 use crate::run::{Call, Run};
-use crate::subject::{is_blank, no_place, without_letter, Subject};
+use crate::subject::{is_blank, without_letter, Subject};
 use crate::value::real;
 
 impl Run {
@@ -24,7 +25,7 @@ impl Run {
 pub fn check_fixed(subject: &Subject, fixed: &Fixed) -> usize {
     for (set, index, right) in &fixed.numbers {
         let got = reader::number(subject.file, *set, *index);
-        if got != right.map_err(no_place) {
+        if got != right.map_err(Reply::no_line) {
             let what = format!("papers: {right:?}\nplain:  {got:?}");
             subject.fail(format_args!("number, set {set}, index {index}"), &what);
         }

@@ -3,7 +3,7 @@
 use crate::run::{Call, Run, Tally};
 
 /// Each outcome must come at least so often.
-const LEAST: [(usize, u32); 20] = [
+const LEAST: [(usize, u32); 22] = [
     (0, 10_000),
     (1, 1),
     (2, 100),
@@ -24,6 +24,8 @@ const LEAST: [(usize, u32); 20] = [
     (18, 10_000),
     (20, 5_000),
     (21, 10_000),
+    (24, 100),
+    (25, 100),
 ];
 const LEAST_OF_17: u32 = 10_000;
 const LEAST_OF_A_KIND: u32 = 1_000;
@@ -41,7 +43,7 @@ const CALLS: [Call; 5] = [Call::List, Call::Number, Call::Value, Call::Values, C
 pub fn check_outcomes(run: &Run) {
     let tallies = CALLS.map(|call| run.tally(call));
     println!("refusal    lists  numbers   values  all values  rewritten");
-    for number in 0..23 {
+    for number in 0..26 {
         let [a, b, c, d, e] = tallies.map(|tally| tally.came[number]);
         if a + b + c + d + e > 0 {
             println!("{number:7} {a:8} {b:8} {c:8} {d:11} {e:10}");

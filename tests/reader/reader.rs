@@ -11,10 +11,10 @@ use crate::common::uff::{Row, NUMBER_BYTES};
 use crate::judge::{judge, Reply};
 
 /// No such set, number or value, or not a 58.
-const NO_SUCH: Reply = Reply { number: 18, place: 0 };
+const NO_SUCH: Reply = Reply::no_line(18);
 
 /// A number outside the exact path.
-const NOT_EXACT: Reply = Reply { number: 21, place: 0 };
+const NOT_EXACT: Reply = Reply::no_line(21);
 
 const DELIMITER: &[u8] = b"    -1";
 

@@ -27,7 +27,7 @@ pub enum Call {
 /// Outcomes of one call: how often each refusal came (0 for none), and how often it was compared.
 #[derive(Default)]
 pub struct Tally {
-    pub came: [u32; 23],
+    pub came: [u32; 26],
     pub compared: u32,
 }
 
@@ -123,7 +123,7 @@ impl Run {
     /// Takes a fixed file: every number and value, and the questions whose answers are typed.
     pub fn take_fixed(&mut self, fixed: &Fixed) {
         let file = fixed.file.as_bytes();
-        let good = Reply { number: 0, place: ends(file) as u32 };
+        let good = Reply::accepted(ends(file) as u32);
         self.take(fixed.name, file, Some(good), true);
         let subject = Subject::new(fixed.name, file);
         for (set, index, _) in &fixed.numbers {

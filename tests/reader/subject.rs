@@ -44,7 +44,7 @@ impl<'a> Subject<'a> {
             Err(reply) => return Err(*reply),
         };
         if put.len() > places {
-            return Err(no_place(too_few));
+            return Err(Reply::no_line(too_few));
         }
         Ok((answer, put))
     }
@@ -63,10 +63,6 @@ impl<'a> Subject<'a> {
 
 pub fn without_letter(field: &[u8]) -> bool {
     !field.iter().any(u8::is_ascii_alphabetic)
-}
-
-pub fn no_place(number: u32) -> Reply {
-    Reply { number, place: 0 }
 }
 
 /// All stored numbers of a set; none if it is no 58.

@@ -2,9 +2,10 @@
 
 use crate::common::uff;
 use crate::fixed::{self, Fixed};
+use crate::judge::Reply;
 use crate::reader::{self, Accepted, Number};
 use crate::run::{Call, Run};
-use crate::subject::{bits, no_place, Subject};
+use crate::subject::{bits, Subject};
 
 /// The bytes of an f64.
 pub const BYTES: usize = 8;
@@ -49,7 +50,7 @@ pub fn check_fixed(subject: &Subject, fixed: &Fixed) -> usize {
     let kind_and_bits = |(kind, shown): &(u32, Vec<f64>)| (*kind, bits(shown));
     for (set, index, right) in &fixed.values {
         let got = reader::value(subject.file, *set, *index);
-        let right_bits = right.as_ref().map(kind_and_bits).map_err(|&number| no_place(number));
+        let right_bits = right.as_ref().map(kind_and_bits).map_err(|&number| Reply::no_line(number));
         if got.as_ref().map(kind_and_bits).map_err(|&reply| reply) != right_bits {
             let what = format!("papers: {right:?}\nplain:  {got:?}");
             subject.fail(format_args!("value, set {set}, index {index}"), &what);

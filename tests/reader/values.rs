@@ -3,9 +3,10 @@
 use crate::common::lent::{hold, Due};
 use crate::common::uff;
 use crate::fixed::Fixed;
+use crate::judge::Reply;
 use crate::reader::{self, Accepted, Number};
 use crate::run::{Call, Function, Run};
-use crate::subject::{bits, no_place, Subject};
+use crate::subject::{bits, Subject};
 use crate::value::{real, BYTES};
 
 /// Sets of more numbers are not asked value by value, but those of the fixed files.
@@ -48,7 +49,7 @@ impl Run {
             each.extend(parts.map(u64::from_le_bytes));
         }
         self.at_once[usize::from(refused)] += 1;
-        let due: Due<u64> = if refused { Err(no_place(21)) } else { Ok((numbers, each)) };
+        let due: Due<u64> = if refused { Err(Reply::no_line(21)) } else { Ok((numbers, each)) };
         if let Err(what) = hold(numbers as usize, &due, |out| values(subject, set, out)) {
             subject.fail(format_args!("uff_values, set {set}, due as uff_value gives it"), &what);
         }
@@ -64,7 +65,7 @@ fn values(subject: &Subject, set: u32, out: &mut [u64]) -> uff::Word {
 pub fn check_fixed(subject: &Subject, fixed: &Fixed) -> usize {
     for (set, right) in &fixed.all_values {
         let got = reader::values(subject.file, *set);
-        let right_bits = right.as_deref().map(bits).map_err(|&number| no_place(number));
+        let right_bits = right.as_deref().map(bits).map_err(|&number| Reply::no_line(number));
         if got.as_deref().map(bits).map_err(|&reply| reply) != right_bits {
             let what = format!("papers: {right:?}\nplain:  {got:?}");
             subject.fail(format_args!("all values, set {set}"), &what);
@@ -75,7 +76,7 @@ pub fn check_fixed(subject: &Subject, fixed: &Fixed) -> usize {
 
 /// All values at once are those of the fields.
 pub fn sound(subject: &Subject, set: u32, numbers: &[Number]) {
-    let due = numbers.iter().map(real).collect::<Option<Vec<_>>>().ok_or(no_place(21));
+    let due = numbers.iter().map(real).collect::<Option<Vec<_>>>().ok_or(Reply::no_line(21));
     let got = subject.accepted().values(set);
     if got.as_deref().map(bits) != due.as_deref().map(bits) {
         subject.fail("plain values", &format!("set {set}: {got:?}, of its fields {due:?}"));

@@ -2,8 +2,9 @@
 //!
 //! Each file, fixed, generated, damaged or of arbitrary bytes, comes in bursts of random lengths, some
 //! of none; after each burst the answer must be what the plain judge says of the lines whose LF has
-//! come, at the end what it says of the whole file, and again when asked again; a burst after that is
-//! 23. The program stops at the first difference (exit 1).
+//! come, at the end what it says of the whole file, column included, and again when asked again; a
+//! burst after that is 23. Lines with bad bytes and CRs also come in bursts that end just before, at and
+//! after each of these. The program stops at the first difference (exit 1).
 
 #[path = "../common/mod.rs"]
 mod common;
@@ -19,6 +20,7 @@ mod judge;
 use common::files::{ends, print_lines};
 use common::lent::Lent;
 use common::uff::{self, Word, LONGEST, SO_FAR, STREAM_LINE, STREAM_NUMBERS};
+use edges::columns;
 use generate::Random;
 use judge::Reply;
 
@@ -28,11 +30,14 @@ const FILES: usize = 12_000;
 /// Strings of bytes that are a file by chance only.
 const ARBITRARY: usize = 6_000;
 
+/// Lines of any length, with bad bytes and CRs in any column.
+const LONG_LINES: usize = 60_000;
+
 /// Cuts of each file.
 const CUTS: usize = 4;
 
 /// Each end must come at least so often, so that the files are known to be of use.
-const LEAST: [(usize, u32); 12] = [
+const LEAST: [(usize, u32); 14] = [
     (0, 20_000),
     (1, 4),
     (2, 100),
@@ -45,6 +50,8 @@ const LEAST: [(usize, u32); 12] = [
     (12, 100),
     (13, 100),
     (16, 4),
+    (24, 100),
+    (25, 100),
 ];
 
 /// The most columns of a line.
@@ -54,7 +61,7 @@ const COLUMNS: usize = 80;
 const MARK: usize = 11;
 
 /// A burst after the end was asked.
-const LATE: Reply = Reply { number: 23, place: 0 };
+const LATE: Reply = Reply::no_line(23);
 
 /// A record lent to the proved calls.
 #[derive(Clone, PartialEq)]
@@ -72,11 +79,11 @@ impl Record {
     }
 
     fn burst(&mut self, bytes: &[u8]) -> Word {
-        without_column(uff::burst(self.numbers.places(), self.line.places(), bytes))
+        uff::burst(self.numbers.places(), self.line.places(), bytes)
     }
 
     fn end(&mut self) -> Word {
-        without_column(uff::end(self.numbers.places(), self.line.places()))
+        uff::end(self.numbers.places(), self.line.places())
     }
 
     fn margins_stand(&self) -> bool {
@@ -84,17 +91,11 @@ impl Record {
     }
 }
 
-/// The same reply, whose column is 0.
-fn without_column(word: Word) -> Word {
-    assert_eq!(word.column(), 0, "the column");
-    word
-}
-
 /// The answer after these bytes: 1 past the limit; the refusal of the earliest bad line whose LF has
 /// come, which is the refusal of those lines alone at one of them; otherwise how many they are.
 fn so_far(bytes: &[u8]) -> Reply {
     if bytes.len() > LONGEST {
-        return Reply { number: 1, place: 0 };
+        return Reply::no_line(1);
     }
     let past = bytes.iter().rposition(|&b| b == b'\n').map_or(0, |at| at + 1);
     let lines = ends(&bytes[..past]) as u32;
@@ -102,7 +103,7 @@ fn so_far(bytes: &[u8]) -> Reply {
     if found.number != 0 && found.place >= 1 && found.place <= lines {
         return found;
     }
-    Reply { number: SO_FAR, place: lines }
+    Reply { number: SO_FAR, place: lines, column: 0 }
 }
 
 struct Run {
@@ -110,7 +111,7 @@ struct Run {
     cuts: u32,
     bursts: u32,
     /// How often each end came.
-    ends: [u32; 17],
+    ends: [u32; 26],
 }
 
 impl Run {
@@ -162,17 +163,29 @@ impl Run {
         self.hold(name, file, at, "end after 23", answer, whole);
     }
 
-    /// One file in two bursts, the first of so many bytes.
-    fn take_two(&mut self, name: &str, file: &[u8], first: usize) {
+    /// One file in bursts that end at these bytes, which do not fall, and a last one.
+    fn take_cut(&mut self, name: &str, file: &[u8], ends: &[usize]) {
         self.cuts += 1;
-        self.bursts += 2;
         let mut record = Record::new();
-        let answer = record.burst(&file[..first]);
-        self.hold(name, file, first, "burst", answer, so_far(&file[..first]));
-        let answer = record.burst(&file[first..]);
-        self.hold(name, file, file.len(), "burst", answer, so_far(file));
+        let mut at = 0;
+        for &end in ends.iter().chain([&file.len()]) {
+            self.bursts += 1;
+            let answer = record.burst(&file[at..end]);
+            at = end;
+            self.hold(name, file, at, "burst", answer, so_far(&file[..at]));
+        }
         let answer = record.end();
-        self.hold(name, file, file.len(), "end", answer, judge::judge(file));
+        self.hold(name, file, at, "end", answer, judge::judge(file));
+    }
+
+    /// One file with bursts that end just before, at and after a byte (from 0), and nowhere else; also two such ends.
+    fn take_around(&mut self, name: &str, file: &[u8], byte: usize) {
+        let last = (byte + 3).min(file.len());
+        for first in byte.saturating_sub(1)..=last {
+            for second in first..=last {
+                self.take_cut(name, file, &[first, second]);
+            }
+        }
     }
 
     /// Lines about as long as a record keeps, with one byte that is not allowed in each column in turn, cut at each byte.
@@ -184,10 +197,49 @@ impl Run {
                     file[column] = bad;
                     file.extend_from_slice(end.as_bytes());
                     for first in 0..=file.len() {
-                        self.take_two("a long line", &file, first);
+                        self.take_cut("a long line", &file, &[first]);
                     }
                 }
             }
+        }
+    }
+
+    /// Bad bytes in and around the columns that a line may have, alone and before others; a line's CR or CRs, with its LF
+    /// and without; each with bursts that end around the byte, and one byte at a time.
+    ///
+    /// Tells apart: the column counted from the burst's first byte; a dropped bad byte's column lost, or a later one told;
+    /// a CR before LF told, and one told late that does not stand before LF.
+    fn take_columns(&mut self) {
+        for (name, file, column) in columns::bad_bytes() {
+            self.take_around(&name, &file, column - 1);
+            self.take_cut(&name, &file, &(0..file.len()).collect::<Vec<_>>());
+            // After a line that has ended, and with a good line after it.
+            let inside = [b"\n", &*file, b"\n\n"].concat();
+            self.take_around(&name, &inside, column);
+        }
+        for (name, file, reply) in columns::carriage_returns() {
+            let first = file.iter().position(|&b| b == b'\r').unwrap_or(file.len());
+            self.take_around(&name, &file, first);
+            self.take_cut(&name, &file, &(0..file.len()).collect::<Vec<_>>());
+            assert_eq!(judge::judge(&file), reply, "{name}");
+        }
+        for (name, file, column) in columns::far_bytes() {
+            for end in column - 1..=(column + 1).min(file.len()) {
+                self.take_cut(name, &file, &[end]);
+            }
+            let mut ends = [1, 82, 84, column - 1, column];
+            ends.sort_unstable();
+            self.take_cut(name, &file, &ends);
+        }
+    }
+
+    /// One line of any length, with bad bytes and CRs in any column, in bursts of a few bytes, and after a line.
+    fn take_any_lines(&mut self, random: &mut Random) {
+        for _ in 0..LONG_LINES {
+            let line = generate::long_line(random);
+            self.take("a line of any length", &line);
+            let cut = random.below(line.len() + 1);
+            self.take_cut("a line of any length", &line, &[cut]);
         }
     }
 
@@ -244,7 +296,7 @@ fn made_up(random: &mut Random, count: usize) {
 
 /// A buffer too short is 20, and nothing is touched.
 fn too_short() {
-    const SHORT: Reply = Reply { number: 20, place: 0 };
+    const SHORT: Reply = Reply::no_line(20);
     let rooms = [
         (0, STREAM_LINE),
         (STREAM_NUMBERS - 1, STREAM_LINE),
@@ -289,7 +341,7 @@ fn generated(random: &mut Random, way: usize) -> Vec<u8> {
 
 /// Prints how often each end came and ends the program if one came too seldom.
 fn check_outcomes(run: &Run) {
-    for (number, came) in run.ends.iter().enumerate() {
+    for (number, came) in run.ends.iter().enumerate().filter(|(_, &came)| came > 0) {
         println!("{number:7} {came:8}");
     }
     for (number, least) in LEAST {
@@ -298,7 +350,8 @@ fn check_outcomes(run: &Run) {
 }
 
 fn main() {
-    let mut run = Run { random: Random::new(0x5EED_0C11_0B57_0127), cuts: 0, bursts: 0, ends: [0; 17] };
+    let mut run = Run { random: Random::new(0x5EED_0C11_0B57_0127), cuts: 0, bursts: 0, ends: [0; 26] };
+    run.take_columns();
     for edge in edges::edges() {
         for _ in 0..CUTS {
             run.take(&edge.name, &edge.file);
@@ -307,6 +360,7 @@ fn main() {
     let mut random = Random::new(0x5EED_0F58_0C11_0151);
     take_generated(&mut run, &mut random);
     run.take_long_lines();
+    run.take_any_lines(&mut random);
     too_short();
     made_up(&mut random, 20_000);
     check_outcomes(&run);

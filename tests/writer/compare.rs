@@ -41,7 +41,7 @@ const ARBITRARY: usize = 12_000;
 const MANY: usize = 1_000;
 
 /// Each outcome must come at least so often, so that the inputs are known to be of use.
-const LEAST: [(usize, u32); 15] = [
+const LEAST: [(usize, u32); 17] = [
     (0, 10_000),
     (2, 100),
     (3, 100),
@@ -57,6 +57,8 @@ const LEAST: [(usize, u32); 15] = [
     (19, 1_000),
     (20, 5_000),
     (22, 1_000),
+    (24, 100),
+    (25, 100),
 ];
 
 /// Sets of each of the eight cases must be written so often.
@@ -123,7 +125,7 @@ struct Run {
     headers: u32,
     written: u32,
     /// How often each refusal came (0 for none).
-    came: [u32; 23],
+    came: [u32; 26],
     cases: [u32; 8],
     /// Numbers written with an exponent without a letter.
     without_letter: usize,
@@ -132,7 +134,7 @@ struct Run {
 impl Run {
     fn new(alone: bool) -> Run {
         let random = Random::new(0x5EED_0B1E_0019_0022);
-        Run { alone, random, headers: 0, written: 0, came: [0; 23], cases: [0; 8], without_letter: 0 }
+        Run { alone, random, headers: 0, written: 0, came: [0; 26], cases: [0; 8], without_letter: 0 }
     }
 
     /// Lends so many bytes to both writers.
@@ -197,7 +199,7 @@ impl Run {
 /// reads as the numbers lent, each in the writer's form.
 fn sound<'a>(subject: &Subject, set: &'a [u8]) -> Accepted<'a> {
     let reply = judge::judge(set);
-    if reply != (Reply { number: 0, place: ends(set) as u32 }) {
+    if reply != Reply::accepted(ends(set) as u32) {
         subject.fail("plain judge", &format!("{reply:?} for\n{}", String::from_utf8_lossy(set)));
     }
     let Ok(accepted) = reader::accept(set) else {
@@ -343,7 +345,7 @@ fn check_fixed() -> usize {
             [b"    -1\n    58\n", &*header, field.as_bytes(), b"\n    -1\n"].concat()
         };
         let set = field.as_deref().map(parts);
-        let due = set.as_deref().ok_or(Reply { number: 19, place: 0 });
+        let due = set.as_deref().ok_or(writer::not_exact(0));
         let name = format!("{coefficient}E{scale}, {decimals} decimals");
         check(&name, (&header, &[coefficient], &[scale], 10_000), due);
     }
@@ -367,6 +369,7 @@ fn take_generated(run: &mut Run) {
         let (name, header) = match n % 4 {
             0 | 2 => ("proper header", inputs::proper(&mut random)),
             1 => ("faulty header", inputs::faulty(&mut random)),
+            _ if n % 64 == 3 => ("header with a blank real", inputs::blanked(&mut random)),
             _ => ("damaged header", inputs::damaged(&mut random)),
         };
         let mut numbers = match writer::form(&header) {
@@ -439,20 +442,41 @@ fn take_long_headers(run: &mut Run) {
     let text = vec![b'x'; LONG];
     let blank_lines = vec![b'\n'; LONG];
     let due = [
-        (text.clone(), 3, 1),
-        ([&*text, b"\t\n"].concat(), 2, 1),
-        (blank_lines.clone(), 9, 1),
-        ([&*good, &text].concat(), 3, 12),
-        ([&*good, &text, b"\x7f"].concat(), 2, 12),
-        ([good, blank_lines].concat(), 8, 12),
+        (text.clone(), Reply::refused(3, 1, 1)),
+        ([&*text, b"\t\n"].concat(), Reply::refused(2, 1, 16_777_301)),
+        (blank_lines.clone(), Reply::refused(9, 1, 1)),
+        ([&*good, &text].concat(), Reply::refused(3, 12, 1)),
+        ([&*good, &text, b"\x7f"].concat(), Reply::refused(2, 12, 16_777_301)),
+        ([good, blank_lines].concat(), Reply::refused(8, 12, 1)),
     ];
-    for (header, number, place) in due {
+    for (header, reply) in due {
         let got = writer::form(&header);
-        if got != Err(Reply { number, place }) {
+        if got != Err(reply) {
             println!("a header of {} bytes: plain {got:?}", header.len());
             std::process::exit(1);
         }
         run.take("header longer than a file", &header, &numbers);
+    }
+}
+
+/// A bad byte in a column that the reply has no room for: "a column over 33,554,431 is given as
+/// 33,554,431". A word that kept the lowest 25 bits, or let the column run into the number, differs.
+fn take_far_columns(run: &mut Run) {
+    let numbers = Numbers { coefficients: vec![1], scales: vec![0] };
+    for (column, given) in [
+        (33_554_430, 33_554_430),
+        (33_554_431, 33_554_431),
+        (33_554_432, 33_554_431),
+        (33_554_433, 33_554_431),
+        (40_000_000, 33_554_431),
+    ] {
+        let header = [&*vec![b'x'; column - 1], b"\x7f\x7f\n"].concat();
+        let word = writer::form(&header).map_err(Word::from);
+        if word != Err(Word::from(Reply::refused(2, 1, given))) {
+            println!("a bad byte in column {column} of a header: plain {word:?}");
+            std::process::exit(1);
+        }
+        run.take("a header with a bad byte far out", &header, &numbers);
     }
 }
 
@@ -502,6 +526,7 @@ fn main() {
     take_longest(&mut run);
     take_zeros(&mut run);
     take_long_headers(&mut run);
+    take_far_columns(&mut run);
     check_outcomes(&run);
     let done = if alone { "the plain side alone:" } else { "compared" };
     println!("{done} {} headers, {} written", run.headers, run.written);

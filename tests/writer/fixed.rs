@@ -327,157 +327,147 @@ pub fn header_of_many(ordinate: u32, spacing: u32, count: usize) -> Vec<u8> {
     with(7, &format!("{ordinate:10}{count:10}{spacing:10}{abscissa}")).into_bytes()
 }
 
-/// Headers that are refused: what is wrong, the header, number and line.
-fn refused_headers() -> Vec<(&'static str, String, u32, u32)> {
+/// Number, line and column.
+const fn refused(number: u32, line: u32, column: u32) -> Reply {
+    Reply::refused(number, line, column)
+}
+
+/// Headers that are refused: what is wrong, the header and the reply.
+fn refused_headers() -> Vec<(&'static str, String, Reply)> {
     let long = "x".repeat(81);
     let cut = |lines: usize| HEADER.split_inclusive('\n').take(lines).collect::<String>();
     let more = |text: &str| HEADER.to_string() + text;
     vec![
-        ("no line", String::new(), 7, 1),
-        ("one line", cut(1), 7, 2),
-        ("ten lines", cut(10), 7, 11),
-        ("a delimiter as line 1", with(1, "    -1"), 7, 1),
-        ("a delimiter as line 5, blanks after it", with(5, "    -1    "), 7, 5),
-        ("a delimiter as line 7", with(7, "    -1"), 7, 7),
-        ("a delimiter as line 11", with(11, "    -1\r"), 7, 11),
-        ("a delimiter after ten lines", cut(10) + "    -1\n", 7, 11),
-        ("a twelfth line", more("x\n"), 8, 12),
-        ("a twelfth line, blank", more("\n"), 8, 12),
-        ("a twelfth line, a delimiter", more("    -1\n"), 8, 12),
-        ("a twelfth line, a data line", more("  1.00000E-01\n"), 8, 12),
-        ("a twelfth line, TAB in it", more("\tx\n"), 2, 12),
-        ("a twelfth line, too long", more(&(long.clone() + "\n")), 3, 12),
-        ("a twelfth line without LF", more(" "), 4, 12),
-        ("a twelfth line, a delimiter without LF", more("    -1"), 4, 12),
-        ("a twelfth line of one CR", more("\r"), 2, 12),
-        ("a twelfth line, too long and without LF", more(&long), 3, 12),
-        ("a twelfth line, a bad byte in the thirteenth", more("x\n\t\n"), 8, 12),
-        ("line 11 without LF", HEADER.trim_end().to_string(), 4, 11),
-        ("line 11 ends in CR", HEADER.trim_end().to_string() + "\r", 2, 11),
-        ("line 3 without LF", cut(2) + "x", 4, 3),
-        ("two CR before LF", with(2, "NONE\r\r"), 2, 2),
-        ("byte 127", with(2, "\u{7f}"), 2, 2),
-        ("81 columns", with(4, &long), 3, 4),
-        ("81 columns, all blank", with(4, &" ".repeat(81)), 3, 4),
-        ("81 columns and a bad byte", with(4, &(long.clone() + "\t")), 2, 4),
-        ("81 columns without LF", cut(3) + &long, 3, 4),
-        ("a bad byte without LF", cut(3) + "\t", 2, 4),
-        ("line 1 blank", with(1, ""), 9, 1),
-        ("line 5 of blanks", with(5, "          "), 9, 5),
+        ("no line", String::new(), refused(7, 1, 1)),
+        ("one line", cut(1), refused(7, 2, 1)),
+        ("ten lines", cut(10), refused(7, 11, 1)),
+        ("a delimiter as line 1", with(1, "    -1"), refused(7, 1, 1)),
+        ("a delimiter as line 5, blanks after it", with(5, "    -1    "), refused(7, 5, 1)),
+        ("a delimiter as line 7", with(7, "    -1"), refused(7, 7, 1)),
+        ("a delimiter as line 11", with(11, "    -1\r"), refused(7, 11, 1)),
+        ("a delimiter after ten lines", cut(10) + "    -1\n", refused(7, 11, 1)),
+        ("a twelfth line", more("x\n"), refused(8, 12, 1)),
+        ("a twelfth line, blank", more("\n"), refused(8, 12, 1)),
+        ("a twelfth line, a delimiter", more("    -1\n"), refused(8, 12, 1)),
+        ("a twelfth line, a data line", more("  1.00000E-01\n"), refused(8, 12, 1)),
+        ("a twelfth line, TAB in it", more("\tx\n"), refused(2, 12, 1)),
+        ("a twelfth line, too long", more(&(long.clone() + "\n")), refused(3, 12, 1)),
+        ("a twelfth line without LF", more(" "), refused(4, 12, 1)),
+        ("a twelfth line, a delimiter without LF", more("    -1"), refused(4, 12, 1)),
+        ("a twelfth line of one CR", more("\r"), refused(2, 12, 1)),
+        ("a twelfth line, too long and without LF", more(&long), refused(3, 12, 1)),
+        ("a twelfth line, a bad byte in the thirteenth", more("x\n\t\n"), refused(8, 12, 1)),
+        ("line 11 without LF", HEADER.trim_end().to_string(), refused(4, 11, 1)),
+        ("line 11 ends in CR", HEADER.trim_end().to_string() + "\r", refused(2, 11, 52)),
+        ("line 3 without LF", cut(2) + "x", refused(4, 3, 1)),
+        ("two CR before LF", with(2, "NONE\r\r"), refused(2, 2, 5)),
+        ("byte 127", with(2, "\u{7f}"), refused(2, 2, 1)),
+        ("81 columns", with(4, &long), refused(3, 4, 1)),
+        ("81 columns, all blank", with(4, &" ".repeat(81)), refused(3, 4, 1)),
+        ("81 columns and a bad byte", with(4, &(long.clone() + "\t")), refused(2, 4, 82)),
+        ("81 columns without LF", cut(3) + &long, refused(3, 4, 1)),
+        ("a bad byte without LF", cut(3) + "\t", refused(2, 4, 1)),
+        ("two bad bytes, the first in column 80", with(4, &format!("{:79}\t\x01x", "x")), refused(2, 4, 80)),
+        ("a CR in column 82 and one before LF", with(4, &(long.clone() + "\r\r")), refused(2, 4, 82)),
+        ("line 1 blank", with(1, ""), refused(9, 1, 1)),
+        ("line 5 of blanks", with(5, "          "), refused(9, 5, 1)),
         (
             "function type 29",
             with(6, "   29         1    0         0 NONE               7   3 NONE               0   0"),
-            11,
-            6,
+            refused(11, 6, 1),
         ),
         (
             "direction -7",
             with(6, "    1         1    0         0 NONE               7   3 NONE               0  -7"),
-            11,
-            6,
+            refused(11, 6, 77),
         ),
         (
             "a node that is blank",
             with(6, "    1         1    0         0 NONE                   3 NONE               0   0"),
-            10,
-            6,
+            refused(24, 6, 42),
         ),
         (
             "a byte before the entity name",
             with(6, "    1         1    0         0xNONE               7   3 NONE               0   0"),
-            13,
-            6,
+            refused(13, 6, 31),
         ),
-        ("line 6 blank", with(6, ""), 10, 6),
+        ("line 6 blank", with(6, ""), refused(24, 6, 1)),
         (
             "ordinate type 3",
             with(7, "         3         2         1  0.00000E+00  1.00000E-03  0.00000E+00"),
-            11,
-            7,
+            refused(11, 7, 1),
         ),
         (
             "count 0",
             with(7, "         2         0         1  0.00000E+00  1.00000E-03  0.00000E+00"),
-            11,
-            7,
+            refused(11, 7, 11),
         ),
         (
             "count 65,537",
             with(7, "         2     65537         1  0.00000E+00  1.00000E-03  0.00000E+00"),
-            11,
-            7,
+            refused(11, 7, 11),
         ),
         (
             "spacing 2",
             with(7, "         2         2         2  0.00000E+00  1.00000E-03  0.00000E+00"),
-            11,
-            7,
+            refused(11, 7, 21),
         ),
         (
             "Z value blank",
             with(7, "         2         2         1  0.00000E+00  1.00000E-03"),
-            12,
-            7,
+            refused(25, 7, 57),
         ),
         (
             "increment without a point",
             with(7, "         2         2         1  0.00000E+00     100E-03  0.00000E+00"),
-            12,
-            7,
+            refused(12, 7, 44),
         ),
         (
             "increment of two exponent digits and no letter",
             with(7, "         2         2         1  0.00000E+00   1.00000-03  0.00000E+00"),
-            12,
-            7,
+            refused(12, 7, 44),
         ),
         (
             "Z value of four exponent digits and no letter",
             with(7, "         2         2         1  0.00000E+00  1.00000E-03 1.00000-0010"),
-            12,
-            7,
+            refused(12, 7, 57),
         ),
         (
             "uneven, minimum not zero, no letter",
             with(7, "         2         2         0  1.00000-101  0.00000-101  0.00000E+00"),
-            14,
-            7,
+            refused(14, 7, 31),
         ),
         (
             "column 70 of line 7",
             with(7, "         2         2         1  0.00000E+00  1.00000E-03  0.00000E+00x"),
-            13,
-            7,
+            refused(13, 7, 70),
         ),
         (
             "uneven, increment not zero",
             with(7, "         2         2         0  0.00000E+00  1.00000E-03  0.00000E+00"),
-            14,
-            7,
+            refused(14, 7, 44),
         ),
         (
             "uneven, minimum not zero, and column 70",
             with(7, "         2         2         0  1.00000E-03  0.00000E+00  0.00000E+00x"),
-            13,
-            7,
+            refused(13, 7, 70),
         ),
-        ("data type 20", with(8, "        20    0    0    0 NONE                 NONE"), 11, 8),
-        ("data type 4", with(11, "         4    0    0    0 NONE                 NONE"), 11, 11),
-        ("units exponent blank", with(9, "        12    0         0 NONE"), 10, 9),
+        ("data type 20", with(8, "        20    0    0    0 NONE                 NONE"), refused(11, 8, 1)),
+        ("data type 4", with(11, "         4    0    0    0 NONE                 NONE"), refused(11, 11, 1)),
+        ("units exponent blank", with(9, "        12    0         0 NONE"), refused(24, 9, 16)),
         (
             "column 68 of line 10",
             with(10, "         0    0    0    0 NONE                 NONE                x"),
-            13,
-            10,
+            refused(13, 10, 68),
         ),
-        ("line 11 blank", with(11, " "), 10, 11),
-        ("line 2 blank, line 3 too long", with(2, "").replace("12-MAR-99", &long), 9, 2),
-        ("line 3 too long, a twelfth line", with(3, &long) + "x\n", 3, 3),
-        ("line 9 wrong, ten lines", with(9, "").split_inclusive('\n').take(10).collect(), 10, 9),
+        ("line 11 blank", with(11, " "), refused(24, 11, 1)),
+        ("line 2 blank, line 3 too long", with(2, "").replace("12-MAR-99", &long), refused(9, 2, 1)),
+        ("line 3 too long, a twelfth line", with(3, &long) + "x\n", refused(3, 3, 1)),
+        ("line 9 wrong, ten lines", with(9, "").split_inclusive('\n').take(10).collect(), refused(24, 9, 1)),
     ]
 }
 
-/// Refusals of numbers and room by the good header.
+/// Refusals of numbers and room by the good header. None has a column: tells apart one beside 19, whose place is an index.
 fn refused_numbers() -> Vec<Fixed> {
     // Lines of 7, 7, 18, 5, 19, 5, 5, 81, 70, 49, 52, 52, 52, 27 and 7 bytes.
     const LENGTH: usize = 456;
@@ -487,7 +477,7 @@ fn refused_numbers() -> Vec<Fixed> {
         coefficients: coefficients.to_vec(),
         scales: scales.to_vec(),
         room,
-        due: Err(Reply { number, place }),
+        due: Err(Reply { number, place, column: 0 }),
     };
     let mut all = vec![
         good("no numbers", &[], &[], ENOUGH, 22, 0),
@@ -524,14 +514,13 @@ pub fn fixed() -> Vec<Fixed> {
     let mut all = cases();
     all.extend(three_digits());
     all.push(untidy());
-    for (name, header, number, place) in refused_headers() {
+    for (name, header, reply) in refused_headers() {
         // The header's refusal comes before those of numbers and room: wrong and right ones.
         let wrong = (vec![i64::MIN], vec![0, 0], 0);
         let right = (vec![1, 2], vec![0, 0], ENOUGH);
         for (coefficients, scales, room) in [wrong, right] {
-            let due = Err(Reply { number, place });
             let header = header.clone().into_bytes();
-            all.push(Fixed { name, header, coefficients, scales, room, due });
+            all.push(Fixed { name, header, coefficients, scales, room, due: Err(reply) });
         }
     }
     all.extend(refused_numbers());

@@ -46,6 +46,15 @@ pub fn damaged(random: &mut Random) -> Vec<u8> {
     header
 }
 
+/// Eleven good lines but for line 7, which has a blank real field.
+pub fn blanked(random: &mut Random) -> Vec<u8> {
+    let mut header = proper(random);
+    let line_7: usize = header.split_inclusive(|&b| b == b'\n').take(6).map(<[u8]>::len).sum();
+    let first = line_7 + [30, 43, 56][random.below(3)];
+    header[first..first + 13].fill(b' ');
+    header
+}
+
 /// Eleven lines, some of them good, the others of arbitrary bytes.
 pub fn arbitrary_lines(random: &mut Random) -> Vec<u8> {
     let mut header = Vec::new();

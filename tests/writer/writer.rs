@@ -1,7 +1,7 @@
 //! A plain writer of dataset 58: the second opinion.
 //!
-//! It was written from the papers alone (document 01, source document 001, request C-12 of document 02
-//! and the readings settled for them) by somebody who had not seen the proved one. Line ends, columns
+//! It was written from the papers alone (document 01, source document 001, requests C-12 and C-14 of
+//! document 02 and the readings settled for them) by somebody who had not seen the proved one. Line ends, columns
 //! and the order of refusals are its own; what a header line's fields may hold is asked of the plain
 //! judge beside it. Safe Rust, standard library only.
 
@@ -46,7 +46,7 @@ pub fn write(
     let lines = judged(header)?;
     let form = form_of(lines[6]);
     if coefficients.len() != scales.len() || coefficients.len() != form.stored {
-        return Err(Reply { number: 22, place: 0 });
+        return Err(Reply::no_line(22));
     }
     let mut out = Vec::new();
     for line in [DELIMITER, NUMBER_LINE].into_iter().chain(lines) {
@@ -56,7 +56,7 @@ pub fn write(
     for (j, (&coefficient, &scale)) in coefficients.iter().zip(scales).enumerate() {
         let field = form.fields[j % form.fields.len()];
         let text = spelled(coefficient, scale, field);
-        out.extend(text.ok_or(Reply { number: 19, place: j as u32 })?.bytes());
+        out.extend(text.ok_or(not_exact(j as u32))?.bytes());
         if (j + 1) % form.fields.len() == 0 || j + 1 == form.stored {
             out.push(b'\n');
         }
@@ -64,9 +64,14 @@ pub fn write(
     out.extend_from_slice(DELIMITER);
     out.push(b'\n');
     if out.len() > room {
-        return Err(Reply { number: 20, place: 0 });
+        return Err(Reply::no_line(20));
     }
     Ok(out)
+}
+
+/// 19's place is the number's index, so it has no column.
+pub const fn not_exact(index: u32) -> Reply {
+    Reply { number: 19, place: index, column: 0 }
 }
 
 /// What a header asks for, or its refusal.
@@ -83,7 +88,8 @@ fn judged(header: &[u8]) -> Result<Vec<&[u8]>, Reply> {
     for (n, whole) in header.split_inclusive(|&b| b == b'\n').take(HEADER_LINES + 1).enumerate() {
         let ended = whole.strip_suffix(b"\n");
         let line = ended.map_or(whole, |line| line.strip_suffix(b"\r").unwrap_or(line));
-        let number = if line.iter().any(|b| !(32..=126).contains(b)) {
+        let bad = line.iter().position(|b| !(32..=126).contains(b));
+        let number = if bad.is_some() {
             2
         } else if line.len() > MOST_COLUMNS {
             3
@@ -95,7 +101,8 @@ fn judged(header: &[u8]) -> Result<Vec<&[u8]>, Reply> {
             lines.push(line);
             continue;
         };
-        wrong = Some(Reply { number, place: n as u32 + 1 });
+        // "Of the first such byte for 2 .. otherwise 1."
+        wrong = Some(Reply::refused(number, n as u32 + 1, bad.map_or(1, |before| before as u32 + 1)));
         break;
     }
     // The lines before it, each by the rules of its place in a set. The set is not closed, so the
@@ -105,13 +112,13 @@ fn judged(header: &[u8]) -> Result<Vec<&[u8]>, Reply> {
         set.extend_from_slice(line);
         set.push(b'\n');
     }
-    let Reply { number, place } = judge(&set);
+    let Reply { number, place, column } = judge(&set);
     if place as usize - 2 <= lines.len() {
-        return Err(Reply { number, place: place - 2 });
+        return Err(Reply::refused(number, place - 2, column));
     }
     match wrong {
         Some(reply) => Err(reply),
-        None if lines.len() < HEADER_LINES => Err(Reply { number: 7, place: lines.len() as u32 + 1 }),
+        None if lines.len() < HEADER_LINES => Err(Reply::refused(7, lines.len() as u32 + 1, 1)),
         None => Ok(lines.into_iter().map(without_blanks).collect()),
     }
 }

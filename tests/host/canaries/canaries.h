@@ -17,7 +17,10 @@ extern unsigned cases;
 /* Says what differs in the case at hand, and ends the program. */
 void differs(const char *what);
 
-/* The reply is this number and this place, by its bits and by the header's macros. */
+/* The reply is this number, this line and this column, by its bits and by the header's macros. */
+void check_refusal(uint64_t reply, uint64_t number, uint64_t line, uint64_t column);
+
+/* The same for a reply that has no column: this number and this place. */
 void check_reply(uint64_t reply, uint64_t number, uint64_t place);
 
 /* lent.c: buffers lent to a call. */
@@ -87,7 +90,7 @@ void try_write(void);
 void try_stream(void);
 
 /* judge.c: the judge, and the calls that judge first: all refuse alike and touch nothing. */
-void refuse_all(const void *bytes, size_t count, uint64_t number, uint64_t place);
+void refuse_all(const void *bytes, size_t count, uint64_t number, uint64_t line, uint64_t column);
 
 /* value.c: doubles as the reader of values gives them, 8 bytes each, lowest first. */
 void spell(uint8_t *bytes, const double *numbers, size_t count);
@@ -95,6 +98,12 @@ void spell(uint8_t *bytes, const double *numbers, size_t count);
 /* values.c: the set of the most values, which is made once. */
 void make_most(void);
 void free_most(void);
+
+/* judge.c: the largest column of a file, tried once. */
+void try_last_column(void);
+
+/* write.c: a column of a header that the reply has no room for, tried once. */
+void try_far_column(void);
 
 /* stream.c: more bytes than a file has, tried once. */
 void try_long_stream(void);

@@ -61,7 +61,7 @@ static void most_sets(void)
     take_back(&rows, due, size);
     take_back(&few, NULL, 0);
     name = "4,097 sets";
-    refuse_all(bytes, count + 21, 15, 12289);
+    refuse_all(bytes, count + 21, 15, 12289, 1);
     free(bytes);
     free(due);
 }

@@ -21,22 +21,28 @@ void differs(const char *what)
     exit(1);
 }
 
-void check_reply(uint64_t reply, uint64_t number, uint64_t place)
+void check_refusal(uint64_t reply, uint64_t number, uint64_t line, uint64_t column)
 {
-    if (reply != (number << 57 | place)) {
-        fprintf(stderr, "reply %u at %u, due %u at %u\n", UFF_NUMBER(reply), UFF_PLACE(reply), (unsigned)number, (unsigned)place);
+    if (reply != (number << 57 | column << 32 | line)) {
+        fprintf(stderr, "reply %u at %u, column %u, due %u at %u, column %u\n", UFF_NUMBER(reply), UFF_PLACE(reply),
+                UFF_COLUMN(reply), (unsigned)number, (unsigned)line, (unsigned)column);
         differs("the reply");
     }
-    if (UFF_NUMBER(reply) != number || UFF_PLACE(reply) != place || UFF_COLUMN(reply) != 0)
+    if (UFF_NUMBER(reply) != number || UFF_PLACE(reply) != line || UFF_COLUMN(reply) != column)
         differs("the macros that take a reply apart");
     cases++;
+}
+
+void check_reply(uint64_t reply, uint64_t number, uint64_t place)
+{
+    check_refusal(reply, number, place, 0);
 }
 
 static void check_texts(void)
 {
     name = "the table of texts";
     for (unsigned i = 0; i < 128; i++) {
-        bool in_table = i <= 23 || i == 127;
+        bool in_table = i <= 25 || i == 127;
         if ((strcmp(uff_text(i), uff_text(99)) != 0) != in_table)
             differs("a number without a text of its own");
         cases++;
@@ -61,6 +67,8 @@ int main(int count, char **words)
         for (size_t i = 0; i < sizeof calls / sizeof *calls; i++)
             calls[i]();
     free_most();
+    try_last_column();
+    try_far_column();
     try_long_stream();
     printf("%u cases\n", cases);
     return 0;

@@ -4,13 +4,17 @@
 #include <stdlib.h>
 #include <string.h>
 
-/* Which of the record's numbers is the refusal's, and which, the last that is used, says that the end was asked. */
+/*
+ * Which of the record's numbers is the refusal's, which says that the end was asked, and which, the last that is used, is
+ * the column: the refusal's, or while there is none that of the open line's first byte not allowed.
+ */
 #define REFUSAL 8
 #define MARK 11
-#define USED_NUMBERS (MARK + 1)
+#define COLUMN 12
+#define USED_NUMBERS (COLUMN + 1)
 
-/* Of the line, 80 columns and a line's end are used. */
-#define USED_LINE (80 + 2)
+/* Of the line, 80 columns and the last byte are used. */
+#define USED_LINE (80 + 1)
 
 /* A record whose buffers have so many places. */
 struct record {
@@ -98,8 +102,18 @@ static void rooms(void)
     check_reply(uff_end(NULL, 0, NULL, 0), 20, 0);
 }
 
+/* A refusal that is due, or 0 and the lines where the file is accepted. */
+struct due {
+    uint64_t number, place, column;
+};
+
+static void check_due(uint64_t reply, struct due due)
+{
+    check_refusal(reply, due.number, due.place, due.column);
+}
+
 /* Sends the text in bursts of `size`: so far until line `bad` has come, then its refusal. */
-static void send(struct record *r, struct text t, size_t size, uint64_t bad, uint64_t number, uint64_t place)
+static void send(struct record *r, struct text t, size_t size, uint64_t bad, struct due due)
 {
     uint64_t lines = 0;
     for (size_t at = 0; at < t.count; at += size) {
@@ -108,7 +122,7 @@ static void send(struct record *r, struct text t, size_t size, uint64_t bad, uin
         for (size_t i = 0; i < n; i++)
             lines += t.bytes[at + i] == '\n';
         if (bad != 0 && lines >= bad)
-            check_reply(burst(r, bytes.at, n), number, place);
+            check_due(burst(r, bytes.at, n), due);
         else
             check_reply(burst(r, bytes.at, n), 127, lines);
         take_back(&bytes, NULL, 0);
@@ -116,43 +130,66 @@ static void send(struct record *r, struct text t, size_t size, uint64_t bad, uin
 }
 
 /* The end's reply, twice, and 23 in between. The end changes the record's mark alone, 23 nothing. */
-static void ask_end(struct record *r, uint64_t number, uint64_t place)
+static void ask_end(struct record *r, struct due due)
 {
     struct uff_stream marked = contents(r);
     marked.numbers[MARK] = 1;
-    check_reply(end(r), number, place);
+    check_due(end(r), due);
     if (!holds(r, &marked))
         differs("the end changed more of the record than its mark");
     check_reply(burst(r, (const uint8_t *)"x", 1), 23, 0);
-    check_reply(end(r), number, place);
+    check_due(end(r), due);
     if (!holds(r, &marked))
         differs("23 changed the record");
 }
 
 /* The text in bursts of `size`, of which line `bad` is the first bad one that has its LF; and the end's reply. */
-static void stream(const char *what, struct text t, size_t size, uint64_t bad, uint64_t number, uint64_t place)
+static void stream(const char *what, struct text t, size_t size, uint64_t bad, struct due due)
 {
     struct record r = lend_record(UFF_STREAM_NUMBERS, UFF_STREAM_LINE);
     name = what;
     check_reply(start(&r), 0, 0);
     check_reply(burst(&r, NULL, 0), 127, 0);
-    send(&r, t, size, bad, number, place);
-    ask_end(&r, number, place);
+    send(&r, t, size, bad, due);
+    ask_end(&r, due);
     take_back_record(&r);
+}
+
+/* The example with another line 9, or without it, is refused there, in bursts of `size`. */
+static void stream_line(const char *what, const char *line, size_t size, uint64_t number, uint64_t column)
+{
+    stream(what, with(1, LINES, 9, line), size, 9, (struct due){number, 9, column});
+}
+
+/* Line 9 with a TAB in this column and another two columns on, in bursts of `size`. */
+static void stream_tabs(size_t column, size_t size)
+{
+    char line[100];
+    memset(line, 'x', sizeof line);
+    line[column - 1] = line[column + 1] = '\t';
+    line[column + 2] = '\0';
+    stream_line("two tabs in bursts", line, size, 2, column);
 }
 
 static void streams(void)
 {
-    static const size_t sizes[] = {1, 7, 79, 512, 4096};
+    static const size_t sizes[] = {1, 7, 79, 80, 81, 82, 83, 84, 512, 4096};
     for (size_t i = 0; i < sizeof sizes / sizeof *sizes; i++) {
         struct text none = {{0}, 0}, cut = whole();
         cut.count -= 1;
-        stream("the example in bursts", whole(), sizes[i], 0, 0, 22);
-        stream("nothing in bursts", none, sizes[i], 0, 16, 0);
-        stream("cut in bursts", cut, sizes[i], 0, 4, 22);
-        stream("without line 21 in bursts", with(1, LINES, 21, NULL), sizes[i], 21, 7, 21);
-        stream("81 columns in bursts", with(1, LINES, 9, EIGHTY "1"), sizes[i], 9, 3, 9);
-        stream("a bad byte in bursts", with(1, LINES, 9, EIGHTY EIGHTY "\x01"), sizes[i], 9, 2, 9);
+        stream("the example in bursts", whole(), sizes[i], 0, (struct due){0, 22, 0});
+        stream("nothing in bursts", none, sizes[i], 0, (struct due){16, 0, 0});
+        stream("cut in bursts", cut, sizes[i], 0, (struct due){4, 22, 1});
+        stream("without line 21 in bursts", with(1, LINES, 21, NULL), sizes[i], 21, (struct due){7, 21, 1});
+        stream("stopped in bursts", with(1, 20, 0, NULL), sizes[i], 0, (struct due){7, 21, 1});
+        stream("a blank real in bursts", with(1, LINES, 20, "  1.00000E-01"), sizes[i], 20, (struct due){25, 20, 14});
+        stream_line("81 columns in bursts", EIGHTY "1", sizes[i], 3, 1);
+        stream_line("161 columns and a CR in bursts", EIGHTY EIGHTY "1\r", sizes[i], 3, 1);
+        stream_line("a bad byte in bursts", EIGHTY EIGHTY "\x01", sizes[i], 2, 161);
+        stream_line("bad bytes in bursts", EIGHTY EIGHTY "\x01" EIGHTY "\x01", sizes[i], 2, 161);
+        stream_line("two CR in bursts", EIGHTY EIGHTY "\r\r", sizes[i], 2, 161);
+        for (size_t column = 78; column <= 86; column++)
+            stream_tabs(column, sizes[i]);
     }
 }
 
@@ -187,30 +224,63 @@ static void unused_stay(void)
     if (memcmp(numbers_of(&r) + USED_NUMBERS, zeros.numbers, (UFF_STREAM_NUMBERS - USED_NUMBERS) * sizeof(uint64_t)) != 0 ||
         memcmp(r.line.at + USED_LINE, zeros.line, UFF_STREAM_LINE - USED_LINE) != 0)
         differs("a number or byte that is not used is not 0");
-    check_reply(end(&r), 4, 2);
+    check_refusal(end(&r), 4, 2, 1);
     take_back_record(&r);
 }
 
-/* A record with this refusal number, which no bursts gave: what it answers. */
-static void made_up(uint64_t refusal, uint64_t number, uint64_t place)
+/* A record with this refusal number and column, which no bursts gave: what it answers. */
+static void made_up(uint64_t refusal, uint64_t column, struct due due)
 {
     struct record r = lend_record(UFF_STREAM_NUMBERS, UFF_STREAM_LINE);
     check_reply(start(&r), 0, 0);
     numbers_of(&r)[REFUSAL] = refusal;
-    check_reply(burst(&r, (const uint8_t *)"\n", 1), number, place);
-    check_reply(end(&r), number, place);
+    numbers_of(&r)[COLUMN] = column;
+    check_due(burst(&r, (const uint8_t *)"\n", 1), due);
+    check_due(end(&r), due);
     take_back_record(&r);
 }
 
 /* A refusal number that is neither 0 nor one that a line can have counts as past the limit. */
 static void refusal_numbers(void)
 {
-    static const uint64_t others[] = {1, 16, 17, 20, 23, 24, 126, 127, 128, 129, 255, 256, 258, 384, 4294967298, UINT64_MAX};
+    static const uint64_t others[] = {1, 16, 17, 20, 23, 26, 126, 127, 128, 129, 255, 256, 258, 280, 281, 384, 4294967298, UINT64_MAX};
     name = "a record with a made-up refusal number";
     for (size_t i = 0; i < sizeof others / sizeof *others; i++)
-        made_up(others[i], 1, 0);
+        made_up(others[i], 27, (struct due){1, 0, 0});
     for (uint64_t n = 2; n <= 15; n++)
-        made_up(n, n, 1);
+        made_up(n, 27, (struct due){n, 1, 27});
+    made_up(24, 27, (struct due){24, 1, 27});
+    made_up(25, 27, (struct due){25, 1, 27});
+    name = "a record with a made-up column";
+    made_up(5, 0, (struct due){5, 1, 0});
+    made_up(5, 33554431, (struct due){5, 1, 33554431});
+    made_up(5, 33554432, (struct due){5, 1, 33554431});
+    made_up(5, UINT64_MAX, (struct due){5, 1, 33554431});
+}
+
+/*
+ * The column of a record that bursts grew: while the line is open that of its first byte not allowed, then the refusal's;
+ * where the bad byte is a CR that the LF makes part of the line's end, none.
+ */
+static void columns_kept(void)
+{
+    struct record r = lend_record(UFF_STREAM_NUMBERS, UFF_STREAM_LINE);
+    name = "the column that a record keeps";
+    check_reply(start(&r), 0, 0);
+    check_reply(burst(&r, (const uint8_t *)EIGHTY EIGHTY "\t", 161), 127, 0);
+    check_reply(burst(&r, (const uint8_t *)EIGHTY "\t", 81), 127, 0);
+    if (numbers_of(&r)[REFUSAL] != 0 || numbers_of(&r)[COLUMN] != 161)
+        differs("not the first bad byte's column");
+    check_refusal(burst(&r, (const uint8_t *)"\n", 1), 2, 1, 161);
+    if (numbers_of(&r)[REFUSAL] != 2 || numbers_of(&r)[COLUMN] != 161)
+        differs("not the refusal's column");
+    check_refusal(burst(&r, (const uint8_t *)"\t\n", 2), 2, 1, 161);
+    check_reply(start(&r), 0, 0);
+    check_reply(burst(&r, (const uint8_t *)"    -1\r", 7), 127, 0);
+    check_reply(burst(&r, (const uint8_t *)"\n", 1), 127, 1);
+    if (numbers_of(&r)[COLUMN] != 0)
+        differs("the column of a CR that ended its line");
+    take_back_record(&r);
 }
 
 void try_stream(void)
@@ -220,6 +290,7 @@ void try_stream(void)
     wild_records();
     unused_stay();
     refusal_numbers();
+    columns_kept();
 }
 
 /* 1 replaces the refusal of line 1. */
@@ -232,8 +303,8 @@ void try_long_stream(void)
     bytes[1] = '\n';
     name = "a stream that grows too long";
     check_reply(uff_stream_start(&record), 0, 0);
-    check_reply(uff_stream_burst(&record, bytes, UFF_LONGEST), 5, 1);
-    check_reply(uff_stream_burst(&record, bytes, 0), 5, 1);
+    check_refusal(uff_stream_burst(&record, bytes, UFF_LONGEST), 5, 1, 1);
+    check_refusal(uff_stream_burst(&record, bytes, 0), 5, 1, 1);
     check_reply(uff_stream_burst(&record, bytes, 1), 1, 0);
     check_reply(uff_stream_end(&record), 1, 0);
     check_reply(uff_stream_burst(&record, bytes, 1), 23, 0);
