@@ -1,5 +1,6 @@
 -- The calls as they are computed. To open one of these names is to open every definition that the call's answer computes with: a case says
 -- `unfolding` and the name.
+use mathlib.Core.Bool.{Bool}
 use mathlib.Core.List.{List}
 use Prim.Native.Nat.{ℕ}
 use lib.Ieee as ieee
@@ -9,23 +10,31 @@ use Rattle.laws.specs.Cut.{cut, over, judge}
 use Rattle.text.specs.Blank.{allBlank}
 use Rattle.text.specs.Text.{trimmed}
 use Rattle.text.specs.Parts.{isDigit}
+use Rattle.integer.specs.declared.Integer.{Integer}
 use Rattle.integer.specs.Integer as I
 use Rattle.integer.specs.Integer.{stepInteger, endInteger, integerOf}
+use Rattle.real.specs.declared.Real.{Real}
 use Rattle.real.specs.Real as R
+use Rattle.exact.specs.declared.Exact.{Exact}
 use Rattle.exact.specs.Exact.{exactOf, magnitudeOf, tenOf}
 use Rattle.exact.specs.Bits.{bitsOf}
 use Rattle.decimal.specs.Decimal as D
+use Rattle.line.specs.declared.Refusal.{Refusal}
 use Rattle.line.specs.Line.{isAllowed, withoutReturn, columns, firstBad, lineFault, filled}
 use Rattle.delimiter.specs.Kind.{thenBlank, isDelimiter, datasetNumber}
 use Rattle.codes.specs.Rule.{keeps}
 use Rattle.layout.specs.Columns as C
 use Rattle.layout.specs.Layout.{layouts, layoutOf, fieldsOf, caseFor, numbersOf}
+use Rattle.field.specs.Item.{Item}
 use Rattle.field.specs.Field.{mayBlank, fieldNumber}
-use Rattle.record_table.specs.Row.{firstNotAbove, breach}
+use Rattle.record_table.specs.Row.{Row, firstNotAbove, breach}
 use Rattle.record_table.specs.Records.{records, recordOf, dataRow}
 use Rattle.record_table.specs.TypedSets.{kindOf, isTyped, typedSets, sequence, following}
 use Rattle.record.specs.Check.{fieldsFault, firstNonBlank, stray, itemsOf, conditionFault, fieldsRefusal, rowRefusal}
 use Rattle.record.specs.Declared.{numberIn, caseIn, countIn, naturalAt, caseBy, countBy, storedBy}
+use Rattle.walk.specs.declared.Due.{Due}
+use Rattle.walk.specs.declared.State.{State}
+use Rattle.walk.specs.declared.Outcome.{Outcome}
 use Rattle.walk.specs.Due.{recordDue, listRow, mayClose, mayContinue, rowDue, settled, afterRecord, afterList, afterItems}
 use Rattle.walk.specs.Step.{opened, outsideStep, numberStep, plainStep, typedStep, stepOf}
 use Rattle.judge.specs.declared.Reply.{Reply}
@@ -40,20 +49,57 @@ use Rattle.rewriter.specs.Rewriter as W
 use Rattle.header.specs.Header.{headerOf}
 use Rattle.writer.specs.Writer.{decimalsOf, widthAt, fitsAt, firstUnfit, dataText, writtenSet, laidReply, writeReply}
 
+-- an integer field, a real field
+unfoldable pub computed-integer : List ℕ → Integer
+unfolding run allBlank isDigit I.push stepInteger endInteger integerOf
+computed-integer field = integerOf field
+
+unfoldable pub computed-real : List ℕ → Real
+unfolding run R.push R.next R.onCoefficient R.onExponent R.onDigit R.onSign R.onPoint R.onLetter R.onBlank R.isLetter R.scanStep R.realEnd R.realOf
+computed-real field = R.realOf field
+
+-- a line by its row
+unfoldable pub computed-refusal : Row → List ℕ → Refusal
+unfolding computed-integer computed-real trimmed keeps C.fieldStart mayBlank fieldNumber firstNotAbove breach fieldsFault firstNonBlank stray itemsOf conditionFault fieldsRefusal rowRefusal
+computed-refusal row line = rowRefusal row line
+
+-- what is due after a line
+unfoldable pub computed-row : Due → Row
+unfolding layouts layoutOf records recordOf dataRow kindOf isTyped typedSets sequence following recordDue listRow mayClose mayContinue rowDue
+computed-row d = rowDue d
+
+unfoldable pub computed-after : Due → List Item → Due
+unfolding computed-row caseFor numbersOf settled naturalAt caseBy countBy storedBy numberIn caseIn countIn afterRecord afterList afterItems
+computed-after d items = afterItems d items
+
+-- a file
+unfoldable pub computed-step : State → List ℕ → Outcome
+unfolding computed-refusal computed-after thenBlank isDelimiter datasetNumber opened outsideStep numberStep plainStep typedStep stepOf
+computed-step state line = stepOf state line
+
 unfoldable pub computed-judge : List ℕ → Reply
-unfolding judged judge over cut run allBlank trimmed isDigit I.push stepInteger endInteger integerOf R.push R.next R.onCoefficient R.onExponent R.onDigit R.onSign R.onPoint R.onLetter R.onBlank R.isLetter R.scanStep R.realEnd R.realOf isAllowed withoutReturn columns firstBad lineFault filled thenBlank isDelimiter datasetNumber keeps C.fieldStart layouts layoutOf caseFor numbersOf mayBlank fieldNumber firstNotAbove breach records recordOf dataRow kindOf isTyped typedSets sequence following fieldsFault firstNonBlank stray itemsOf conditionFault fieldsRefusal rowRefusal recordDue listRow mayClose mayContinue rowDue settled naturalAt caseBy countBy storedBy numberIn caseIn countIn afterRecord afterList afterItems opened outsideStep numberStep plainStep typedStep stepOf lineStep
+unfolding computed-step judged judge over cut isAllowed withoutReturn columns firstBad lineFault filled lineStep
 computed-judge file = judged file
 
+-- its sets, and the questions for their numbers
+unfoldable pub computed-parts : List ℕ → List P.Part
+unfolding computed-judge P.closes P.bytesIn P.partsFrom P.partsOf P.datasetOf P.lineStart P.lineOf
+computed-parts file = P.partsOf file
+
 unfoldable pub computed-number : List ℕ → ℕ → ℕ → Said Shown
-unfolding computed-judge P.closes P.bytesIn P.partsFrom P.partsOf P.datasetOf P.lineStart P.lineOf F.partCase F.countOf F.storedOf F.dataLine F.firstByte F.pastByte fieldsOf C.lineOf C.fieldOf C.fieldPast Reader.readIn Reader.setsFrom Reader.storedNumber
+unfolding computed-parts F.partCase F.countOf F.storedOf F.dataLine F.firstByte F.pastByte fieldsOf C.lineOf C.fieldOf C.fieldPast Reader.readIn Reader.setsFrom Reader.storedNumber
 computed-number file set index = Reader.storedNumber file set index
 
 unfoldable pub computed-list : List ℕ → ℕ → Reply
 unfolding computed-number F.dataStart P.pastOf P.throughOf entry rowsOf listReply listRows
 computed-list file places = listReply file places
 
+unfoldable pub computed-exact : Bool → ℕ → Bool → ℕ → Exact
+unfolding exactOf magnitudeOf tenOf bitsOf ieee.span ieee.climb ieee.size ieee.odd ieee.units ieee.round ieee.neg ieee.div ieee.mul ieee.ofInt ieee.isNan ieee.toBits
+computed-exact minus coefficient below scale = exactOf minus coefficient below scale
+
 unfoldable pub computed-values : List ℕ → ℕ → ℕ → Reply
-unfolding computed-number F.dataStart Reader.readOf Reader.reads Reader.whole Reader.valuesIn exactOf magnitudeOf tenOf bitsOf allValues allReply allPlaces ieee.span ieee.climb ieee.size ieee.odd ieee.units ieee.round ieee.neg ieee.div ieee.mul ieee.ofInt ieee.isNan ieee.toBits
+unfolding computed-number computed-exact F.dataStart Reader.readOf Reader.reads Reader.whole Reader.valuesIn allValues allReply allPlaces
 computed-values file set places = allReply file set places
 
 unfoldable pub computed-rewrite : List ℕ → List ℕ
