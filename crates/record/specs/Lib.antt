@@ -3,6 +3,7 @@ pub mod CheckLaws
 pub mod NumberLaws
 pub mod Condition
 pub mod ConditionLaws
+pub mod TakenLaws
 pub mod Declared
 pub mod DeclaredLaws
 pub mod Written
