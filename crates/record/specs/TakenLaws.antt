@@ -13,7 +13,7 @@ use Rattle.layout.specs.Layout.{layoutOf}
 use Rattle.layout.specs.LayoutLaws.{total-inside, widths-six}
 use Rattle.record_table.specs.Row.{Field, Row, blanks, span, withPadding, firstFields}
 use Rattle.record_table.specs.Records.{E, recordOf, dataRow}
-use Rattle.record_table.specs.PaddingLaws.{recordOf-unpadded, data-padding, data-full}
+use Rattle.record_table.specs.PaddingLaws.{recordOf-unpadded, first-unpadded, data-padding, data-full}
 use Rattle.record.specs.Check.{remainderIn, taken}
 use Rattle.record.specs.ConditionLaws.{data-all}
 
@@ -26,10 +26,13 @@ module _ (r : Row) (line : List ℕ) where
   unfolding taken
   taken-filled e = rw e refl
 
-  -- a row without padding is taken as it is
-  pub taken-whole : r .remainder ≡ blanks → taken r line ≡ r
+  -- a row without padding has no remainder, and is taken as it is
+  pub remainder-none : r .remainder ≡ blanks → allBlank (remainderIn r line) ≡ true
   unfolding allBlank total
-  taken-whole e = taken-blank (rw e refl)
+  remainder-none e = rw e refl
+
+  pub taken-whole : r .remainder ≡ blanks → taken r line ≡ r
+  taken-whole e = taken-blank (remainder-none e)
 
   -- what holds of a row and of its full line holds of the row taken
   pub taken-is : (P : Row → Type 0) → P r → P (withPadding r) → P (taken r line)
@@ -42,6 +45,9 @@ module _ (r : Row) (line : List ℕ) where
 
 pub taken-record : (k : ℕ) (line : List ℕ) → taken (recordOf k) line ≡ recordOf k
 taken-record k line = taken-whole (recordOf k) line (recordOf-unpadded k)
+
+pub taken-first : (n k : ℕ) (line : List ℕ) → taken (firstFields n (recordOf k)) line ≡ firstFields n (recordOf k)
+taken-first n k line = taken-whole (firstFields n (recordOf k)) line (first-unpadded n (recordOf k) (recordOf-unpadded k))
 
 -- A data line's remainder, by the widths of its case.
 
