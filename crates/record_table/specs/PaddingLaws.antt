@@ -1,5 +1,5 @@
 -- Which rows have padding: the first fields of a data line, up to the full line, and no other.
-use mathlib.Core.Path.{_≡_, refl, ap, _∙_}
+use mathlib.Core.Path.{_≡_, refl, sym, ap, _∙_}
 use mathlib.Core.Logic.{⊎-elim}
 use mathlib.Core.Bool.{Bool, true, false}
 use mathlib.Core.List.{List, append-nil}
@@ -32,6 +32,11 @@ recordOf-unpadded k =
 -- a row without padding is its full line, and so are the first fields of one
 pub whole-fields : (r : Row) → r .remainder ≡ blanks → withPadding r .fields ≡ r .fields
 whole-fields r e = rw e (append-nil (r .fields))
+
+pub whole-row : (r : Row) → r .remainder ≡ blanks → withPadding r ≡ r
+whole-row r e =
+    ap (λ (fs : List Field). record { fields = fs; remainder = blanks; condition = r .condition }) (whole-fields r e)
+    ∙ ap (λ (m : Remainder). record { fields = r .fields; remainder = m; condition = r .condition }) (sym e)
 
 pub first-unpadded : (n : ℕ) (r : Row) → r .remainder ≡ blanks → firstFields n r .remainder ≡ blanks
 first-unpadded n r e = rw e refl
