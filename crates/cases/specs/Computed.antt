@@ -24,7 +24,7 @@ use Rattle.field.specs.Field.{mayBlank, fieldNumber}
 use Rattle.record_table.specs.Row.{firstNotAbove, breach}
 use Rattle.record_table.specs.Records.{records, recordOf, dataRow}
 use Rattle.record_table.specs.TypedSets.{kindOf, isTyped, typedSets, sequence, following}
-use Rattle.record.specs.Check.{fieldsFault, firstNonBlank, stray, itemsOf, conditionFault, fieldsRefusal, rowRefusal}
+use Rattle.record.specs.Check.{fieldsFault, firstNonBlank, stray, itemsOf, conditionFault, fieldsRefusal, taken, takenRefusal, rowRefusal}
 use Rattle.record.specs.Declared.{numberIn, caseIn, countIn, naturalAt, caseBy, countBy, storedBy}
 use Rattle.walk.specs.Due.{recordDue, listRow, mayClose, mayContinue, rowDue, settled, afterRecord, afterList, afterItems}
 use Rattle.walk.specs.Step.{opened, outsideStep, numberStep, plainStep, typedStep, stepOf}
@@ -41,7 +41,7 @@ use Rattle.header.specs.Header.{headerOf}
 use Rattle.writer.specs.Writer.{decimalsOf, widthAt, fitsAt, firstUnfit, dataText, writtenSet, laidReply, writeReply}
 
 unfoldable pub computed-judge : List ℕ → Reply
-unfolding judged judge over cut run allBlank trimmed isDigit I.push stepInteger endInteger integerOf R.push R.next R.onCoefficient R.onExponent R.onDigit R.onSign R.onPoint R.onLetter R.onBlank R.isLetter R.scanStep R.realEnd R.realOf isAllowed withoutReturn columns firstBad lineFault filled thenBlank isDelimiter datasetNumber keeps C.fieldStart layouts layoutOf caseFor numbersOf mayBlank fieldNumber firstNotAbove breach records recordOf dataRow kindOf isTyped typedSets sequence following fieldsFault firstNonBlank stray itemsOf conditionFault fieldsRefusal rowRefusal recordDue listRow mayClose mayContinue rowDue settled naturalAt caseBy countBy storedBy numberIn caseIn countIn afterRecord afterList afterItems opened outsideStep numberStep plainStep typedStep stepOf lineStep
+unfolding judged judge over cut run allBlank trimmed isDigit I.push stepInteger endInteger integerOf R.push R.next R.onCoefficient R.onExponent R.onDigit R.onSign R.onPoint R.onLetter R.onBlank R.isLetter R.scanStep R.realEnd R.realOf isAllowed withoutReturn columns firstBad lineFault filled thenBlank isDelimiter datasetNumber keeps C.fieldStart C.total layouts layoutOf caseFor numbersOf mayBlank fieldNumber firstNotAbove breach records recordOf dataRow kindOf isTyped typedSets sequence following fieldsFault firstNonBlank stray itemsOf conditionFault fieldsRefusal taken takenRefusal rowRefusal recordDue listRow mayClose mayContinue rowDue settled naturalAt caseBy countBy storedBy numberIn caseIn countIn afterRecord afterList afterItems opened outsideStep numberStep plainStep typedStep stepOf lineStep
 computed-judge file = judged file
 
 unfoldable pub computed-number : List ℕ → ℕ → ℕ → Said Shown

@@ -10,8 +10,8 @@ use Rattle.text.specs.Blank.{Blanks, none, one}
 use Rattle.text.specs.BlankLaws.{blanks-append}
 use Rattle.layout.specs.Columns.{total}
 use Rattle.field.specs.Item.{Item}
-use Rattle.record_table.specs.Row.{Field, span}
-use Rattle.record.specs.Written.{FieldsIn, rest, skipped, stands}
+use Rattle.record_table.specs.Row.{Field, Row, span}
+use Rattle.record.specs.Written.{FieldsIn, rest, skipped, stands, InColumns}
 
 pub span-append : (fs gs : List Field) → span (fs ++ gs) ≡ span fs + span gs
 unfolding total
@@ -51,3 +51,8 @@ fields-blank (skipped {w} {fs} bl cs k b r) n =
 fields-blank (stands {form} {w} {fs} own cs k s r) n =
     let m = rw (take-past own cs w (span fs) k) at n in
     blanks-append (blanks-left own _ m) (fields-blank r (blanks-right own _ m))
+
+-- the items of a row's fields stand in columns, whatever is past them
+pub own-fields : {r : Row} {is : List Item} {line : List ℕ} → InColumns r is line → (cols : List ℕ) × FieldsIn (r .fields) is cols
+own-fields {line = line} (InColumns.alone f) = (line, f)
+own-fields (InColumns.padded own filled ps l f p) = (own, f)
