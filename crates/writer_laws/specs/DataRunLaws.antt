@@ -78,7 +78,7 @@ module _ (c : ℕ) (w : ℕ) (ws : List ℕ) (x s : ℤ) (xs ss : List ℤ) (wid
   unfolding dataRow
   line-written = record {
     in-columns =
-        InColumns.alone (rw (widths, map-take (suc (length xs)) (w ∷ ws))
+        InColumns.alone {line = filled line} (rw (widths, map-take (suc (length xs)) (w ∷ ws))
         (subst (λ (cols : List ℕ). FieldsIn (map E (take (suc (length xs)) (w ∷ ws))) (itemsBack (w ∷ ws) (x ∷ xs) (s ∷ ss)) cols) (sym (filled-short line eighty))
         (fields-in fit (replicate (80 - length line) 32) (blanks-replicate (80 - length line)))));
     together = rw (widths, map-take (suc (length xs)) (w ∷ ws)) (data-together (take (suc (length xs)) (w ∷ ws)) (itemsBack (w ∷ ws) (x ∷ xs) (s ∷ ss)));
