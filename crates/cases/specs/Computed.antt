@@ -30,7 +30,7 @@ use Rattle.field.specs.Field.{mayBlank, fieldNumber}
 use Rattle.record_table.specs.Row.{Row, firstNotAbove, breach}
 use Rattle.record_table.specs.Records.{records, recordOf, dataRow}
 use Rattle.record_table.specs.TypedSets.{kindOf, isTyped, typedSets, sequence, following}
-use Rattle.record.specs.Check.{fieldsFault, firstNonBlank, stray, itemsOf, conditionFault, fieldsRefusal, rowRefusal}
+use Rattle.record.specs.Check.{fieldsFault, firstNonBlank, stray, itemsOf, conditionFault, fieldsRefusal, taken, takenRefusal, rowRefusal}
 use Rattle.record.specs.Declared.{numberIn, caseIn, countIn, naturalAt, caseBy, countBy, storedBy}
 use Rattle.walk.specs.declared.Due.{Due}
 use Rattle.walk.specs.declared.State.{State}
@@ -60,7 +60,7 @@ computed-real field = R.realOf field
 
 -- a line by its row
 unfoldable pub computed-refusal : Row → List ℕ → Refusal
-unfolding computed-integer computed-real trimmed keeps C.fieldStart mayBlank fieldNumber firstNotAbove breach fieldsFault firstNonBlank stray itemsOf conditionFault fieldsRefusal rowRefusal
+unfolding computed-integer computed-real trimmed keeps C.fieldStart mayBlank fieldNumber firstNotAbove breach fieldsFault firstNonBlank stray itemsOf conditionFault fieldsRefusal C.total taken takenRefusal rowRefusal
 computed-refusal row line = rowRefusal row line
 
 -- what is due after a line

@@ -20,6 +20,7 @@ use Rattle.field.specs.Item.{Item, natural}
 use Rattle.record_table.specs.Row.{Field}
 use Rattle.record_table.specs.Records.{I, X, records, recordOf, dataForm}
 use Rattle.record_table.specs.TypedSets.{lineSeven}
+use Rattle.record_laws.specs.FieldsInLaws.{own-fields}
 use Rattle.record.specs.Written.{Stands, a-text, a-identification, an-integer, a-blank, a-real, FieldsIn, rest, skipped, stands, Written}
 use Rattle.record.specs.Declared.{naturalAt, caseBy, countBy}
 use Rattle.theory.specs.Sets.{Set}
@@ -110,7 +111,7 @@ items-case (negsuc t) b p q = false-not-true p
 pub record-case : (is : List Item) (line : List ℕ) → Written (recordOf dataForm) is line → caseBy is < 8
 unfolding recordOf records caseBy naturalAt
 record-case is line w =
-    let x = first-item ordinateType 10 _ (w .in-columns) refl in
+    let x = first-item ordinateType 10 _ (own-fields (w .in-columns) .1) refl in
     let y = first-item count 10 _ (x .after) refl in
     let z = first-item spacing 10 _ (y .after) refl in
     rw (x .items, y .items, z .items, x .keeps-rule .item, z .keeps-rule .item) (items-case (x .keeps-rule .value) (z .keeps-rule .value) (x .keeps-rule .kept) (z .keeps-rule .kept))
@@ -129,7 +130,7 @@ item-counted (negsuc v) k = false-not-true k
 pub record-counted : (is : List Item) (line : List ℕ) → Written (recordOf dataForm) is line → (1 ≤ countBy is) × (countBy is ≤ 65536)
 unfolding recordOf records countBy naturalAt
 record-counted is line w =
-    let x = first-item ordinateType 10 _ (w .in-columns) refl in
+    let x = first-item ordinateType 10 _ (own-fields (w .in-columns) .1) refl in
     let y = first-item count 10 _ (x .after) refl in
     rw (x .items, y .items, y .keeps-rule .item) (item-counted (y .keeps-rule .value) (y .keeps-rule .kept))
 

@@ -1,4 +1,4 @@
--- Every byte of a data line that is no blank lies in the columns of a stored number.
+-- Every byte of a data line that is no blank lies in the columns of a field of the full line.
 use mathlib.Core.Path.{_≡_, refl, ap, _∙_}
 use mathlib.Core.Logic.{⊎-elim}
 use mathlib.Core.List.{List, [], _∷_, map}
@@ -12,7 +12,9 @@ use Rattle.layout.specs.Layout.{layoutOf}
 use Rattle.field.specs.Item.{Item}
 use Rattle.record_table.specs.Row.{Field, firstFields}
 use Rattle.record_table.specs.Records.{E, dataRow}
-use Rattle.record.specs.Written.{FieldsIn, rest, skipped, stands, Written}
+use Rattle.record_table.specs.PaddingLaws.{data-full}
+use Rattle.record.specs.Written.{FieldsIn, rest, skipped, stands, InColumns}
+use Rattle.record_laws.specs.FieldsInLaws.{fieldsIn-join}
 use Rattle.record_laws.specs.GroupLaws.{blanks-at, getD-later}
 use Rattle.parts_laws.specs.FieldLaws.{not-real}
 use Rattle.parts_laws.specs.StoredLaws.{map-take, fieldStart-take}
@@ -39,15 +41,21 @@ covered (w ∷ ws) (stands {form = form} {w = v} {fs = fs} own cols l s r) e a n
     (λ (h : w ≤ a). covers-later w ws a h (covered ws r t (a - w) (λ z. n (getD-later own cols w a (l ∙ y) h ∙ z))))
     (below-or-not a w)
 
--- of the first m fields of a data line
-pub data-covered : (line : List ℕ) (c m : ℕ) (is : List Item) → Written (firstFields m (dataRow c)) is line → (a : ℕ) → (getD line a 32 ≡ 32 → ⊥)
-    → (k : Covers (layoutOf c .widths) a) × (k .field < m)
-unfolding dataRow fieldPast
-data-covered line c m is w a n =
+-- the columns of the first m fields
+first-covers : (m : ℕ) (ws : List ℕ) (a : ℕ) → Covers (take m ws) a → Covers ws a
+unfolding fieldPast
+first-covers m ws a k =
+    let b : k .field < m = omega (arith, k .some, length-take m ws) in
+    let d : k .field < length ws = omega (arith, k .some, length-take m ws) in
+    let s : fieldStart (take m ws) (k .field) ≡ fieldStart ws (k .field) = fieldStart-take m (k .field) ws (omega arith) in
+    let g : getD (take m ws) (k .field) 0 ≡ getD ws (k .field) 0 = getD-take m ws (k .field) 0 b in
+    record { field = k .field; some = d; from = omega (arith, k .from); past = omega (arith, k .past) }
+
+-- of a data line on which m numbers are due: of one of these, or of its padding
+pub data-covered : (c m : ℕ) {is : List Item} {line : List ℕ} → InColumns (firstFields m (dataRow c)) is line → (a : ℕ) → (getD line a 32 ≡ 32 → ⊥)
+    → Covers (layoutOf c .widths) a
+unfolding dataRow
+data-covered c m (InColumns.alone f) a n =
     let ws : List ℕ = layoutOf c .widths in
-    let k : Covers (take m (layoutOf c .widths)) a = covered (take m (layoutOf c .widths)) (w .in-columns) (map-take m (layoutOf c .widths)) a n in
-    let b : k .field < m = omega (arith, k .some, length-take m (layoutOf c .widths)) in
-    let d : k .field < length (layoutOf c .widths) = omega (arith, k .some, length-take m (layoutOf c .widths)) in
-    let s : fieldStart (take m (layoutOf c .widths)) (k .field) ≡ fieldStart (layoutOf c .widths) (k .field) = fieldStart-take m (k .field) (layoutOf c .widths) (omega arith) in
-    let g : getD (take m (layoutOf c .widths)) (k .field) 0 ≡ getD (layoutOf c .widths) (k .field) 0 = getD-take m (layoutOf c .widths) (k .field) 0 b in
-    (record { field = k .field; some = d; from = omega (arith, k .from); past = omega (arith, k .past) }, b)
+    first-covers m ws a (covered (take m ws) f (map-take m ws) a n)
+data-covered c m (InColumns.padded own filled ps l f p) a n = covered (layoutOf c .widths) (fieldsIn-join f l p) (data-full m c) a n

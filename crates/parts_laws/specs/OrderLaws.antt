@@ -112,17 +112,20 @@ module _ {s : Set} {p : Parts.Part} (h : Holds s p) (e : s .number ≡ 58) where
       let c : Parts.lineStart p headerLines ≤ Parts.lineStart p (headerLines + lineOf (fieldsOf (Function.partCase p)) j) = start-rise (lineOf (fieldsOf (Function.partCase p)) j) in
       (omega arith, (omega (arith, t .some), omega (arith, t .past, line-closing p (headerLines + lineOf (fieldsOf (Function.partCase p)) j) (t .line))))
 
-  -- in order, and apart
-  pub columns-apart : (i j : ℕ) → i < j → j < storedCount s → Function.pastByte p i ≤ Function.firstByte p j
+  -- in order, and apart: of any number after it, one of the padding too
+  pub columns-before : (i j : ℕ) → i < j → i < storedCount s → Function.pastByte p i ≤ Function.firstByte p j
   unfolding Function.firstByte Function.pastByte Function.dataLine fieldsOf
-  columns-apart i j o l =
-      let b : 0 < length (layoutOf (Function.partCase p) .widths) = subst (λ (y : ℕ). 0 < length (layoutOf y .widths)) (sym (case-held h e)) (fieldsOf-some (setCase s) (stored-case s j l)) in
-      let t = seated i (omega arith) in
+  columns-before i j o l =
+      let b : 0 < length (layoutOf (Function.partCase p) .widths) = subst (λ (y : ℕ). 0 < length (layoutOf y .widths)) (sym (case-held h e)) (fieldsOf-some (setCase s) (stored-case s i l)) in
+      let t = seated i l in
       let n : ℕ = length (layoutOf (Function.partCase p) .widths) in
       ⊎-elim
       (λ q. omega (arith, t .past, lines-apart p (headerLines + lineOf n i) (headerLines + lineOf n j) (t .line) (omega arith)))
       (λ q. rw (q .0) (omega (arith, q .1)))
       (stored-apart (layoutOf (Function.partCase p) .widths) i j b o)
+
+  pub columns-apart : (i j : ℕ) → i < j → j < storedCount s → Function.pastByte p i ≤ Function.firstByte p j
+  columns-apart i j o l = columns-before i j o (omega arith)
 
 -- the first stored number begins the data lines
 pub first-column : (p : Parts.Part) → Function.firstByte p 0 ≡ Parts.lineStart p headerLines

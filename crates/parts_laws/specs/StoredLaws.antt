@@ -1,24 +1,24 @@
 -- The stored numbers of a 58 of a list are spelled in their own columns of its lines.
 use mathlib.Core.Path.{_≡_, refl, sym, ap, subst, _∙_}
 use mathlib.Core.Logic.{⊎-elim}
-use mathlib.Core.List.{List, [], _∷_, map}
+use mathlib.Core.List.{List, [], _∷_, _++_, map}
 use Prim.Native.Nat.{ℕ, zero, suc, _+_, _-_, _*_, _<_, _≤_}
 use native.Mathlib.Nat.{le-div-iff-mul-le, suc-mul, zero-mul, mul-zero}
 use native.Mathlib.Omega.{arith}
 use borrow.Author.Tests.{le-ltb}
-use lib.ListN.{length, getD, take, drop, length-append, length-take}
-use lib.Seq.{getD-take, getD-append-add}
+use lib.ListN.{length, getD, take, drop, length-append, length-take, length-drop}
+use lib.Seq.{getD-take, getD-append-add, drop-append-le, take-append-le}
 use Rattle.laws.specs.ChoiceLaws.{false-not-true, below-or-not}
 use Rattle.line.specs.Line.{filled}
-use Rattle.layout.specs.Columns.{fieldStart, lineOf, fieldOf}
-use Rattle.layout.specs.ColumnsLaws.{fieldOf-inside, stored-at}
+use Rattle.layout.specs.Columns.{fieldStart, fieldPast, total, lineOf, fieldOf}
+use Rattle.layout.specs.ColumnsLaws.{fieldPast-total, fieldOf-inside, stored-at}
 use Rattle.layout.specs.Layout.{layoutOf, fieldsOf, numbersOf}
 use Rattle.layout.specs.LayoutLaws.{fieldsOf-some}
 use Rattle.field.specs.Item.{Item}
-use Rattle.record_table.specs.Row.{Row, firstFields}
+use Rattle.record_table.specs.Row.{Field, Row, span, firstFields}
 use Rattle.record_table.specs.TypedSets.{kindOf, sequence, typedSets, headerLines, kind58, following}
 use Rattle.record_table.specs.Records.{E, plain, recordOf, dataRow}
-use Rattle.record.specs.Written.{Written}
+use Rattle.record.specs.Written.{FieldsIn, InColumns, Written}
 use Rattle.record.specs.Declared.{storedBy}
 use Rattle.walk.specs.DueLaws.{dataRow-length}
 use Rattle.theory.specs.Sets.{Set}
@@ -84,14 +84,42 @@ case-below : (c n j : ℕ) → j < n * numbersOf c → c < 8
 unfolding numbersOf
 case-below c n j h = ⊎-elim (λ l. l) (λ l. let z : j < n * 0 = rw (le-ltb c 8 l) at h in absurd (omega (arith, mul-zero n))) (below-or-not c 8)
 
+-- the columns of reals of these widths
+span-reals : (ws : List ℕ) → span (map E ws) ≡ total ws
+unfolding total
+span-reals [] = refl
+span-reals (w ∷ ws) = rw (span-reals ws) refl
+
+-- columns of the first of two parts
+left-columns : (own more : List ℕ) (s w : ℕ) → s + w ≤ length own → take w (drop s (own ++ more)) ≡ take w (drop s own)
+left-columns own more s w h =
+    ap (take w) (drop-append-le s own more (omega arith)) ∙ take-append-le w (drop s own) more (omega (arith, length-drop s own))
+
 -- a field of a data line
-data-field : (line : List ℕ) (c m k : ℕ) (is : List Item) → Written (firstFields m (dataRow c)) is line → k < m → k < fieldsOf c
-    → Spelled (getD is k Item.blank) (take (getD (layoutOf c .widths) k 0) (drop (fieldStart (layoutOf c .widths) k) line))
-unfolding dataRow fieldsOf
-data-field line c m k is w h l =
-    let ws : List ℕ = layoutOf c .widths in
-    let b : k < length (take m ws) = omega (arith, length-take m ws) in
-    rw (getD-take m ws k 0 h, fieldStart-take m k ws (omega arith)) at (field-at (take m ws) k (w .in-columns) (map-take m ws) b)
+module _ (c m k : ℕ) (h : k < m) (l : k < fieldsOf c) where
+  abbrev ws : List ℕ
+  ws = layoutOf c .widths
+
+  some-field : {fs : List Field} {is : List Item} {cols : List ℕ} → FieldsIn fs is cols → fs ≡ take m (map E ws)
+      → Spelled (getD is k Item.blank) (take (getD ws k 0) (drop (fieldStart ws k) cols))
+  unfolding fieldsOf
+  some-field f e =
+      let b : k < length (take m ws) = omega (arith, length-take m ws) in
+      rw (getD-take m ws k 0 h, fieldStart-take m k ws (omega arith)) at (field-at (take m ws) k f (e ∙ map-take m ws) b)
+
+  -- it lies left of the padding
+  field-left : fieldStart ws k + getD ws k 0 ≤ span (take m (map E ws))
+  unfolding fieldPast fieldsOf
+  field-left =
+      let p = fieldPast-total (take m ws) k in
+      rw (map-take m ws, span-reals (take m ws)) (rw (getD-take m ws k 0 h, fieldStart-take m k ws (omega arith)) at p)
+
+  data-field : {is : List Item} {line : List ℕ} → InColumns (firstFields m (dataRow c)) is line
+      → Spelled (getD is k Item.blank) (take (getD ws k 0) (drop (fieldStart ws k) line))
+  unfolding dataRow
+  data-field (InColumns.alone f) = some-field f refl
+  data-field (InColumns.padded own more ps e f p) =
+      rw (left-columns own more (fieldStart ws k) (getD ws k 0) (omega (arith, e, field-left))) (some-field f refl)
 
 -- the lists of a 58
 lists-58 : (s : Set) → s .number ≡ 58 → listsOf kind58 (s .lines) ≡ rowsHolding (dataRow (setCase s)) (storedCount s)
@@ -131,5 +159,5 @@ stored-spelled {s} {p} h e j l =
     let d = set-data (h .lines) e in
     let q : lineOf (fieldsOf (setCase s)) j * fieldsOf (setCase s) + fieldOf (fieldsOf (setCase s)) j ≡ j = stored-at (fieldsOf (setCase s)) j in
     rw (lineOf-columns p (headerLines + lineOf (fieldsOf (setCase s)) j))
-    (data-field (filled (getD (columnsOf (p .body)) (headerLines + k) [])) (setCase s) (storedCount s - k * n) (fieldOf n j) (getD (s .lines) (headerLines + k) [])
-    (d .written k (line-enough n (storedCount s) j b l)) (omega arith) (fieldOf-inside (fieldsOf (setCase s)) j b))
+    (data-field (setCase s) (storedCount s - k * n) (fieldOf n j) (omega arith) (fieldOf-inside (fieldsOf (setCase s)) j b)
+    (d .written k (line-enough n (storedCount s) j b l) .in-columns))

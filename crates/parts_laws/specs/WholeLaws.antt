@@ -1,10 +1,10 @@
--- Every byte of a 58's data lines that is no blank, the lines' ends aside, lies in the own columns of a stored number.
+-- Every byte of a 58's data lines that is no blank, the lines' ends aside, lies in the columns of a field of a full line.
 use mathlib.Core.Path.{_≡_, refl, sym, ap, _∙_}
 use mathlib.Core.Logic.{⊎-elim}
 use mathlib.Core.Bool.{Bool, true, false}
 use mathlib.Core.List.{List, [], _∷_}
 use Prim.Native.Nat.{ℕ, suc, _+_, _-_, _*_, _<_, _≤_}
-use native.Mathlib.Nat.{add-mul-div-right, add-mul-mod-self-right, div-eq-of-lt, mod-eq-of-lt, zero-add}
+use native.Mathlib.Nat.{mul-le-mul, suc-mul, add-mul-div-right, add-mul-mod-self-right, div-eq-of-lt, mod-eq-of-lt, zero-add}
 use native.Mathlib.Omega.{arith}
 use borrow.Author.Tests.{eqb-true, eqb-false}
 use lib.Dec.{eqb}
@@ -30,7 +30,7 @@ use Rattle.parts_laws.specs.Stored.{storedCount}
 use Rattle.parts_laws.specs.StoredLaws.{set-data}
 use Rattle.parts_laws.specs.CoverLaws.{data-covered}
 use Rattle.parts_laws.specs.OrderLaws.{lines-apart, body-length}
-use Rattle.parts_laws.specs.Whole.{Owned}
+use Rattle.parts_laws.specs.Whole.{fieldCount, Owned}
 
 -- the line of a byte
 record In (bs : List (List ℕ)) (at x : ℕ) : Type 0 where
@@ -79,6 +79,12 @@ unfolding lineOf fieldOf
 stored-place n k f h =
     (add-mul-div-right f k (omega arith) ∙ rw (div-eq-of-lt h, zero-add) refl, add-mul-mod-self-right f k n ∙ mod-eq-of-lt h)
 
+-- which is one of those of so many full lines
+stored-below : (n k f lines : ℕ) → f < n → k < lines → f + k * n < lines * n
+stored-below n k f lines h l =
+    let m : suc k * n ≤ lines * n = mul-le-mul l (omega arith) in
+    omega (arith, suc-mul k n)
+
 -- a byte of line 11 + k of a 58, at column a of it
 module _ {s : Set} {p : Parts.Part} (file : List ℕ) (ps : List Parts.Part) (w : Somewhere file p ps) (h : Holds s p) (e : s .number ≡ 58) where
   line-byte : (m a : ℕ) → a < length (getD (p .body) m []) → getD file (Parts.lineStart p m + a) 0 ≡ getD (getD (p .body) m []) a 0
@@ -91,24 +97,21 @@ module _ {s : Set} {p : Parts.Part} (file : List ℕ) (ps : List Parts.Part) (w 
   unfolding columns withoutReturn
   columns-at m = List·getD-map (columns true) (p .body) m []
 
-  -- a column of a data line that is no blank is a stored number's
+  -- a column of a data line that is no blank is a field's
   owned-column : (k a : ℕ) → headerLines + k < length (p .body) → (getD (filled (columns true (getD (p .body) (headerLines + k) []))) a 32 ≡ 32 → ⊥)
-      → Owned p (storedCount s) (Parts.lineStart p (headerLines + k) + a)
-  unfolding Function.firstByte Function.pastByte Function.dataLine fieldsOf
+      → Owned p (fieldCount s) (Parts.lineStart p (headerLines + k) + a)
+  unfolding Function.firstByte Function.pastByte Function.dataLine fieldsOf fieldCount
   owned-column k a l n =
       let q : Function.partCase p ≡ setCase s = case-held h e in
       let d = set-data (h .lines) e in
       let y = d .written k (omega (arith, body-length h e)) in
-      let row : List ℕ = filled (getD (columnsOf (p .body)) (headerLines + k) []) in
-      let c = data-covered row (setCase s) (storedCount s - k * fieldsOf (setCase s)) (getD (s .lines) (headerLines + k) []) y a (λ z. n (rw (columns-at (headerLines + k)) at z)) in
-      let f : ℕ = c .0 .field in
-      let g = stored-place (length (layoutOf (setCase s) .widths)) k (c .0 .field) (c .0 .some) in
-      let j : ℕ = c .0 .field + k * length (layoutOf (setCase s) .widths) in
+      let c = data-covered (setCase s) (storedCount s - k * fieldsOf (setCase s)) (y .in-columns) a (λ z. n (rw (columns-at (headerLines + k)) at z)) in
+      let g = stored-place (length (layoutOf (setCase s) .widths)) k (c .field) (c .some) in
       record {
-        index = c .0 .field + k * length (layoutOf (setCase s) .widths);
-        some = omega (arith, c .1);
-        from = rw (q, g .0, g .1) (omega (arith, c .0 .from));
-        past = rw (q, g .0, g .1) (omega (arith, c .0 .past));
+        index = c .field + k * length (layoutOf (setCase s) .widths);
+        some = stored-below _ k (c .field) _ (c .some) (omega (arith, body-length h e));
+        from = rw (q, g .0, g .1) (omega (arith, c .from));
+        past = rw (q, g .0, g .1) (omega (arith, c .past));
       }
 
   abbrev base : ℕ
@@ -128,7 +131,7 @@ module _ {s : Set} {p : Parts.Part} (file : List ℕ) (ps : List Parts.Part) (w 
 
   -- a byte of a data line that is no blank and no end
   owned-at : (m a : ℕ) → headerLines ≤ m → m < length (p .body) → a ≤ length (getD (p .body) m []) → (getD file (Parts.lineStart p m + a) 0 ≡ 32 → ⊥)
-      → (getD file (Parts.lineStart p m + a) 0 ≡ 10 → ⊥) → (getD file (Parts.lineStart p m + a) 0 ≡ 13 → ⊥) → Owned p (storedCount s) (Parts.lineStart p m + a)
+      → (getD file (Parts.lineStart p m + a) 0 ≡ 10 → ⊥) → (getD file (Parts.lineStart p m + a) 0 ≡ 13 → ⊥) → Owned p (fieldCount s) (Parts.lineStart p m + a)
   owned-at m a o l b blank lf cr =
       let z : headerLines + (m - headerLines) ≡ m = omega arith in
       let d : a < length (getD (p .body) m []) = ⊎-elim (λ (q : a < length (getD (p .body) m [])). q)
@@ -141,7 +144,7 @@ module _ {s : Set} {p : Parts.Part} (file : List ℕ) (ps : List Parts.Part) (w 
       rw z at (owned-column (m - headerLines) a (rw z l) (rw z u))
 
   pub byte-owned : (x : ℕ) → Parts.lineStart p headerLines ≤ x → x < Parts.closingStart p → (getD file x 0 ≡ 32 → ⊥) → (getD file x 0 ≡ 10 → ⊥) → (getD file x 0 ≡ 13 → ⊥)
-      → Owned p (storedCount s) x
+      → Owned p (fieldCount s) x
   byte-owned x a b blank lf cr =
       let i = line-of x a b in
       let g : headerLines ≤ i .line

@@ -5,6 +5,7 @@ pub mod GoingLaws
 pub mod NumberLaws
 pub mod Condition
 pub mod ConditionLaws
+pub mod TakenLaws
 pub mod Declared
 pub mod DeclaredLaws
 pub mod Written

@@ -2,11 +2,13 @@
 ghost use mathlib.Core.Path.{_≡_};
 ghost use Prim.Native.Nat.{_≤_, _<_, _+_, _-_};
 ghost use lib.ListN.{length, take, drop};
+ghost use Rattle.text.specs.Blank.{allBlank};
 ghost use Rattle.codes.specs.Form.{formOf};
 ghost use Rattle.layout.specs.Columns.{total};
 ghost use Rattle.field.specs.Field.{mayBlank, fieldNumber};
+ghost use Rattle.record_table.specs.Row.{firstFields};
 ghost use Rattle.record_table.specs.Records.{dataForm, unitFactors, recordOf, dataRow, fieldList};
-ghost use Rattle.record.specs.Check.{fieldsFault, firstNonBlank, strayIn, stray, fieldsRefusal, conditionFault, rowRefusal};
+ghost use Rattle.record.specs.Check.{fieldsFault, firstNonBlank, strayIn, stray, fieldsRefusal, conditionFault, remainderIn, taken, rowRefusal};
 use codes::LAST_FORM;
 use codes::REAL;
 use codes::SKIP;
@@ -224,14 +226,27 @@ pub fn check_list(line: &[u8; 80], row: usize, fields: usize) -> Refusal
     check_columns(line, &forms, &widths[..fields])
 }
 
-// The first refusal of a data line of 58 on which this many numbers are due, by its case.
+// Whether the columns of a full data line of 58 past this many numbers are all blank, by its case: then it has no padding.
+fn is_unpadded(line: &[u8; 80], case: usize, fields: usize) -> bool
+    ensures { λ r. ⌜ r ≡ allBlank (remainderIn (firstFields fields (dataRow case)) (now (line .entry))) ⌝ }
+{
+    let columns: &[u8] = line;
+    let at = layout::field_start(case, fields);
+    let past = layout::field_start(case, 6);
+    text::is_blank(&columns[at..past])
+}
+
+// The first refusal of a data line of 58 on which this many numbers are due, by its case: of these, and of its padding.
 pub fn check_data(line: &[u8; 80], case: usize, fields: usize) -> Refusal
-    ensures { λ r. ⌜ r ≡ fieldsRefusal (take fields (dataRow case .fields)) (now (line .entry)) ⌝ }
+    ensures { λ r. ⌜ r ≡ fieldsRefusal (taken (firstFields fields (dataRow case)) (now (line .entry)) .fields) (now (line .entry)) ⌝ }
 {
     let forms = [REAL; 6];
     let widths = layout::line_widths(case);
     if 6 <= fields {
         return check_columns(line, &forms, &widths);
     }
-    check_columns(line, &forms, &widths[..fields])
+    if is_unpadded(line, case, fields) {
+        return check_columns(line, &forms, &widths[..fields]);
+    }
+    check_columns(line, &forms, &widths)
 }

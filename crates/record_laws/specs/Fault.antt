@@ -19,8 +19,9 @@ use Rattle.codes.specs.Rule.{Rule, keeps}
 use Rattle.codes.specs.Form.{Form, Optional, skip, text, identification, real, integer, never, within}
 use Rattle.layout.specs.Columns.{fieldStart}
 use Rattle.field.specs.Field.{columnsOf}
-use Rattle.record_table.specs.Row.{Field, Row, Condition, zeroIfUneven, aboveZero}
+use Rattle.record_table.specs.Row.{Field, Row, withPadding, Condition, zeroIfUneven, aboveZero}
 use Rattle.record_table.specs.Records.{X}
+use Rattle.record.specs.Check.{remainderIn}
 
 -- field k of a row, no columns past the last; the columns left of it; its own
 abbrev pub fieldAt : List Field → ℕ → Field
@@ -98,13 +99,18 @@ module _ (line : List ℕ) where
       -- 164, "factor not above zero"
       factor : {k c : ℕ} {m : Bool} {s : ℤ} → RealSpelling m c s (ownColumns line fs k) → (m ≡ true) ⊎ (c ≡ 0) → Breaks aboveZero k
 
--- the refusal of a line by a row
-pub data RowFault (r : Row) (line : List ℕ) : Refusal → Type 0 where
+-- the refusal of a line by a row of which all fields are taken
+pub data TakenFault (r : Row) (line : List ℕ) : Refusal → Type 0 where
   -- a field is wrong, those left of it pass
   field : (n k : ℕ) → k < length (r .fields) → PassBefore line (r .fields) k → FieldFault line n (fieldAt (r .fields) k .form) (ownColumns line (r .fields) k)
-      → RowFault r line (refusal n (leftOf (r .fields) k + 1))
+      → TakenFault r line (refusal n (leftOf (r .fields) k + 1))
   -- all fields pass, a byte lies outside them
-  stray : (c : ℕ) → AllPass line (r .fields) → First (Stray line (r .fields)) c → RowFault r line (refusal 13 c)
+  stray : (c : ℕ) → AllPass line (r .fields) → First (Stray line (r .fields)) c → TakenFault r line (refusal 13 c)
   -- all fields pass, no byte lies outside them, a field breaks the condition
   condition : (k : ℕ) → AllPass line (r .fields) → ((c : ℕ) → Stray line (r .fields) c → ⊥)
-      → First (Breaks line (r .fields) (r .condition)) k → RowFault r line (refusal 14 (leftOf (r .fields) k + 1))
+      → First (Breaks line (r .fields) (r .condition)) k → TakenFault r line (refusal 14 (leftOf (r .fields) k + 1))
+
+-- the refusal of a line by a row (02, C-13): its own fields are taken where the remainder is blank, otherwise those of its padding after them
+pub data RowFault (r : Row) (line : List ℕ) (f : Refusal) : Type 0 where
+  alone : Blanks (remainderIn r line) → TakenFault r line f → RowFault r line f
+  padded : (Blanks (remainderIn r line) → ⊥) → TakenFault (withPadding r) line f → RowFault r line f

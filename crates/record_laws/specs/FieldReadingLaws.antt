@@ -100,18 +100,33 @@ module _ (line : List ℕ) where
   unfolding fieldNumber
   skip-complete is b = record { number = refl; clear = λ k. firstByte-complete k b; items = refl }
 
+  -- an item that stands in a field's columns is the one of these columns
+  pub items-stand : {f : Form} {i : Item} {cols : List ℕ} (is : List Item) → Stands f i cols → withItem f cols is ≡ i ∷ is
+  items-stand is (a-text s) = rw (trimmed-complete s) refl
+  items-stand is (a-identification s n) = rw (trimmed-complete s) refl
+  items-stand is (an-integer s h e) = rw (integerOf-within s h) refl
+  items-stand is (a-blank b) = rw (integerOf-blank b) refl
+  items-stand is (a-real {s = s} r) = rw (realOf-complete r, signed-size s) refl
+
   -- an item that stands in a field's columns is read there, a blank one where it may be left blank on this line
+  stands-number : {f : Form} {i : Item} {cols : List ℕ} → Stands f i cols → (i ≡ Item.blank → mayBlank f line ≡ true) → fieldNumber f (mayBlank f line) cols ≡ 0
+  unfolding fieldNumber mayBlank
+  stands-number (a-text s) m = refl
+  stands-number (a-identification s n) m = title-complete false s n
+  stands-number (an-integer s h e) m = rw (integerOf-within s h, e) refl
+  stands-number (a-blank b) m = rw (integerOf-blank b, m refl) refl
+  stands-number (a-real r) m = rw (realOf-complete r) refl
+
+  stands-clear : {f : Form} {i : Item} {cols : List ℕ} (k : ℕ) → Stands f i cols → strayIn f k cols ≡ 0
+  stands-clear k (a-text s) = refl
+  stands-clear k (a-identification s n) = refl
+  stands-clear k (an-integer s h e) = refl
+  stands-clear k (a-blank b) = refl
+  stands-clear k (a-real r) = refl
+
   pub stands-complete : {f : Form} {i : Item} {cols : List ℕ} (is : List Item) → Stands f i cols → (i ≡ Item.blank → mayBlank f line ≡ true)
       → Reads f cols is (i ∷ is)
-  unfolding fieldNumber mayBlank
-  stands-complete is (a-text s) m = record { number = refl; clear = λ k. refl; items = rw (trimmed-complete s) refl }
-  stands-complete is (a-identification s n) m = record { number = title-complete false s n; clear = λ k. refl; items = rw (trimmed-complete s) refl }
-  stands-complete is (an-integer s h e) m =
-      record { number = rw (integerOf-within s h, e) refl; clear = λ k. refl; items = rw (integerOf-within s h) refl }
-  stands-complete is (a-blank b) m =
-      record { number = rw (integerOf-blank b, m refl) refl; clear = λ k. refl; items = rw (integerOf-blank b) refl }
-  stands-complete is (a-real {s = s} r) m =
-      record { number = rw (realOf-complete r) refl; clear = λ k. refl; items = rw (realOf-complete r, signed-size s) refl }
+  stands-complete is s m = record { number = stands-number s m; clear = λ k. stands-clear k s; items = items-stand is s }
 
   -- an integer that is read in the columns of a field that passes stands there
   pub integer-sound : (r : Rule) (o : Optional) (cols : List ℕ) → fieldNumber (integer r o) (mayBlank (integer r o) line) cols ≡ 0

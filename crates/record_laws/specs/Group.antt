@@ -2,10 +2,13 @@
 use mathlib.Core.Path.{_≡_}
 use mathlib.Core.Bool.{Bool, true, _&&_, _||_}
 use mathlib.Core.List.{List, [], _∷_}
+use mathlib.Core.Logic.{_⊎_}
 use Prim.Native.Nat.{ℕ, _+_, _≤_}
 use lib.Dec.{eqb, leb}
 use Rattle.codes.specs.Form.{Form, Optional, skip, text, identification, real, integer, never, within}
-use Rattle.record_table.specs.Row.{Field}
+use Rattle.field.specs.Item.{Item}
+use Rattle.record_table.specs.Row.{Field, Row, blanks, withPadding, none}
+use Rattle.record.specs.Written.{optionalItems}
 
 -- a field of w columns from the column at on: one that may be left blank lies in the columns from a to before e and names them, any
 -- other lies outside
@@ -31,6 +34,16 @@ pub record Grouped (fs : List Field) : Type 0 where
   pub from : ℕ
   pub past : ℕ
   pub lie : placedFrom from past fs 0 ≡ true
+
+-- a row whose remainder may be filled: none of its fields may be left blank, and it asks nothing of them together
+pub record Fillable (r : Row) : Type 0 where
+  pub required : (is : List Item) → optionalItems (withPadding r .fields) is ≡ []
+  pub free : r .condition ≡ none
+
+-- what reading by a row stands on
+pub record Readable (r : Row) : Type 0 where
+  pub grouped : Grouped (withPadding r .fields)
+  pub filled : (r .remainder ≡ blanks) ⊎ Fillable r
 
 -- a field that may be left blank where the columns from b to before d are: these are the columns from a to before e, and it lies in them
 pub record Inside (a e at w b d : ℕ) : Type 0 where

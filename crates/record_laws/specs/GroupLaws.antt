@@ -11,7 +11,7 @@ use lib.Dec.{eqb, leb}
 use lib.IntN.{ℤ}
 use lib.ListN.{length, getD, take, drop, length-take, List·getD-append, List·getD-eq-default}
 use lib.Seq.{getD-take, getD-drop, getD-append-add}
-use Rattle.laws.specs.ChoiceLaws.{and-left, and-right, below-or-not}
+use Rattle.laws.specs.ChoiceLaws.{and-left, and-right, and-both, below-or-not}
 use Rattle.text.specs.Blank.{Blanks, none, one, allBlank}
 use Rattle.text.specs.BlankLaws.{allBlank-complete, allBlank-sound}
 use Rattle.integer.specs.Integer.{integerOf}
@@ -21,11 +21,11 @@ use Rattle.integer.specs.declared.Integer.the-variants.{Blank, Malformed, OutOf
 use Rattle.codes.specs.Form.{Form, skip, text, identification, real, integer, never, within, optionalOf}
 use Rattle.field.specs.Item.{Item}
 use Rattle.field.specs.Field.{columnsOf, mayBlank, integerNumber, fieldNumber, integerItem, withItem}
-use Rattle.record_table.specs.Row.{Field}
+use Rattle.record_table.specs.Row.{Field, Row, paddingFields, withPadding}
 use Rattle.record.specs.Check.{fieldsFault, itemsOf}
 use Rattle.record.specs.CheckLaws.{orElse-passed}
 use Rattle.record.specs.Written.{Stands, a-text, a-identification, an-integer, a-blank, a-real, FieldsIn, rest, skipped, stands, withOptional, optionalItems, AllBlank, AllPresent, Together}
-use Rattle.record_laws.specs.Group.{placed, placedForm, placedFrom, Inside}
+use Rattle.record_laws.specs.Group.{placed, placedForm, placedFrom, Grouped, Inside}
 
 -- Blanks, column by column.
 
@@ -221,3 +221,14 @@ module _ (a e : ℕ) where
         by : (t : Bool) → allBlank (columnsOf a e line) ≡ t → Together (optionalItems fs (itemsOf fs 0 line))
         by true q = Together.blank (items-blank fs 0 g (allBlank-sound (columnsOf a e line) q))
         by false q = Together.present (items-present fs 0 g q p)
+
+-- the fields of a row without its padding
+placed-left : (a e : ℕ) (fs gs : List Field) (at : ℕ) → placedFrom a e (fs ++ gs) at ≡ true → placedFrom a e fs at ≡ true
+unfolding placedFrom
+placed-left a e [] gs at h = refl
+placed-left a e (f ∷ fs) gs at h =
+    let p = placedForm a e at (f .width) (f .form) in
+    and-both p _ (and-left p _ h) (placed-left a e fs gs (at + f .width) (and-right p _ h))
+
+pub own-grouped : (r : Row) → Grouped (withPadding r .fields) → Grouped (r .fields)
+own-grouped r g = record { from = g .from; past = g .past; lie = placed-left (g .from) (g .past) (r .fields) (paddingFields r) 0 (g .lie) }

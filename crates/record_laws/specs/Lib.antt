@@ -2,6 +2,7 @@ pub mod FieldReadingLaws
 pub mod Group
 pub mod GroupLaws
 pub mod KeptReadingLaws
+pub mod FieldsInLaws
 pub mod LineReadingLaws
 pub mod RowGroupLaws
 pub mod Fault

@@ -2,7 +2,7 @@
 use mathlib.Core.Path.{_≡_, refl}
 use mathlib.Core.Bool.{Bool, true}
 use mathlib.Core.List.{List, [], _∷_, map}
-use mathlib.Core.Logic.{⊎-elim}
+use mathlib.Core.Logic.{inl, inr, ⊎-elim}
 use Prim.Native.Nat.{ℕ, zero, suc, _+_}
 use native.Mathlib.Omega.{arith}
 use borrow.Author.Tests.{le-leb}
@@ -12,11 +12,12 @@ use Rattle.laws.specs.RangesLaws.{in-range}
 use Rattle.codes.specs.Form.{Optional, never, within, optionalOf, blankFrom, blankPast}
 use Rattle.layout.specs.Layout.{layoutOf}
 use Rattle.field.specs.Item.{Item}
-use Rattle.record_table.specs.Row.{Field, Row, firstFields}
+use Rattle.record_table.specs.Row.{Field, Row, blanks, withPadding, firstFields}
 use Rattle.record_table.specs.Records.{E, records, recordOf, dataRow, noRecord}
 use Rattle.record_table.specs.TabledLaws.{recordOf-past}
+use Rattle.record_table.specs.PaddingLaws.{recordOf-unpadded, whole-fields, first-unpadded, data-full}
 use Rattle.record.specs.Written.{optionalItems, AllBlank, Together}
-use Rattle.record_laws.specs.Group.{placedForm, placedFrom, Grouped}
+use Rattle.record_laws.specs.Group.{placedForm, placedFrom, Grouped, Readable}
 
 -- the columns that the first field that may be left blank names
 abbrev orNamed : Optional → Optional → Optional
@@ -31,7 +32,7 @@ named (f ∷ fs) = orNamed (optionalOf (f .form)) (named fs)
 abbrev sideBySide : ℕ → Bool
 sideBySide k = placedFrom (blankFrom (named (recordOf k .fields))) (blankPast (named (recordOf k .fields))) (recordOf k .fields) 0
 
-pub recordOf-grouped : (k : ℕ) → Grouped (recordOf k .fields)
+recordOf-grouped : (k : ℕ) → Grouped (recordOf k .fields)
 unfolding recordOf records placedFrom
 recordOf-grouped k =
     ⊎-elim
@@ -45,7 +46,7 @@ unfolding placedFrom
 placed-data [] at = refl
 placed-data (w ∷ ws) at = rw (le-leb 0 at (omega arith)) (placed-data ws (at + w))
 
-pub dataRow-grouped : (c : ℕ) → Grouped (dataRow c .fields)
+dataRow-grouped : (c : ℕ) → Grouped (dataRow c .fields)
 unfolding dataRow
 dataRow-grouped c = record { from = 0; past = 0; lie = placed-data (layoutOf c .widths) 0 }
 
@@ -63,5 +64,28 @@ placed-take a e (suc n) (f ∷ fs) at h =
     let p = placedForm a e at (f .width) (f .form) in
     and-both p _ (and-left p _ h) (placed-take a e n fs (at + f .width) (and-right p _ h))
 
-pub first-grouped : (n : ℕ) (r : Row) → Grouped (r .fields) → Grouped (firstFields n r .fields)
+first-grouped : (n : ℕ) (r : Row) → Grouped (r .fields) → Grouped (firstFields n r .fields)
 first-grouped n r g = record { from = g .from; past = g .past; lie = placed-take (g .from) (g .past) n (r .fields) 0 (g .lie) }
+
+-- the rows by which lines are read: the records, and the first fields of a record and of a data line
+unpadded-readable : (r : Row) → r .remainder ≡ blanks → Grouped (r .fields) → Readable r
+unpadded-readable r e g = record { grouped = rw (whole-fields r e) g; filled = inl e }
+
+pub recordOf-readable : (k : ℕ) → Readable (recordOf k)
+recordOf-readable k = unpadded-readable (recordOf k) (recordOf-unpadded k) (recordOf-grouped k)
+
+pub first-readable : (n k : ℕ) → Readable (firstFields n (recordOf k))
+first-readable n k =
+    unpadded-readable (firstFields n (recordOf k)) (first-unpadded n (recordOf k) (recordOf-unpadded k)) (first-grouped n (recordOf k) (recordOf-grouped k))
+
+data-required : (ws : List ℕ) (is : List Item) → optionalItems (map E ws) is ≡ []
+unfolding optionalItems
+data-required [] is = refl
+data-required (w ∷ ws) is = data-required ws (drop 1 is)
+
+pub data-readable : (n c : ℕ) → Readable (firstFields n (dataRow c))
+unfolding dataRow
+data-readable n c = record {
+  grouped = rw (data-full n c) (dataRow-grouped c);
+  filled = inr (record { required = λ is. rw (data-full n c) (data-required (layoutOf c .widths) is); free = refl });
+}

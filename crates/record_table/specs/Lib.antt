@@ -4,3 +4,4 @@ pub mod TypedSets
 pub mod TypedSetsLaws
 pub mod Tabled
 pub mod TabledLaws
+pub mod PaddingLaws

@@ -7,7 +7,7 @@ use lib.ListN.{getD}
 use Rattle.codes.specs.Rule.{any, from, Rule}
 use Rattle.codes.specs.Form.{skip, text, identification, real, integer, never, within, functionType, direction, ordinateType, count, spacing, dataType, entries, fileType, unitsCode, temperatureMode, triggerType, duplicateOption, window, slope, delayType, autorangeMethod, acquisitionResults, powerAccumulation, amplitudeUnits, displayUnits, backgroundGrid, acquisitionMonitor, orders, formOf}
 use Rattle.layout.specs.Layout.{layoutOf}
-use Rattle.record_table.specs.Row.{Field, Row, none, zeroIfUneven, aboveZero}
+use Rattle.record_table.specs.Row.{Field, Row, blanks, padding, none, zeroIfUneven, aboveZero}
 
 -- a field of each form, by its width: Aw, a text that may not be blank, wX, Ew.d or Dw.d, Iw
 abbrev pub A : ℕ → Field
@@ -30,7 +30,7 @@ abbrev pub I? : ℕ → Rule → ℕ → ℕ → Field
 I? w r a e = record { form = integer r (within a e); width = w }
 
 abbrev pub plain : List Field → Row
-plain fs = record { fields = fs; condition = none }
+plain fs = record { fields = fs; remainder = blanks; condition = none }
 
 -- the records by number, from 0; the code's constants name them
 unfoldable pub records : List Row
@@ -42,7 +42,7 @@ records =
     -- 2, 58's line 6: 2(I5,I10),2(1X,10A1,I10,I4)
     ∷ plain (I 5 functionType ∷ I 10 any ∷ I 5 any ∷ I 10 any ∷ X 1 ∷ A 10 ∷ I 10 any ∷ I 4 direction ∷ X 1 ∷ A 10 ∷ I 10 any ∷ I 4 direction ∷ [])
     -- 3, 58's line 7: 3I10,3E13.5
-    ∷ record { fields = I 10 ordinateType ∷ I 10 count ∷ I 10 spacing ∷ E 13 ∷ E 13 ∷ E 13 ∷ []; condition = zeroIfUneven }
+    ∷ record { fields = I 10 ordinateType ∷ I 10 count ∷ I 10 spacing ∷ E 13 ∷ E 13 ∷ E 13 ∷ []; remainder = blanks; condition = zeroIfUneven }
     -- 4, 58's lines 8 to 11: I10,3I5,2(1X,20A1)
     ∷ plain (I 10 dataType ∷ I 5 any ∷ I 5 any ∷ I 5 any ∷ X 1 ∷ A 20 ∷ X 1 ∷ A 20 ∷ [])
     -- 5, 82's line 1: 3I10
@@ -56,7 +56,7 @@ records =
     -- 9, 164's line 1: I10,20A1,I10
     ∷ plain (I 10 unitsCode ∷ A 20 ∷ I? 10 temperatureMode 30 40 ∷ [])
     -- 10, 164's factors: 3D25.17
-    ∷ record { fields = E 25 ∷ E 25 ∷ E 25 ∷ []; condition = aboveZero }
+    ∷ record { fields = E 25 ∷ E 25 ∷ E 25 ∷ []; remainder = blanks; condition = aboveZero }
     -- 11, 164's offset, on a line of its own: D25.17
     ∷ plain (E 25 ∷ [])
     -- 12, 1815's record 1: I12,10A2
@@ -117,9 +117,9 @@ noRecord = 30
 unfoldable pub recordOf : ℕ → Row
 recordOf k = getD records k (plain [])
 
--- a data line of 58, full, by its case from 0
+-- a data line of 58, full, by its case from 0; of no other row is what is cut off padding
 unfoldable pub dataRow : ℕ → Row
-dataRow c = plain (map E (layoutOf c .widths))
+dataRow c = record { fields = map E (layoutOf c .widths); remainder = padding []; condition = none }
 
 -- a row as the code's tables give it: forms by number, and widths, which a width of 0 ends
 unfoldable pub fieldList : List ℕ → List ℕ → List Field

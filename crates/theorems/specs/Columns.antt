@@ -1,5 +1,5 @@
 -- The own columns of the values of a 58 in a text (01, "Demand 3", and the demand itself: "the declared count of values is there, each in its own
--- columns, in order, not overlapping, inside the set's delimiters", and every non-blank byte of the data lines in exactly one of them).
+-- columns, in order, not overlapping, inside the set's delimiters", and every non-blank byte of the data lines in exactly one of them, or, 02, C-13, "to padding").
 use mathlib.Core.Path.{_≡_}
 use mathlib.Core.List.{List}
 use Prim.Native.Nat.{ℕ, _+_, _*_, _<_, _≤_}
@@ -11,6 +11,7 @@ use Rattle.parts.specs.Function.{partCase, countOf, dataStart, firstByte, pastB
 use Rattle.parts_laws.specs.Declared.{declared, setCase}
 use Rattle.parts_laws.specs.Stored.{storedCount, storedItem}
 use Rattle.parts_laws.specs.Field.{Spelled}
+use Rattle.parts_laws.specs.Whole.{fieldCount}
 use Rattle.theorems.specs.Answers.{ownBytes}
 
 -- a 58 of the list, and the part of the text that it is
@@ -53,3 +54,15 @@ pub record OfValue (s : Set) (p : Part) (x : ℕ) : Type 0 where
 pub record OfOneValue (s : Set) (p : Part) (x : ℕ) : Type 0 where
   pub of : OfValue s p x
   pub only : (other : OfValue s p x) → other .value ≡ of .value
+
+-- byte x lies in the columns of a padding number: of a field past the stored numbers, up to the last data line's full length
+pub record OfPadding (s : Set) (p : Part) (x : ℕ) : Type 0 where
+  pub number : ℕ
+  pub from : storedCount s ≤ number
+  pub below : number < fieldCount s
+  pub within : Within p number x
+
+-- 02, C-13: "a non-blank data byte belongs to one value or to padding", and never to both
+pub data Belongs (s : Set) (p : Part) (x : ℕ) : Type 0 where
+  to-value : OfOneValue s p x → (OfPadding s p x → ⊥) → Belongs s p x
+  to-padding : OfPadding s p x → (OfValue s p x → ⊥) → Belongs s p x

@@ -19,15 +19,15 @@ use Rattle.parts_laws.specs.Holds.{Holds}
 use Rattle.parts_laws.specs.Declared.{declared, setCase}
 use Rattle.parts_laws.specs.DeclaredLaws.{number-held, case-held, declared-held}
 use Rattle.parts_laws.specs.Stored.{storedCount}
-use Rattle.parts_laws.specs.Whole.{Owned}
+use Rattle.parts_laws.specs.Whole.{fieldCount, Owned}
 use Rattle.parts_laws.specs.WholeLaws.{byte-owned}
 use Rattle.parts_laws.specs.ShownLaws.{stored-shown}
-use Rattle.parts_laws.specs.OrderLaws.{columns-inside, columns-apart, first-column}
+use Rattle.parts_laws.specs.OrderLaws.{columns-inside, columns-before, columns-apart, first-column}
 use Rattle.parts_laws.specs.CaseLaws.{case-eight, declared-some}
 use Rattle.theorems.specs.Answers.{ownBytes}
 use Rattle.theorems.specs.Stands.{At58}
 use Rattle.theorems.specs.ListerLaws.{set-holds, set-somewhere}
-use Rattle.theorems.specs.Columns.{Columns, DataByte, Within, OfValue, OfOneValue}
+use Rattle.theorems.specs.Columns.{Columns, DataByte, Within, OfValue, OfOneValue, OfPadding, Belongs, to-value, to-padding}
 
 -- the data lines of a 58 begin at its twelfth line
 data-start : {s : Set} {p : Part} → Holds s p → s .number ≡ 58 → dataStart p ≡ lineStart p headerLines
@@ -92,6 +92,27 @@ one-value s p x apart a b =
     same-value n (a .value) (b .value) (a .number) (b .number) (a .few) (b .few)
     (within-once p (storedCount s) apart x _ _ (below a) (below b) (a .within) (b .within))
 
+-- no byte is a value's and padding's
+module _ (s : Set) (p : Part) (x : ℕ) (apart : (i j : ℕ) → i < j → i < storedCount s → pastByte p i ≤ firstByte p j) where
+  not-both : OfValue s p x → OfPadding s p x → ⊥
+  unfolding storedCount
+  not-both v f =
+      let n : ℕ = numbersOf (setCase s) in
+      let i : v .value * n + v .number < declared s * n = value-number (v .value) (v .number) n (declared s) (v .some) (v .few) in
+      omega (arith, apart (v .value * n + v .number) (f .number) (omega (arith, i, f .from)) i, v .within .past, f .within .from)
+
+  -- a field's byte, by its number
+  belongs : setCase s < 8 → Owned p (fieldCount s) x → Belongs s p x
+  belongs c o =
+      ⊎-elim
+      (λ (h : o .index < storedCount s).
+      let v = of-value s p x c (record { index = o .index; some = h; from = o .from; past = o .past }) in
+      to-value (record { of = v; only = λ other. one-value s p x (λ i j l m. apart i j l (omega arith)) other v }) (not-both v))
+      (λ (h : storedCount s ≤ o .index).
+      let f : OfPadding s p x = record { number = o .index; from = h; below = o .some; within = record { from = o .from; past = o .past } } in
+      to-padding f (λ v. not-both v f))
+      (below-or-not (o .index) (storedCount s))
+
 -- a 58 of the list, as it stands
 module _ {sets : List Set} {bytes : List ℕ} (p : Proper sets bytes) {k : ℕ} {s : Set} {q : Part} (a : At58 sets bytes k s q) where
   holds : Holds s q
@@ -112,9 +133,8 @@ module _ {sets : List Set} {bytes : List ℕ} (p : Proper sets bytes) {k : ℕ} 
         apart = columns-apart holds (a .number);
       }
 
-  pub bytes-of-values : (x : ℕ) → DataByte bytes q x → OfOneValue s q x
+  pub bytes-of-values : (x : ℕ) → DataByte bytes q x → Belongs s q x
   bytes-of-values x d =
       let start = data-start holds (a .number) in
       let owned = byte-owned bytes (a .at .others) (set-somewhere p (a .at)) holds (a .number) x (rw start at (d .from)) (d .past) (d .no-blank) (d .no-lf) (d .no-cr) in
-      let o = of-value s q x (case-eight (holds .lines) (a .number)) owned in
-      record { of = o; only = λ other. one-value s q x (columns-apart holds (a .number)) other o }
+      belongs s q x (columns-before holds (a .number)) (case-eight (holds .lines) (a .number)) owned

@@ -1,4 +1,4 @@
--- The row that is due in a typed set fits the line's 80 columns, and its fields that may be left blank lie side by side.
+-- The row that is due in a typed set fits the line's 80 columns with its padding, and lines can be read by it.
 use mathlib.Core.Path.{_≡_, refl, ap}
 use mathlib.Core.Bool.{Bool, true}
 use mathlib.Core.List.{List, [], _∷_, map}
@@ -14,12 +14,13 @@ use Rattle.laws.specs.RangesLaws.{in-range}
 use Rattle.layout.specs.Columns.{total}
 use Rattle.layout.specs.Layout.{layoutOf}
 use Rattle.layout.specs.LayoutLaws.{total-inside}
-use Rattle.record_table.specs.Row.{Field, Row, firstFields}
+use Rattle.record_table.specs.Row.{Field, Row, blanks, span, withPadding, firstFields}
 use Rattle.record_table.specs.Records.{E, records, recordOf, dataRow, noRecord}
 use Rattle.record_table.specs.TabledLaws.{recordOf-past}
+use Rattle.record_table.specs.PaddingLaws.{recordOf-unpadded, whole-fields, first-unpadded, data-full}
 use Rattle.record.specs.CheckLaws.{total-take}
-use Rattle.record_laws.specs.Group.{Grouped}
-use Rattle.record_laws.specs.RowGroupLaws.{recordOf-grouped, dataRow-grouped, first-grouped}
+use Rattle.record_laws.specs.Group.{Readable}
+use Rattle.record_laws.specs.RowGroupLaws.{recordOf-readable, first-readable, data-readable}
 use Rattle.walk.specs.Due.{rowDue}
 use Rattle.walk.specs.DueLaws.{rowDue-is}
 use Rattle.walk.specs.declared.Due.{Due}
@@ -53,7 +54,7 @@ dataRow-fits : (c : ℕ) → Fits (dataRow c)
 unfolding dataRow
 dataRow-fits c = rw (widths-data (layoutOf c .widths)) (total-inside c)
 
--- a row that is firstFields
+-- the first fields of a row
 widths-take : (n : ℕ) (fs : List Field) → widths (take n fs) ≡ take n (widths fs)
 widths-take zero fs = refl
 widths-take (suc n) [] = refl
@@ -62,12 +63,15 @@ widths-take (suc n) (f ∷ fs) = ap (_∷_ (f .width)) (widths-take n fs)
 cut-fits : (n : ℕ) (r : Row) → Fits r → Fits (firstFields n r)
 cut-fits n r h = rw (widths-take n (r .fields)) (le-trans (total-take (widths (r .fields)) n) h)
 
--- the row of the next line, a record or what is left of a list
-pub rowDue-fits : (d : Due) → total (map (λ (f : Field). f .width) (rowDue d .fields)) ≤ 80
-rowDue-fits d =
-    rowDue-is Fits recordOf-fits (λ n k. cut-fits n (recordOf k) (recordOf-fits k)) (λ n c. cut-fits n (dataRow c) (dataRow-fits c)) d
+whole-fits : (r : Row) → r .remainder ≡ blanks → Fits r → Fits (withPadding r)
+whole-fits r e h = rw (whole-fields r e) h
 
-pub rowDue-grouped : (d : Due) → Grouped (rowDue d .fields)
-rowDue-grouped d =
-    rowDue-is (λ (r : Row). Grouped (r .fields)) recordOf-grouped (λ n k. first-grouped n (recordOf k) (recordOf-grouped k))
-    (λ n c. first-grouped n (dataRow c) (dataRow-grouped c)) d
+-- the row of the next line, a record or what is left of a list
+pub rowDue-fits : (d : Due) → span (withPadding (rowDue d) .fields) ≤ 80
+rowDue-fits d =
+    rowDue-is (λ (r : Row). Fits (withPadding r)) (λ k. whole-fits (recordOf k) (recordOf-unpadded k) (recordOf-fits k))
+    (λ n k. whole-fits (firstFields n (recordOf k)) (first-unpadded n (recordOf k) (recordOf-unpadded k)) (cut-fits n (recordOf k) (recordOf-fits k)))
+    (λ n c. rw (data-full n c) (dataRow-fits c)) d
+
+pub rowDue-readable : (d : Due) → Readable (rowDue d)
+rowDue-readable d = rowDue-is Readable recordOf-readable first-readable data-readable d

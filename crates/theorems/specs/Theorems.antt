@@ -49,7 +49,7 @@ use Rattle.stream_laws.specs.Calls.{Calls}
 use Rattle.theorems.specs.Table.{InTable, Replied, CallsInTable}
 use Rattle.theorems.specs.Stands.{SetAt, At58}
 use Rattle.theorems.specs.Answers.{Answered, NoSuch, AsJudged, InTurn, Filled, valueSaid, allSaid, ownBytes}
-use Rattle.theorems.specs.Columns.{Columns, DataByte, OfOneValue}
+use Rattle.theorems.specs.Columns.{Columns, DataByte, Belongs}
 use Rattle.theorems.specs.Alone.{aloneIn, setsAlone, together, Alone}
 use Rattle.theorems.specs.LaidOut.{writtenText, LaidOut, ReadAs}
 use Rattle.exact.specs.ExactLaws as ExactLaws
@@ -236,8 +236,8 @@ module _ {sets : List Set} {bytes : List ℕ} (p : Proper sets bytes) where
     pub values-in-columns : Columns bytes s q
     values-in-columns = ColumnsLaws.values-in-columns p a
 
-    -- "Every non-blank byte of the data lines, their ends aside, belongs to exactly one of these values."
-    pub bytes-of-values : (x : ℕ) → DataByte bytes q x → OfOneValue s q x
+    -- "Every non-blank byte of the data lines, their ends aside, belongs to exactly one of these values" or (02, C-13) "to padding"
+    pub bytes-of-values : (x : ℕ) → DataByte bytes q x → Belongs s q x
     bytes-of-values = ColumnsLaws.bytes-of-values p a
 
     -- "No number shown of a value comes from columns other than its own, whatever the others hold."

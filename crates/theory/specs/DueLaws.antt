@@ -4,7 +4,7 @@ use mathlib.Core.List.{[], _∷_, map}
 use Prim.Native.Nat.{_*_}
 use lib.ListN.{length}
 use Rattle.layout.specs.Layout.{layouts, layoutOf, numbersOf}
-use Rattle.record_table.specs.Row.{Row}
+use Rattle.record_table.specs.Row.{Row, paddingFields}
 use Rattle.record_table.specs.Records.{records, recordOf, dataRow, orderLists}
 use Rattle.theory.specs.Due.{linesFor, numberRows, rowsHolding}
 
@@ -12,6 +12,15 @@ use Rattle.theory.specs.Due.{linesFor, numberRows, rowsHolding}
 pub eight-in-case-1 : map (λ (r : Row). length (r .fields)) (rowsHolding (dataRow 0) 8) ≡ 6 ∷ 2 ∷ []
 unfolding linesFor numberRows dataRow layoutOf layouts
 eight-in-case-1 = refl
+
+-- 02, C-13: only the last of them has padding, up to the full line; the lines of a list have none
+pub padding-in-case-1 : map (λ (r : Row). length (paddingFields r)) (rowsHolding (dataRow 0) 8) ≡ 0 ∷ 4 ∷ []
+unfolding linesFor numberRows dataRow layoutOf layouts
+padding-in-case-1 = refl
+
+pub orders-unpadded : map (λ (r : Row). length (paddingFields r)) (rowsHolding (recordOf orderLists) 7) ≡ 0 ∷ 0 ∷ []
+unfolding linesFor numberRows recordOf records
+orders-unpadded = refl
 
 -- "case 3 with count 3 stores six numbers"
 pub three-in-case-3 : 3 * numbersOf 2 ≡ 6

@@ -21,9 +21,10 @@ use Rattle.layout.specs.Layout.{layouts, layoutOf, fieldsOf, numbersOf}
 use Rattle.field.specs.Item.{natural, Item}
 use Rattle.field.specs.Field.{integerItem}
 use Rattle.record_table.specs.Row.{Row, none, breach, firstFields}
-use Rattle.record_table.specs.Records.{records, recordOf, dataRow, noRecord}
+use Rattle.record_table.specs.Records.{records, recordOf, dataRow, noRecord, traceEntries, orderLists}
 use Rattle.record_table.specs.TypedSets.{typedSets, sequence, untyped, Following, nothing, list, lists, dataLines, kind58, kind82, kind1815, lineSeven, beforeAxes, mostRecords, following}
-use Rattle.record.specs.Check.{orElse, otherwise, strayFault, fieldsFault, stray, fieldsRefusal, conditionFault, rowRefusal, itemsOf}
+use Rattle.record.specs.Check.{orElse, otherwise, strayFault, fieldsFault, stray, fieldsRefusal, conditionFault, taken, takenRefusal, rowRefusal, itemsOf}
+use Rattle.record.specs.TakenLaws.{taken-is, taken-first}
 use Rattle.record_table.specs.TypedSetsLaws.{isCounted, is-counted, typed-sound, sequence-past, following-past}
 use Rattle.record_table.specs.TabledLaws.{recordOf-past}
 use Rattle.record.specs.Declared.{naturalAt, numberIn, caseIn, storedIn}
@@ -103,12 +104,16 @@ strayFault-passed : (c : ℕ) → otherwise (strayFault c) passed ≡ strayFault
 strayFault-passed zero = refl
 strayFault-passed (suc c) = refl
 
--- a row that asks nothing of its fields together refuses as they do
-pub rowRefusal-none : (r : Row) (line : List ℕ) → r .condition ≡ none → rowRefusal r line ≡ fieldsRefusal (r .fields) line
-unfolding rowRefusal fieldsRefusal conditionFault breach
-rowRefusal-none r line e =
+-- a row that asks nothing of its fields together refuses as those do that are taken
+takenRefusal-none : (r : Row) (line : List ℕ) → r .condition ≡ none → takenRefusal r line ≡ fieldsRefusal (r .fields) line
+unfolding takenRefusal fieldsRefusal conditionFault breach
+takenRefusal-none r line e =
     rw e (orElse-passed (fieldsFault (r .fields) 0 line .number) (fieldsFault (r .fields) 0 line .column) (strayFault (stray (r .fields) 0 line))
     (strayFault-passed (stray (r .fields) 0 line)))
+
+rowRefusal-none : (r : Row) (line : List ℕ) → r .condition ≡ none → rowRefusal r line ≡ fieldsRefusal (taken r line .fields) line
+unfolding rowRefusal
+rowRefusal-none r line e = takenRefusal-none (taken r line) line (taken-is r line (λ (s : Row). s .condition ≡ none) e e)
 
 -- a full line of what follows the records is such a row
 fullRow-none : (n : ℕ) (f : Following) (c : ℕ) → isCounted n f ≡ true → fullRow f c .condition ≡ none
@@ -148,9 +153,17 @@ module _ (d : Due) (line : List ℕ) where
   unfolding rowDue
   rowRefusal-record h = simp (lt-ltb _ _ h)
 
-  pub rowRefusal-list : noRecord ≤ recordDue d → rowRefusal (rowDue d) line ≡ fieldsRefusal (take (d .left) (listRow d .fields)) line
+  rowRefusal-some : noRecord ≤ recordDue d → rowRefusal (rowDue d) line ≡ fieldsRefusal (taken (firstFields (d .left) (listRow d)) line .fields) line
   unfolding rowDue
-  rowRefusal-list h = simp (le-ltb _ _ h) (rowRefusal-none _ line (listRow-none d))
+  rowRefusal-some h = simp (le-ltb _ _ h) (rowRefusal-none _ line (listRow-none d))
+
+  -- a list of numbers in lines of record k has no padding, 58's data lines may have it
+  pub rowRefusal-list : noRecord ≤ recordDue d → (k : ℕ) → listRow d ≡ recordOf k → rowRefusal (rowDue d) line ≡ fieldsRefusal (take (d .left) (recordOf k .fields)) line
+  rowRefusal-list h k e = rowRefusal-some h ∙ rw (e, taken-first (d .left) k line) refl
+
+  pub rowRefusal-data : noRecord ≤ recordDue d → (c : ℕ) → listRow d ≡ dataRow c
+      → rowRefusal (rowDue d) line ≡ fieldsRefusal (taken (firstFields (d .left) (dataRow c)) line .fields) line
+  rowRefusal-data h c e = rowRefusal-some h ∙ rw e refl
 
 -- what a test of the table says of the kinds that the code does not name
 module _ (test : ℕ → Bool) (k : ℕ) (a : k ≡ kind58 → ⊥) (b : k ≡ kind82 → ⊥) (c : k ≡ kind1815 → ⊥) where
@@ -181,6 +194,24 @@ pub following-none : (k : ℕ) → (k ≡ kind58 → ⊥) → (k ≡ kind82 → 
 unfolding following typedSets
 following-none k a b c =
     ⊎-elim (λ h. is-nothing (following k) (others (λ (i : ℕ). isNothing (following i)) k a b c refl h)) (λ h. following-past k h) (below-or-not k untyped)
+
+-- a full line of what follows the records, by the kind of set
+module _ (d : Due) where
+  pub listRow-58 : d .kind ≡ kind58 → listRow d ≡ dataRow (d .case)
+  unfolding listRow following typedSets
+  listRow-58 k = rw k refl
+
+  pub listRow-82 : d .kind ≡ kind82 → listRow d ≡ recordOf traceEntries
+  unfolding listRow following typedSets
+  listRow-82 k = rw k refl
+
+  pub listRow-1815 : d .kind ≡ kind1815 → listRow d ≡ recordOf orderLists
+  unfolding listRow following typedSets
+  listRow-1815 k = rw k refl
+
+  pub listRow-other : (d .kind ≡ kind58 → ⊥) → (d .kind ≡ kind82 → ⊥) → (d .kind ≡ kind1815 → ⊥) → listRow d ≡ recordOf noRecord
+  unfolding listRow
+  listRow-other a b c = rw (following-none (d .kind) a b c) refl
 
 -- and none of their records counts
 pub uncounted : (k : ℕ) → (k ≡ kind58 → ⊥) → (k ≡ kind82 → ⊥) → (k ≡ kind1815 → ⊥) → countPlace (following k) ≡ noRecord

@@ -16,9 +16,10 @@ use Rattle.codes.specs.Form.{Form, skip, text, identification, real, integer}
 use Rattle.layout.specs.Columns.{fieldStart}
 use Rattle.layout.specs.Layout.{layouts, layoutOf}
 use Rattle.layout.specs.LayoutLaws.{layoutOf-past}
-use Rattle.record_table.specs.Row.{Field, Row, firstFields}
+use Rattle.record_table.specs.Row.{Field, Row, blanks, withPadding, firstFields}
 use Rattle.record_table.specs.Records.{X, records, recordOf, dataRow, noRecord}
 use Rattle.record_table.specs.TabledLaws.{recordOf-past}
+use Rattle.record_table.specs.PaddingLaws.{recordOf-unpadded, whole-fields, first-unpadded, data-full}
 use Rattle.walk.specs.Due.{rowDue}
 use Rattle.walk.specs.DueLaws.{rowDue-is}
 use Rattle.walk.specs.declared.Due.{Due}
@@ -33,7 +34,7 @@ room real = 80
 room (integer r o) = 80
 
 -- the fields of a row begin where they may, and the same as a test
-abbrev Begin : Row → Type 0
+abbrev pub Begin : Row → Type 0
 Begin r = (k : ℕ) → k < length (r .fields) → leftOf (r .fields) k < room (fieldAt (r .fields) k .form)
 
 abbrev begins : List Field → ℕ → Bool
@@ -75,5 +76,15 @@ cut-begin n r b k h =
     let m = length-take n (r .fields) in
     rw (leftOf-take n (r .fields) k h, getD-take n (r .fields) k (X 0) (omega arith)) (b k (omega arith))
 
-pub due-begin : (d : Due) (k : ℕ) → k < length (rowDue d .fields) → leftOf (rowDue d .fields) k < room (fieldAt (rowDue d .fields) k .form)
+pub due-begin : (d : Due) → Begin (rowDue d)
 due-begin d = rowDue-is Begin records-begin (λ n k. cut-begin n (recordOf k) (records-begin k)) (λ n c. cut-begin n (dataRow c) (data-begin c)) d
+
+-- with its padding the row due is a full line, or has none
+whole-begin : (r : Row) → r .remainder ≡ blanks → Begin r → Begin (withPadding r)
+whole-begin r e b = rw (whole-fields r e) b
+
+pub padded-begin : (d : Due) → Begin (withPadding (rowDue d))
+padded-begin d =
+    rowDue-is (λ (r : Row). Begin (withPadding r)) (λ k. whole-begin (recordOf k) (recordOf-unpadded k) (records-begin k))
+    (λ n k. whole-begin (firstFields n (recordOf k)) (first-unpadded n (recordOf k) (recordOf-unpadded k)) (cut-begin n (recordOf k) (records-begin k)))
+    (λ n c. rw (data-full n c) (data-begin c)) d

@@ -10,18 +10,19 @@ use Rattle.line.specs.Line.{refusal, columns, filled}
 use Rattle.line.specs.LineLaws.{filled-length, columns-within}
 use Rattle.line.specs.declared.Refusal.{Refusal}
 use Rattle.codes.specs.Form.{Form, skip, text, identification, real, integer}
+use Rattle.record_table.specs.Row.{Row, withPadding}
 use Rattle.walk.specs.Due.{rowDue}
 use Rattle.walk.specs.declared.Due.{Due}
 use Rattle.walk.specs.declared.Place.{Place}
 use Rattle.walk.specs.declared.State.{State}
-use Rattle.record_laws.specs.Fault.{fieldAt, leftOf, FieldFault, text-blank, integer-blank, integer-malformed, out-of-range, against-rule, real-blank, real-malformed, RowFault}
+use Rattle.record_laws.specs.Fault.{fieldAt, leftOf, FieldFault, text-blank, integer-blank, integer-malformed, out-of-range, against-rule, real-blank, real-malformed, TakenFault, RowFault}
 use Rattle.record_laws.specs.StrayLaws.{stray-inside}
 use Rattle.record_laws.specs.BreaksLaws.{breaks-inside}
 use Rattle.line_laws.specs.Ends.{joined}
 use Rattle.line_laws.specs.EndsLaws.{cut-joined}
 use Rattle.line_laws.specs.Fault.{LineFault}
 use Rattle.line_laws.specs.FaultLaws.{byte-inside}
-use Rattle.walk_laws.specs.BeginsLaws.{room, due-begin}
+use Rattle.walk_laws.specs.BeginsLaws.{room, Begin, due-begin, padded-begin}
 use Rattle.walk_laws.specs.Fault.{PlaceFault, outside, many, number, early, late, row, Fault, own, place, InLine}
 use Rattle.walk_laws.specs.FileFault.{FileFault}
 
@@ -51,13 +52,17 @@ field-column l x (against-rule s g k) h = other-column l 11 (x + 1) (omega arith
 field-column l x (real-blank b) h = other-column l _ (x + 1) (omega arith) (λ e. omega arith) (omega arith) (omega arith)
 field-column l x (real-malformed b s) h = other-column l 12 (x + 1) (omega arith) (λ e. omega arith) (omega arith) (omega arith)
 
+taken-column : (l line : List ℕ) (r : Row) {f : Refusal} → Begin r → length line ≤ 80 → TakenFault r line f → InLine l f
+taken-column l line r a short (TakenFault.field n k h p w) = field-column l (leftOf (r .fields) k) w (a k h)
+taken-column l line r a short (TakenFault.stray c p s) = other-column l 13 c (omega arith) (λ e. omega arith) (s .here .some) (omega (arith, stray-inside (s .here)))
+taken-column l line r a short (TakenFault.condition k p n b) =
+    let g = a k (breaks-inside line (r .fields) (b .here)) in
+    let t = room-most (fieldAt (r .fields) k .form) in
+    other-column l 14 (leftOf (r .fields) k + 1) (omega arith) (λ e. omega arith) (omega arith) (omega arith)
+
 row-column : (l line : List ℕ) (d : Due) {f : Refusal} → length line ≤ 80 → RowFault (rowDue d) line f → InLine l f
-row-column l line d short (RowFault.field n k h p w) = field-column l (leftOf (rowDue d .fields) k) w (due-begin d k h)
-row-column l line d short (RowFault.stray c p s) = other-column l 13 c (omega arith) (λ e. omega arith) (s .here .some) (omega (arith, stray-inside (s .here)))
-row-column l line d short (RowFault.condition k p n b) =
-    let g = due-begin d k (breaks-inside line (rowDue d .fields) (b .here)) in
-    let t = room-most (fieldAt (rowDue d .fields) k .form) in
-    other-column l 14 (leftOf (rowDue d .fields) k + 1) (omega arith) (λ e. omega arith) (omega arith) (omega arith)
+row-column l line d short (RowFault.alone n w) = taken-column l line (rowDue d) (due-begin d) short w
+row-column l line d short (RowFault.padded n w) = taken-column l line (withPadding (rowDue d)) (padded-begin d) short w
 
 place-column : (l line : List ℕ) {sets : ℕ} {p : Place} {f : Refusal} → length line ≤ 80 → PlaceFault sets line p f → InLine l f
 place-column l line short (outside b d) = first-column l 5 (λ e. omega arith)

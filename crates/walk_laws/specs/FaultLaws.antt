@@ -1,5 +1,5 @@
 -- A line is refused for what is wrong with it, and for nothing else.
-use mathlib.Core.Path.{_≡_, refl, sym, ap, _∙_}
+use mathlib.Core.Path.{_≡_, refl, sym, ap, subst, _∙_}
 use mathlib.Core.Logic.{⊎-elim}
 use mathlib.Core.Bool.{Bool, true, false}
 use mathlib.Core.List.{List}
@@ -18,10 +18,11 @@ use Rattle.line.specs.LineLaws.{filled-length, lineFault-sound, lineFault-compl
 use Rattle.line.specs.declared.Refusal.{Refusal}
 use Rattle.delimiter.specs.Kind.{Delimiter, NumberLine, number-line, isDelimiter, datasetNumber}
 use Rattle.delimiter.specs.KindLaws.{delimiter-not-blank, isDelimiter-complete, isDelimiter-sound, datasetNumber-complete, datasetNumber-sound}
-use Rattle.record_table.specs.Row.{Row, firstFields, none}
+use Rattle.record_table.specs.Row.{Row, withPadding, firstFields, none}
 use Rattle.record_table.specs.Records.{records, recordOf, dataRow, noRecord}
 use Rattle.record_table.specs.TypedSets.{typedSets, following, untyped}
 use Rattle.record_table.specs.TypedSetsLaws.{following-past}
+use Rattle.record_table.specs.PaddingLaws.{recordOf-unpadded, whole-row}
 use Rattle.record.specs.Check.{conditionFault, rowRefusal}
 use Rattle.walk.specs.Due.{recordDue, fullRow, listRow, mayClose, mayContinue, rowDue, after}
 use Rattle.walk.specs.Step.{state, unless, opened, outsideStep, numberStep, plainStep, typedStep, placeStep, stepOf}
@@ -74,18 +75,28 @@ rowDue-either P d p q = by (ltb (recordDue d) noRecord)
     by true = p
     by false = q
 
-asked-due : (d : Due) (line : List ℕ) → AllPass line (rowDue d .fields) → Asked (rowDue d) line (conditionFault (rowDue d) line)
+abbrev AskedOf : List ℕ → Row → Type 0
+AskedOf line r = AllPass line (r .fields) → Asked r line (conditionFault r line)
+
+asked-due : (d : Due) (line : List ℕ) → AskedOf line (rowDue d)
 asked-due d line =
-    rowDue-either (λ (r : Row). AllPass line (r .fields) → Asked r line (conditionFault r line)) d
+    rowDue-either (AskedOf line) d
     (asked line (recordDue d)) (λ p. asked-nothing line (firstFields (d .left) (listRow d)) (list-free d))
+
+-- the same with its padding
+asked-padded : (d : Due) (line : List ℕ) → AskedOf line (withPadding (rowDue d))
+asked-padded d line =
+    rowDue-either (λ (r : Row). AskedOf line (withPadding r)) d
+    (subst (AskedOf line) (sym (whole-row (recordOf (recordDue d)) (recordOf-unpadded (recordDue d)))) (asked line (recordDue d)))
+    (λ p. asked-nothing line (withPadding (firstFields (d .left) (listRow d))) (list-free d))
 
 module _ (line : List ℕ) (eighty : length line ≡ 80) where
   -- by the row due
   due-fault : (d : Due) → 0 < rowRefusal (rowDue d) line .number → RowFault (rowDue d) line (rowRefusal (rowDue d) line)
-  due-fault d p = rowRefusal-fault (rowDue d) line (omega arith) (asked-due d line) p
+  due-fault d p = rowRefusal-fault (rowDue d) line (omega arith) (asked-due d line) (asked-padded d line) p
 
   due-only : (d : Due) {f : Refusal} → RowFault (rowDue d) line f → (rowRefusal (rowDue d) line ≡ f) × (0 < f .number)
-  due-only d w = rowRefusal-only (rowDue d) line (omega arith) (asked-due d line) w
+  due-only d w = rowRefusal-only (rowDue d) line (omega arith) (asked-due d line) (asked-padded d line) w
 
   -- The step of a line: what it is refused for is wrong with it.
 

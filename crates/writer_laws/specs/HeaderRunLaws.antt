@@ -2,7 +2,7 @@
 use mathlib.Core.Path.{_≡_, refl, sym, ap, _∙_}
 use mathlib.Core.Logic.{⊎-elim}
 use mathlib.Core.Bool.{Bool, true, false}
-use mathlib.Core.List.{List, [], _∷_, map}
+use mathlib.Core.List.{List, [], _∷_}
 use Prim.Native.Nat.{ℕ, zero, suc, _+_, _-_, _*_, _≤_, _<_}
 use native.Mathlib.Nat.{mul-le-mul, mul-pos, add-zero}
 use native.Mathlib.Omega.{arith}
@@ -17,7 +17,7 @@ use Rattle.line.specs.declared.Refusal.{Refusal}
 use Rattle.line.specs.Line.{refusal, columns, firstBad, lineFault, filled}
 use Rattle.layout.specs.Layout.{layouts, layoutOf, numbersOf}
 use Rattle.field.specs.Item.{Item}
-use Rattle.record_table.specs.Row.{Field}
+use Rattle.record_table.specs.Row.{span, withPadding}
 use Rattle.record_table.specs.Records.{records, recordOf, noRecord, dataForm}
 use Rattle.record_table.specs.TypedSets.{typedSets, sequence, headerLines, beforeAxes, kind58, lineSeven}
 use Rattle.record.specs.Check.{rowRefusal, itemsOf}
@@ -42,7 +42,7 @@ use Rattle.line.specs.LineLaws.{filled-length}
 use Rattle.layout.specs.Columns.{total}
 use Rattle.record.specs.DeclaredLaws.{declares-items}
 use Rattle.record.specs.Written.{Written}
-use Rattle.record_laws.specs.RowGroupLaws.{recordOf-grouped}
+use Rattle.record_laws.specs.RowGroupLaws.{recordOf-readable}
 use Rattle.record_laws.specs.LineReadingLaws.{written-sound}
 use Rattle.parts_laws.specs.CaseLaws.{record-case, record-counted}
 use Rattle.writer_laws.specs.HeaderRun.{Says, Passed, Bounds, Stood, Taken, Met, ended, taken, stopped}
@@ -64,7 +64,7 @@ stored-bounds c n e l u =
     }
 
 -- line 7 says both, where it passes
-seventh-fits : total (map (λ (f : Field). f .width) (recordOf dataForm .fields)) ≤ 80
+seventh-fits : span (withPadding (recordOf dataForm) .fields) ≤ 80
 unfolding recordOf records total
 seventh-fits = omega arith
 
@@ -72,7 +72,7 @@ seventh-bounds : (cs : List ℕ) → rowRefusal (recordOf dataForm) (filled cs) 
 unfolding storedBy
 seventh-bounds cs h =
     let is : List Item = itemsOf (recordOf dataForm .fields) 0 (filled cs) in
-    let w : Written (recordOf dataForm) is (filled cs) = written-sound (filled cs) (filled-length cs) (recordOf dataForm) seventh-fits (recordOf-grouped dataForm) h in
+    let w : Written (recordOf dataForm) is (filled cs) = written-sound (filled cs) (filled-length cs) (recordOf dataForm) seventh-fits (recordOf-readable dataForm) h in
     let e = declares-items (filled cs) in
     let m = record-counted is (filled cs) w in
     rw (e .case, e .stored) (stored-bounds (caseBy is) (countBy is) (record-case is (filled cs) w) (m .0) (m .1))
