@@ -142,11 +142,11 @@ module _ (file : List ℕ) (n at : ℕ) (e : Extent) (t : Turn file n at e) wher
   counted-own = let f = t .first in counted-of file n at e (f .set) (f .others) (t .stands) (f .number) (f .body) (f .last) (f .closing)
 
 -- no more than six
-pub padding-few : (p : Part) → paddingOf p ≤ 6
-unfolding paddingOf paddingIn fieldsOf
-padding-few p = by (eqb (storedOf p) 0) (allBlank (remainder (partCase p) (storedOf p) (lineOf p (lastLine p))))
+pub padding-few : (file : List ℕ) (e : Extent) → paddingAt file e ≤ 6
+unfolding paddingAt paddingIn fieldsOf
+padding-few file e = by (declaredAt file e) (columnsAt (e .closing) (e .last) file) (eqb (declaredAt file e .stored) 0) (allBlank _)
   where
-    by : (t u : Bool) → pick t 0 (pick u 0 (length (layoutOf (partCase p) .widths) - suc (lastField (partCase p) (storedOf p)))) ≤ 6
-    by true u = omega arith
-    by false true = omega arith
-    by false false = omega (arith, widths-six (partCase p))
+    by : (d : Declared) (cs : List ℕ) (t u : Bool) → pick t 0 (pick u 0 (length (layoutOf (d .case) .widths) - suc (lastField (d .case) (d .stored)))) ≤ 6
+    by d cs true u = omega arith
+    by d cs false true = omega arith
+    by d cs false false = omega (arith, widths-six (d .case))
