@@ -22,6 +22,7 @@ use Rattle.record.specs.Declared.{caseIn, countIn, storedIn}
 use Rattle.walk.specs.DueLaws.{numbersOf-few}
 use Rattle.parts.specs.declared.Extent.{Extent}
 use Rattle.parts.specs.declared.Declared.{Declared}
+use Rattle.parts.specs.declared.Counted.{Counted}
 use Rattle.parts.specs.Parts.{Part, datasetOf, lineStart, lineOf, lastLine, lastStart, closingStart}
 use Rattle.parts.specs.Scan.{columnsAt, lineFrom}
 use Rattle.parts.specs.Function.{partCase, countOf, storedOf}
@@ -30,7 +31,7 @@ use Rattle.parts.specs.SetLaws.{line-columns}
 use Rattle.parts.specs.Set.{Standing}
 use Rattle.parts.specs.Turn.{Turn}
 use Rattle.parts.specs.Padding.{lastField, countedPast, remainder, paddingIn, paddingOf}
-use Rattle.parts.specs.Counted.{declares, declaredAt, paddingBy, paddingAt, countedBy, countedAt}
+use Rattle.parts.specs.Counted.{declares, counts, declaredAt, paddingBy, paddingAt, countedBy, countedAt}
 
 -- a value stores three numbers at most
 pub stored-most : (i c k : ℕ) → k ≡ numbersOf c → i * k ≤ i * 3
@@ -140,6 +141,15 @@ module _ (file : List ℕ) (n at : ℕ) (e : Extent) (t : Turn file n at e) wher
 
   pub counted-own : countedAt file e ≡ countedBy (declares (partCase set) (storedOf set)) (lastStart set) (closingStart set)
   counted-own = let f = t .first in counted-of file n at e (f .set) (f .others) (t .stands) (f .number) (f .body) (f .last) (f .closing)
+
+-- a line that is cut is in the file
+pub counted-within : (file : List ℕ) (e : Extent) (k : Counted) (m : ℕ) → k ≡ countedAt file e → e .last ≤ m → e .closing ≤ m → k .line ≤ m
+unfolding countedAt
+counted-within file e k m q a b = by (eqb (declaredAt file e .stored) 0) q
+  where
+    by : (t : Bool) → k ≡ pick t (counts (e .closing) 0) (counts (e .last) (countedPast (declaredAt file e .case) (declaredAt file e .stored))) → k .line ≤ m
+    by true c = rw c b
+    by false c = rw c a
 
 -- no more than six
 pub padding-few : (file : List ℕ) (e : Extent) → paddingAt file e ≤ 6
