@@ -57,7 +57,7 @@ pub extern "C" fn uff_judge(file: &[u8]) -> u64
     pack(found)
 }
 
-// Document 01's lister: six numbers a set into the rows lent; the number of sets.
+// Document 01's lister: seven numbers a set into the rows lent; the number of sets.
 #[no_mangle]
 pub extern "C" fn uff_list(file: &[u8], rows: &mut [u32]) -> u64
     ensures { λ r. ⌜ (r ≡ word (listReply (now (file .entry)) (length (now (rows .entry))))) × (now (rows .exit) ≡ listRows (now (file .entry)) (now (rows .entry))) ⌝ }

@@ -15,7 +15,7 @@ use Rattle.theory.specs.Proper.{Inside}
 
 -- A blank line.
 
-blanks-take : {l : List ℕ} (n : ℕ) → Blanks l → Blanks (take n l)
+pub blanks-take : {l : List ℕ} (n : ℕ) → Blanks l → Blanks (take n l)
 blanks-take zero b = none
 blanks-take (suc n) none = none
 blanks-take (suc n) (one b) = one (blanks-take n b)

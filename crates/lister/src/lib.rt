@@ -4,10 +4,13 @@ ghost use mathlib.Core.List.{_++_};
 ghost use Prim.Native.Nat.{_*_, _≤_, _<_};
 ghost use lib.ListN.{length, drop};
 ghost use Rattle.parts.specs.Parts.{partsOf};
-ghost use Rattle.lister.specs.Lister.{rowsOf, listReply, listRows};
+ghost use Rattle.lister.specs.Lister.{rowNumbers, rowsOf, listReply, listRows};
 ghost use Rattle.lister.specs.Found.{declaredAt, dataAt, entryAt};
 use judge::Reply;
 use parts::Extent;
+
+// How many places a set has in the rows.
+pub const ROW_NUMBERS: usize = 7;
 
 // How many sets stand in a file.
 fn count_sets(file: &[u8]) -> usize
@@ -48,32 +51,34 @@ fn data_start(file: &[u8], e: Extent) -> usize
     0
 }
 
-// Lays out the six numbers of a set.
+// Lays out the numbers of a set.
 fn put_row(row: &mut [u32], file: &[u8], e: Extent)
-    requires { ⌜ (length (now row) ≡ 6) × ((length (now file) ≤ 16777216) × ((e .body ≤ length (now file)) × ((e .lines < e .past) × ((e .first ≤ e .past) × (e .past ≤ length (now file)))))) ⌝ }
+    requires { ⌜ (length (now row) ≡ rowNumbers) × ((length (now file) ≤ 16777216) × ((e .body ≤ length (now file)) × ((e .last ≤ length (now file)) × ((e .lines < e .past) × ((e .first ≤ e .past) × (e .past ≤ length (now file))))))) ⌝ }
     ensures { λ _. ⌜ now (row .exit) ≡ entryAt (now (file .entry)) e ⌝ }
 {
     let count = declared_count(file, e);
     let data = data_start(file, e);
+    let padding = parts::padding_at(file, e);
     row[0] = (e.lines + 1) as u32;
     row[1] = e.number;
     row[2] = count;
     row[3] = e.first as u32;
     row[4] = e.past as u32;
     row[5] = data as u32;
+    row[6] = padding as u32;
 }
 
 // Lays out the rows of a file's sets.
 fn put_rows(file: &[u8], rows: &mut [u32])
-    requires { ⌜ (length (now file) ≤ 16777216) × (6 * length (partsOf (now file)) ≤ length (now rows)) ⌝ }
-    ensures { λ _. ⌜ now (rows .exit) ≡ rowsOf (partsOf (now (file .entry))) ++ drop (6 * length (partsOf (now (file .entry)))) (now (rows .entry)) ⌝ }
+    requires { ⌜ (length (now file) ≤ 16777216) × (rowNumbers * length (partsOf (now file)) ≤ length (now rows)) ⌝ }
+    ensures { λ _. ⌜ now (rows .exit) ≡ rowsOf (partsOf (now (file .entry))) ++ drop (rowNumbers * length (partsOf (now (file .entry)))) (now (rows .entry)) ⌝ }
 {
     let mut i = 0;
     let mut at = 0;
     let mut lines = 0;
     let mut e = parts::next_set(file, at, lines);
     while e.found {
-        let past = i + 6;
+        let past = i + ROW_NUMBERS;
         put_row(&mut rows[i..past], file, e);
         i = past;
         at = e.past;
@@ -82,7 +87,7 @@ fn put_rows(file: &[u8], rows: &mut [u32])
     }
 }
 
-// Document 01's lister: six numbers a set; the number of sets.
+// Document 01's lister: seven numbers a set; the number of sets.
 pub fn list(file: &[u8], rows: &mut [u32]) -> Reply
     ensures { λ r. ⌜ (r ≡ listReply (now (file .entry)) (length (now (rows .entry)))) × (now (rows .exit) ≡ listRows (now (file .entry)) (now (rows .entry))) ⌝ }
 {
@@ -91,7 +96,7 @@ pub fn list(file: &[u8], rows: &mut [u32]) -> Reply
         return judged;
     }
     let sets = count_sets(file);
-    if rows.len() < 6 * sets {
+    if rows.len() < ROW_NUMBERS * sets {
         return judge::bare_reply(17, 0);
     }
     put_rows(file, rows);

@@ -2,14 +2,16 @@
 ghost use Prim.Native.Nat.{_*_, _≤_};
 ghost use mathlib.Core.Path.{_≡_};
 ghost use lib.ListN.{length};
+ghost use Rattle.lister.specs.Lister.{rowNumbers};
 use libc::STDIN_FILENO;
 use libc::STDOUT_FILENO;
+use lister::ROW_NUMBERS;
 
 // The program's own limit on a file.
 const LIMIT: usize = 32768;
 
-// Places for the rows, six a set: a set has at least 21 bytes, so a file within the limit has at most 1,560. One row is to spare.
-const PLACES: usize = 9366;
+// Places for the rows, seven a set: a set has at least 21 bytes, so a file within the limit has at most 1,560. One row is to spare.
+const PLACES: usize = 10927;
 
 // Writes the bytes.
 fn put(s: &[u8]) {
@@ -37,7 +39,7 @@ fn show_refusal(number: u8, place: usize) {
 
 // The line of a set: which it is, from 1, and the first three numbers of its row.
 fn show_set(set: usize, row: &[u32])
-    requires { ⌜ length (now row) ≡ 6 ⌝ }
+    requires { ⌜ length (now row) ≡ rowNumbers ⌝ }
 {
     put_number(set as u64);
     put(b" ");
@@ -51,12 +53,12 @@ fn show_set(set: usize, row: &[u32])
 
 // The lines of the sets.
 fn show_sets(rows: &[u32], sets: usize)
-    requires { ⌜ 6 * sets ≤ length (now rows) ⌝ }
+    requires { ⌜ rowNumbers * sets ≤ length (now rows) ⌝ }
 {
     let mut set = 0;
     while set < sets {
-        let from = 6 * set;
-        let past = from + 6;
+        let from = ROW_NUMBERS * set;
+        let past = from + ROW_NUMBERS;
         set += 1;
         show_set(set, &rows[from..past]);
     }

@@ -2,6 +2,9 @@ pub mod Parts
 pub mod PartsLaws
 pub mod Scan
 pub mod Function
+pub mod Padding
+pub mod Counted
+pub mod CountedLaws
 pub mod ScanLaws
 pub mod Set
 pub mod SetLaws

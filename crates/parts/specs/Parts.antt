@@ -3,7 +3,7 @@
 use mathlib.Core.Bool.{Bool, true}
 use mathlib.Core.List.{List, [], _∷_, _++_}
 use mathlib.Core.Path.{_≡_}
-use Prim.Native.Nat.{ℕ, suc, _+_, _≤_}
+use Prim.Native.Nat.{ℕ, suc, _+_, _-_, _≤_}
 use lib.Dec.{eqb}
 use lib.ListN.{length, getD, take, drop}
 use Rattle.laws.specs.Choice.{pick}
@@ -74,6 +74,13 @@ lineStart p k = (p .bytes + bytesIn (p .opening ∷ p .number ∷ [])) + bytesIn
 -- the 80 columns of its line k
 unfoldable pub lineOf : Part → ℕ → List ℕ
 lineOf p k = columnsIn (getD (p .body) k [])
+
+-- its last line, 0 if it has none, and the first byte of that
+abbrev pub lastLine : Part → ℕ
+lastLine p = length (p .body) - 1
+
+unfoldable pub lastStart : Part → ℕ
+lastStart p = lineStart p (lastLine p)
 
 -- the first byte of its closing delimiter
 unfoldable pub closingStart : Part → ℕ

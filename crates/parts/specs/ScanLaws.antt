@@ -8,15 +8,16 @@ use native.Mathlib.Numerals.{add-one}
 use native.Mathlib.Omega.{arith}
 use lib.Dec.{eqb}
 use lib.ListN.{length, take, drop, length-append}
+use lib.Seq.{take-at}
 use Rattle.laws.specs.Cut.{cut, lineLen}
 use Rattle.laws.specs.Choice.{pick}
 use Rattle.laws.specs.ChoiceLaws.{false-not-true}
 use Rattle.delimiter.specs.Kind.{datasetNumber}
 use Rattle.parts.specs.declared.Seen.{Seen}
 use Rattle.parts.specs.declared.Extent.{Extent}
-use Rattle.parts.specs.Parts.{columnsIn, closes, bytesIn, Part, part, PartState, outside, opened, inside, partsFrom, datasetOf, lineStart, closingStart, pastOf, throughOf}
+use Rattle.parts.specs.Parts.{columnsIn, closes, bytesIn, Part, part, PartState, outside, opened, inside, partsFrom, datasetOf, lineStart, lastStart, closingStart, pastOf, throughOf}
 use Rattle.parts.specs.PartsLaws.{bytesIn-append, lines-at, line-length, lines-end}
-use Rattle.parts.specs.Scan.{seen, extent, nowhere, firstOf, seenStep, scanFrom, image, Fitting, First}
+use Rattle.parts.specs.Scan.{seen, extent, nowhere, firstOf, seenStep, scanFrom, lastFrom, image, Fitting, First}
 
 -- the number line of a set
 pub fitting-number : (m b : ℕ) (o l : List ℕ) (n at : ℕ) → Fitting (opened m b o) n at → Fitting (inside m b o l []) (suc n) (at + suc (length l))
@@ -31,8 +32,8 @@ fitting-line m b o v ls n at l (p, q) = (rw length-append (omega arith), rw (byt
 
 -- the set that a line closes, by numbers
 closing : (m b : ℕ) (o v : List ℕ) (ls : List (List ℕ)) (n at : ℕ) (l : List ℕ) → Fitting (inside m b o v ls) n at → (ps : List Part)
-    → extent m b (datasetNumber (columnsIn v)) (b + bytesIn (o ∷ v ∷ [])) at (at + suc (length l)) (suc n) ≡ firstOf (part m b o v ls l ∷ ps)
-unfolding firstOf datasetOf lineStart closingStart pastOf throughOf bytesIn
+    → extent m b (datasetNumber (columnsIn v)) (b + bytesIn (o ∷ v ∷ [])) (lastFrom (b + bytesIn (o ∷ v ∷ [])) ls) at (at + suc (length l)) (suc n) ≡ firstOf (part m b o v ls l ∷ ps)
+unfolding firstOf datasetOf lineStart lastStart closingStart pastOf throughOf bytesIn
 closing m b o v ls n at l (p, q) ps =
     let t : suc n ≡ m + suc (suc (length (ls ++ (l ∷ [])))) = rw length-append (omega arith) in
     let e : at + suc (length l) ≡ b + (suc (length o) + (suc (length v) + bytesIn (ls ++ (l ∷ [])))) = rw (bytesIn-append ls (l ∷ [])) (omega arith) in
@@ -50,17 +51,28 @@ found-by ls n at false s u p q = q
 
 -- a line after an opening delimiter is the number line
 numbered : (m b : ℕ) (o l : List ℕ) (n at : ℕ) → Fitting (opened m b o) n at
-    → seen 2 m b (datasetNumber (columnsIn l)) (at + suc (length l)) ≡ image (inside m b o l [])
+    → seen 2 m b (datasetNumber (columnsIn l)) (at + suc (length l)) (at + suc (length l)) ≡ image (inside m b o l [])
 unfolding bytesIn
-numbered m b o l n at (p, q) = let e : at + suc (length l) ≡ b + (suc (length o) + (suc (length l) + 0)) = omega arith in rw e refl
+numbered m b o l n at (p, q) =
+    let e : at + suc (length l) ≡ b + (suc (length o) + (suc (length l) + 0)) = omega arith in
+    let z : (b + (suc (length o) + (suc (length l) + 0))) + 0 ≡ b + (suc (length o) + (suc (length l) + 0)) = omega arith in
+    rw (z, e) refl
+
+-- a line more of a set is its last
+last-line : (m b : ℕ) (o v : List ℕ) (bs : List (List ℕ)) (l : List ℕ) (n at : ℕ) → Fitting (inside m b o v bs) n at
+    → seen 2 m b (datasetNumber (columnsIn v)) (b + bytesIn (o ∷ v ∷ [])) at ≡ image (inside m b o v (bs ++ (l ∷ [])))
+last-line m b o v bs l n at (p, q) =
+    let k : length (bs ++ (l ∷ [])) - 1 ≡ length bs = omega (arith, length-append bs (l ∷ [])) in
+    rw (k, take-at bs (l ∷ []) (length bs) refl, q) refl
 
 -- a line inside a set closes it, or is one of its lines
 inside-by : (m b : ℕ) (o v : List ℕ) (bs : List (List ℕ)) (l : List ℕ) (ls : List (List ℕ)) (n at : ℕ) (t : Bool) → Fitting (inside m b o v bs) n at
     → Found ls (suc n) (at + suc (length l)) (inside m b o v (bs ++ (l ∷ [])))
-    → pick t (extent m b (datasetNumber (columnsIn v)) (b + bytesIn (o ∷ v ∷ [])) at (at + suc (length l)) (suc n)) (scanFrom (image (inside m b o v bs)) (suc n) (at + suc (length l)) ls)
+    → pick t (extent m b (datasetNumber (columnsIn v)) (b + bytesIn (o ∷ v ∷ [])) (lastFrom (b + bytesIn (o ∷ v ∷ [])) bs) at (at + suc (length l)) (suc n))
+    (scanFrom (seen 2 m b (datasetNumber (columnsIn v)) (b + bytesIn (o ∷ v ∷ [])) at) (suc n) (at + suc (length l)) ls)
     ≡ firstOf (pick t (part m b o v bs l ∷ []) [] ++ partsFrom (pick t outside (inside m b o v (bs ++ (l ∷ [])))) (suc n) (at + suc (length l)) ls)
 inside-by m b o v bs l ls n at true f h = closing m b o v bs n at l f _
-inside-by m b o v bs l ls n at false f h = h
+inside-by m b o v bs l ls n at false f h = ap (λ (x : Seen). scanFrom x (suc n) (at + suc (length l)) ls) (last-line m b o v bs l n at f) ∙ h
 
 pub scan-parts : (s : PartState) (n at : ℕ) (ls : List (List ℕ)) → Fitting s n at → Found ls n at s
 unfolding scanFrom partsFrom seenStep firstOf
@@ -77,7 +89,7 @@ scan-parts (inside m b o v bs) n at (l ∷ ls) f =
 -- one turn of the loop over lines: from the byte at on, the line that ends at e
 module _ (s : Seen) (n : ℕ) (f : List ℕ) (at e : ℕ) (a : at ≤ length f) (q : e ≡ at + lineLen (drop at f)) where
   pub scan-closes : (t : Bool) → t ≡ eqb (s .place) 2 && closes (take (e - at) (drop at f)) → t ≡ true → e < length f
-      → extent (s .lines) (s .first) (s .number) (s .body) at (e + 1) (n + 1) ≡ scanFrom s n at (cut (drop at f) .lines)
+      → extent (s .lines) (s .first) (s .number) (s .body) (s .last) at (e + 1) (n + 1) ≡ scanFrom s n at (cut (drop at f) .lines)
   unfolding scanFrom
   scan-closes t c d h = rw (lines-at f at e a q h, sym c ∙ d, line-length f at e a q h, add-one n) refl
 
@@ -93,7 +105,7 @@ module _ (s : Seen) (n : ℕ) (f : List ℕ) (at e : ℕ) (a : at ≤ length f) 
 
 -- the number line
 pub seenStep-number : (s : Seen) (n at : ℕ) (l : List ℕ) (v b : ℕ) → s .place ≡ 1 → v ≡ datasetNumber (columnsIn l) → b ≡ at + suc (length l)
-    → seen 2 (s .lines) (s .first) v b ≡ seenStep s n at l
+    → seen 2 (s .lines) (s .first) v b b ≡ seenStep s n at l
 unfolding seenStep
 seenStep-number s n at l v b p e q = rw (p, e, q) refl
 
@@ -108,6 +120,7 @@ found-first (p ∷ ps) e q h = record {
   first = ap (λ (x : Extent). x .first) q;
   number = ap (λ (x : Extent). x .number) q;
   body = ap (λ (x : Extent). x .body) q;
+  last = ap (λ (x : Extent). x .last) q;
   closing = ap (λ (x : Extent). x .closing) q;
   past = ap (λ (x : Extent). x .past) q;
   through = ap (λ (x : Extent). x .through) q;

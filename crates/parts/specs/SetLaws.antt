@@ -263,15 +263,15 @@ module _ (file : List ℕ) (n at : ℕ) (p : Part) (ps : List Part) (s : Standin
       let e : bytesIn (take k (p .body)) ≤ bytesIn (p .body) = bytesIn-most k (p .body) in
       omega (arith, s .later, s .past)
 
-  start-before : (k : ℕ) → k < length (p .body) → lineStart p k < closingStart p
+  pub start-before : (k : ℕ) → k < length (p .body) → lineStart p k < closingStart p
   unfolding lineStart closingStart
   start-before k h = let m : bytesIn (take k (p .body)) < bytesIn (p .body) = bytesIn-less k (p .body) h in omega arith
 
-  start-sum : (k : ℕ) → lineStart p 0 + bytesIn (take k (p .body)) ≡ lineStart p k
+  pub start-sum : (k : ℕ) → lineStart p 0 + bytesIn (take k (p .body)) ≡ lineStart p k
   unfolding lineStart bytesIn
   start-sum k = omega arith
 
-  split : (k : ℕ) → p .body ++ (p .closing ∷ s .more) ≡ take k (p .body) ++ (drop k (p .body) ++ (p .closing ∷ s .more))
+  pub split : (k : ℕ) → p .body ++ (p .closing ∷ s .more) ≡ take k (p .body) ++ (drop k (p .body) ++ (p .closing ∷ s .more))
   split k = ap (λ (x : List (List ℕ)). x ++ (p .closing ∷ s .more)) (sym (take-append-drop k (p .body))) ∙ append-assoc (take k (p .body)) (drop k (p .body)) (p .closing ∷ s .more)
 
   -- line k of a set is the first of the file's lines from there on
@@ -291,6 +291,9 @@ module _ (file : List ℕ) (n at : ℕ) (p : Part) (ps : List Part) (s : Standin
         size = ap length (sym f) ∙ length-take-le _ (drop (lineStart p k) file) (lineLen-most (drop (lineStart p k) file));
         ended = line-ends file (lineStart p k) _ _ (line-within k) c;
       }
+
+  pub line-text : (k : ℕ) → k < length (p .body) → take (lineLen (drop (lineStart p k) file)) (drop (lineStart p k) file) ≡ getD (p .body) k []
+  line-text k h = here k h .text
 
   -- its columns
   inside-columns : (k : ℕ) → k < length (p .body) → columnsAt (closingStart p) (lineStart p k) file ≡ lineOf p k

@@ -18,6 +18,7 @@ pub record Turn (file : List ℕ) (n at : ℕ) (e : Extent) : Type 0 where
   pub first : First (remaining file n at) e
   pub stands : Standing file n at (first .set) (first .others)
   pub body : e .body ≤ length file
+  pub last : e .last ≤ length file
   pub onward : at < e .past
   pub within : e .past ≤ length file
   pub lines : e .through ≤ e .past

@@ -5,17 +5,21 @@ use mathlib.Core.List.{List, []}
 use Prim.Native.Nat.{ℕ, _≤_}
 use native.Mathlib.Omega.{arith}
 use Rattle.parts.specs.declared.Extent.{Extent}
-use Rattle.parts.specs.Parts.{Part, closingStart}
+use Rattle.parts.specs.Parts.{Part, lineStart, lastLine, lastStart, closingStart}
 use Rattle.parts.specs.Scan.{firstOf, First}
 use Rattle.parts.specs.ScanLaws.{found-first, found-none}
 use Rattle.parts.specs.Set.{remaining, Standing}
-use Rattle.parts.specs.SetLaws.{standing}
+use Rattle.parts.specs.SetLaws.{standing, line-within}
 use Rattle.parts.specs.Turn.{Between, Turn}
 
 -- a set begins before its closing delimiter
 pub closing-from : (p : Part) → p .bytes ≤ closingStart p
 unfolding closingStart
 closing-from p = omega arith
+
+last-within : (p : Part) {k : ℕ} → lineStart p (lastLine p) ≤ k → lastStart p ≤ k
+unfolding lastStart
+last-within p h = h
 
 same-place : (file : List ℕ) (m n a b : ℕ) → m ≡ n → a ≡ b → remaining file n b ≡ remaining file m a
 same-place file m n a b p q = rw (p, q) refl
@@ -35,6 +39,7 @@ module _ (file : List ℕ) (n at : ℕ) (e : Extent) (b : Between file n at e) w
         first = f;
         stands = s;
         body = omega (arith, f .body, s .inside);
+        last = rw (f .last) (last-within (f .set) (line-within file n at (f .set) (f .others) s (lastLine (f .set))));
         onward = omega (arith, f .past, s .from, s .later);
         within = omega (arith, f .past, s .past);
         lines = omega (arith, f .past, f .through, s .count, s .from, s .later, b .lines);

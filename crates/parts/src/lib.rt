@@ -10,25 +10,31 @@ ghost use Rattle.parts.specs.Parts.{columnsIn, closes, outside, partsFro
 ghost use Rattle.record_table.specs.TypedSets.{lineSeven};
 ghost use Rattle.record.specs.Declared.{caseIn, countIn};
 ghost use Rattle.parts.specs.Scan.{lineFrom, firstOf, seenStep, skipTo, columnsAt};
+ghost use Rattle.parts.specs.Padding.{lastField, paddingIn};
+ghost use Rattle.parts.specs.Counted.{declaredAt, paddingAt, countedAt};
+use layout::field_start;
+use layout::fields_of;
 
 // Where the next set is looked for: 0 outside sets, 1 after its opening delimiter, 2 inside it; how many lines and bytes
-// come before it, its number, and the first byte of its lines.
+// come before it, its number, and the first byte of its lines and of the last of them so far.
 pub struct Seen {
     pub place: u8,
     pub lines: usize,
     pub first: usize,
     pub number: u32,
     pub body: usize,
+    pub last: usize,
 }
 
 // Where a set stands: whether there is one, how many lines and bytes come before it, its number, the first byte of its lines,
-// that of its closing delimiter and the one past it, and how many lines there are up to that.
+// of the last of them and of its closing delimiter, the byte past it, and how many lines there are up to that.
 pub struct Extent {
     pub found: bool,
     pub lines: usize,
     pub first: usize,
     pub number: u32,
     pub body: usize,
+    pub last: usize,
     pub closing: usize,
     pub past: usize,
     pub through: usize,
@@ -41,10 +47,24 @@ const NOWHERE: Extent = Extent {
     first: 0,
     number: 0,
     body: 0,
+    last: 0,
     closing: 0,
     past: 0,
     through: 0,
 };
+
+// What a 58 declares: its case, and how many numbers it stores.
+pub struct Declared {
+    pub case: usize,
+    pub stored: usize,
+}
+
+// The line of a set of which only counted columns are kept, by its first byte, and the column past them. Where there is none, the first
+// byte of the closing delimiter and 0.
+pub struct Counted {
+    pub line: usize,
+    pub past: usize,
+}
 
 // Lays out the 80 columns of a line, given by the bytes before its LF.
 pub fn put_columns(row: &mut [u8; 80], line: &[u8])
@@ -85,6 +105,7 @@ fn seen_step(s: Seen, lines: usize, at: usize, line: &[u8]) -> Seen
                 first: at,
                 number: 0,
                 body: 0,
+                last: 0,
             };
         }
         return s;
@@ -97,9 +118,17 @@ fn seen_step(s: Seen, lines: usize, at: usize, line: &[u8]) -> Seen
             first: s.first,
             number: line_number(line),
             body: past,
+            last: past,
         };
     }
-    s
+    Seen {
+        place: s.place,
+        lines: s.lines,
+        first: s.first,
+        number: s.number,
+        body: s.body,
+        last: at,
+    }
 }
 
 // Whether a line closes the set that is looked for.
@@ -123,6 +152,7 @@ pub fn next_set(file: &[u8], from: usize, before: usize) -> Extent
         first: 0,
         number: 0,
         body: 0,
+        last: 0,
     };
     let mut lines = before;
     let mut at = from;
@@ -135,6 +165,7 @@ pub fn next_set(file: &[u8], from: usize, before: usize) -> Extent
                 first: s.first,
                 number: s.number,
                 body: s.body,
+                last: s.last,
                 closing: at,
                 past: end + 1,
                 through: lines + 1,
@@ -209,4 +240,78 @@ pub fn case_in(file: &[u8], from: usize, closing: usize) -> usize
     let mut row = [32u8; 80];
     put_line_at(&mut row, file, from, closing, record_table::LINE_SEVEN);
     walk::case_in(&row)
+}
+
+// What a set declares; no number is stored unless it is a 58.
+pub fn declared_at(file: &[u8], e: Extent) -> Declared
+    requires { ⌜ e .body ≤ length (now file) ⌝ }
+    ensures { λ r. ⌜ r ≡ declaredAt (now (file .entry)) e ⌝ }
+{
+    if e.number != 58 {
+        return Declared { case: 0, stored: 0 };
+    }
+    let mut row = [32u8; 80];
+    put_line_at(&mut row, file, e.body, e.closing, record_table::LINE_SEVEN);
+    let case = walk::case_in(&row);
+    Declared {
+        case,
+        stored: (walk::count_in(&row) as usize) * layout::numbers_of(case),
+    }
+}
+
+// The field of the last of so many stored numbers, from 1.
+fn last_field(case: usize, stored: usize) -> usize
+    requires { ⌜ (case < 8) × (0 < stored) ⌝ }
+    ensures { λ r. ⌜ r ≡ lastField case stored ⌝ }
+{
+    (stored - 1) % fields_of(case)
+}
+
+// How many fields stand past that one, 0 where their columns are blank.
+fn padding_in(row: &[u8; 80], case: usize, stored: usize) -> usize
+    requires { ⌜ (case < 8) × (0 < stored) ⌝ }
+    ensures { λ r. ⌜ r ≡ paddingIn case stored (now (row .entry)) ⌝ }
+{
+    let fields = fields_of(case);
+    let counted = last_field(case, stored) + 1;
+    let from = field_start(case, counted);
+    let past = field_start(case, fields);
+    let columns: &[u8] = row;
+    if text::is_blank(&columns[from..past]) {
+        return 0;
+    }
+    fields - counted
+}
+
+// How many numbers are padding in a set; 0 unless it is a 58.
+pub fn padding_at(file: &[u8], e: Extent) -> usize
+    requires { ⌜ (e .body ≤ length (now file)) × (e .last ≤ length (now file)) ⌝ }
+    ensures { λ r. ⌜ r ≡ paddingAt (now (file .entry)) e ⌝ }
+{
+    let d = declared_at(file, e);
+    if d.stored == 0 {
+        return 0;
+    }
+    let mut row = [32u8; 80];
+    put_line(&mut row, file, e.last, e.closing);
+    padding_in(&row, d.case, d.stored)
+}
+
+// Which columns of a set's last line count.
+pub fn counted_at(file: &[u8], e: Extent) -> Counted
+    requires { ⌜ e .body ≤ length (now file) ⌝ }
+    ensures { λ r. ⌜ r ≡ countedAt (now (file .entry)) e ⌝ }
+{
+    let d = declared_at(file, e);
+    if d.stored == 0 {
+        return Counted {
+            line: e.closing,
+            past: 0,
+        };
+    }
+    let field = last_field(d.case, d.stored);
+    Counted {
+        line: e.last,
+        past: field_start(d.case, field + 1),
+    }
 }

@@ -9,6 +9,7 @@ pub mod Stored
 pub mod Field
 pub mod FieldLaws
 pub mod StoredLaws
+pub mod PaddingLaws
 pub mod BytesLaws
 pub mod ShownLaws
 pub mod Cover

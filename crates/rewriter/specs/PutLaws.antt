@@ -8,20 +8,24 @@ use native.Mathlib.Omega.{arith}
 use borrow.Author.Tests.{lt-ltb, le-ltb, ne-eqb}
 use lib.ListN.{length, drop, set, length-append, length-set}
 use lib.Seq.{drop-cons, drop-set-lt, getD-set-same, drop-length}
-use Rattle.parts.specs.Parts.{bytesIn, Part, partsOf, datasetOf, lineStart, closingStart, pastOf, throughOf}
+use Rattle.parts.specs.Parts.{bytesIn, Part, partsOf, datasetOf, lineStart, lastStart, closingStart, pastOf, throughOf}
 use Rattle.parts.specs.PartsLaws.{bytesIn-append}
 use Rattle.parts.specs.declared.Extent.{Extent}
 use Rattle.parts.specs.Set.{remaining, Standing}
 use Rattle.parts.specs.SetLaws.{standing}
+use Rattle.parts.specs.Function.{partCase, storedOf}
+use Rattle.parts.specs.declared.Counted.{Counted}
+use Rattle.parts.specs.Counted.{declares, countedBy, countedAt}
+use Rattle.parts.specs.CountedLaws.{counted-own}
 use Rattle.parts.specs.Turn.{Between, Turn}
 use Rattle.parts.specs.TurnLaws.{between-none}
 use Rattle.judge.specs.declared.Reply.{Reply}
 use Rattle.judge.specs.Judge.{judged, reply}
 use Rattle.output.specs.Output.{Put, ended, placed}
 use Rattle.output.specs.OutputLaws.{put-start, put-done, put-room, put-next}
-use Rattle.rewriter.specs.Rewriter.{digitOrBlank, plainIn, plainNumber, delimiterLine, linesText, headText, setText, rewrittenSet, rewritten, rewrittenFile, rewriteReply, rewriteOut}
-use Rattle.rewriter.specs.Body.{linesIn, bodyText}
-use Rattle.rewriter.specs.BodyLaws.{linesText-most, lines-own}
+use Rattle.rewriter.specs.Rewriter.{digitOrBlank, plainIn, plainNumber, delimiterLine, linesText, headText, unpadded, setText, rewrittenSet, rewritten, rewrittenFile, rewriteReply, rewriteOut}
+use Rattle.rewriter.specs.Body.{bodyText, lastText, frontBy, lastBy, setAt}
+use Rattle.rewriter.specs.BodyLaws.{linesText-most, unpadded-most, kept-own}
 
 -- a number has as many columns as it is given
 pub plainIn-length : (w v : ℕ) → length (plainIn w v) ≡ w
@@ -87,34 +91,49 @@ module _ (at v : ℕ) (out : List ℕ) (fits : at + length (headText v) ≤ leng
         (put-next at (headText v) out r (ended row) now opened fits (ended row) [] (sym (append-nil (ended row))) past then e p) refl
 
 -- a set, put piece by piece
-module _ (at v : ℕ) (ls : List (List ℕ)) (out : List ℕ) (fits : at + length (setText v ls) ≤ length out) where
-  set-pieces : setText v ls ≡ headText v ++ (linesText ls ++ delimiterLine)
-  unfolding setText
-  set-pieces = refl
+module _ (at : ℕ) (file : List ℕ) (e : Extent) (k : Counted) (c : k ≡ countedAt file e) (out : List ℕ) (fits : at + length (setAt file e) ≤ length out) where
+  abbrev text : List ℕ
+  text = setAt file e
 
-  pub head-room : at + length (headText v) ≤ length out
-  head-room = put-room at (setText v ls) out at (setText v ls) out (put-start at (setText v ls) out) fits (headText v) (linesText ls ++ delimiterLine) set-pieces
+  abbrev closing : List ℕ
+  closing = lastBy file e k ++ delimiterLine
 
-  module _ (r : ℕ) (now : List ℕ) (q : r ≡ at + length (headText v)) (o : now ≡ placed at (headText v) out) where
-    headed : Put at (setText v ls) out r (linesText ls ++ delimiterLine) now
-    headed =
-        put-next at (setText v ls) out at (setText v ls) out (put-start at (setText v ls) out) fits (headText v) (linesText ls ++ delimiterLine)
-        set-pieces r now q o
+  set-pieces : text ≡ headText (e .number) ++ (frontBy file e k ++ closing)
+  unfolding setAt
+  set-pieces = rw c refl
 
-    pub lines-room : r + length (linesText ls) ≤ length now
-    lines-room = put-room at (setText v ls) out r (linesText ls ++ delimiterLine) now headed fits (linesText ls) delimiterLine refl
+  pub head-room : at + length (headText (e .number)) ≤ length out
+  head-room = put-room at text out at text out (put-start at text out) fits (headText (e .number)) (frontBy file e k ++ closing) set-pieces
 
-    module _ (s : ℕ) (then : List ℕ) (f : s ≡ r + length (linesText ls)) (p : then ≡ placed r (linesText ls) now) where
-      filled : Put at (setText v ls) out s delimiterLine then
-      filled = put-next at (setText v ls) out r (linesText ls ++ delimiterLine) now headed fits (linesText ls) delimiterLine refl s then f p
+  module _ (r : ℕ) (now : List ℕ) (q : r ≡ at + length (headText (e .number))) (o : now ≡ placed at (headText (e .number)) out) where
+    headed : Put at text out r (frontBy file e k ++ closing) now
+    headed = put-next at text out at text out (put-start at text out) fits (headText (e .number)) (frontBy file e k ++ closing) set-pieces r now q o
 
-      pub closing-room : s + length delimiterLine ≤ length then
-      closing-room = put-room at (setText v ls) out s delimiterLine then filled fits delimiterLine [] refl
+    pub front-room : r + length (frontBy file e k) ≤ length now
+    front-room = put-room at text out r (frontBy file e k ++ closing) now headed fits (frontBy file e k) closing refl
 
-      pub set-done : (past : ℕ) (last : List ℕ) → past ≡ s + length delimiterLine → last ≡ placed s delimiterLine then
-          → (past ≡ at + length (setText v ls)) × (last ≡ placed at (setText v ls) out)
-      set-done past last e l =
-          put-done at (setText v ls) out past [] last (put-next at (setText v ls) out s delimiterLine then filled fits delimiterLine [] refl past last e l) refl
+    module _ (s : ℕ) (then : List ℕ) (f : s ≡ r + length (frontBy file e k)) (p : then ≡ placed r (frontBy file e k) now) where
+      fronted : Put at text out s closing then
+      fronted = put-next at text out r (frontBy file e k ++ closing) now headed fits (frontBy file e k) closing refl s then f p
+
+      pub last-room : s + length (lastBy file e k) ≤ length then
+      last-room = put-room at text out s closing then fronted fits (lastBy file e k) delimiterLine refl
+
+      module _ (u : ℕ) (later : List ℕ) (g : u ≡ s + length (lastBy file e k)) (l : later ≡ placed s (lastBy file e k) then) where
+        filled : Put at text out u delimiterLine later
+        filled = put-next at text out s closing then fronted fits (lastBy file e k) delimiterLine refl u later g l
+
+        pub closing-room : u + length delimiterLine ≤ length later
+        closing-room = put-room at text out u delimiterLine later filled fits delimiterLine [] refl
+
+        pub set-done : (past : ℕ) (last : List ℕ) → past ≡ u + length delimiterLine → last ≡ placed u delimiterLine later
+            → (past ≡ at + length text) × (last ≡ placed at text out)
+        set-done past last x y = put-done at text out past [] last (put-next at text out u delimiterLine later filled fits delimiterLine [] refl past last x y) refl
+
+-- its length
+pub setAt-length : (file : List ℕ) (e : Extent) (k : Counted) → k ≡ countedAt file e → length (setAt file e) ≡ (length (frontBy file e k) + length (lastBy file e k)) + 21
+unfolding setAt
+setAt-length file e k c = let n : length (headText (e .number)) ≡ 14 = headText-length (e .number) in rw (← c) (simp length-append (omega arith))
 
 -- the bytes of a set
 pastOf-most : (p : Part) → p .bytes + (bytesIn (p .body) + 3) ≤ pastOf p
@@ -124,7 +143,7 @@ pastOf-most p = rw (bytesIn-append (p .body) (p .closing ∷ [])) (omega arith)
 -- sets rewritten are at most seven times as long
 set-most : (p : Part) → length (rewrittenSet p) ≤ bytesIn (p .body) + 21
 unfolding rewrittenSet
-set-most p = omega (arith, setText-length (datasetOf p) (p .body), linesText-most (p .body))
+set-most p = omega (arith, setText-length (datasetOf p) (unpadded p), linesText-most (unpadded p), unpadded-most p)
 
 pub rewritten-most : (file : List ℕ) (n at : ℕ) (ps : List Part) → at ≤ length file → remaining file n at ≡ ps → length (rewritten ps) ≤ 7 * (length file - at)
 unfolding rewritten
@@ -148,39 +167,45 @@ file-most file = omega (arith, rewritten-most file 0 0 (partsOf file) (omega ari
 module _ (file : List ℕ) (n at : ℕ) (e : Extent) where
   text-of : (p : Part) (ps : List Part) → remaining file n at ≡ p ∷ ps → Standing file n at p ps → ps ≡ remaining file (e .through) (e .past)
       → e .number ≡ datasetOf p → e .body ≡ lineStart p 0 → e .closing ≡ closingStart p
-      → rewritten (remaining file n at) ≡ setText (e .number) (linesIn (e .closing) (e .body) file) ++ rewritten (remaining file (e .through) (e .past))
-  unfolding rewritten rewrittenSet
-  text-of p ps sets s rest number body closing = rw (sets, ← rest, number, body, closing, lines-own file n at p ps s) refl
+      → (k : Counted) → countedAt file e ≡ k → k ≡ countedBy (declares (partCase p) (storedOf p)) (lastStart p) (closingStart p)
+      → rewritten (remaining file n at) ≡ setAt file e ++ rewritten (remaining file (e .through) (e .past))
+  unfolding rewritten rewrittenSet setText setAt
+  text-of p ps sets s rest number body closing k found counted =
+      let front : List ℕ = bodyText (k .line) (lineStart p 0) file in
+      let last : List ℕ = lastText (k .past) (closingStart p) (k .line) file in
+      rw (found, sets, ← rest, number, body, closing, ← kept-own file n at p ps s k counted)
+      (ap (λ (x : List ℕ). (headText (datasetOf p) ++ x) ++ rewritten ps) (append-assoc front last delimiterLine))
 
-  pub turn-text : Turn file n at e
-      → rewritten (remaining file n at) ≡ setText (e .number) (linesIn (e .closing) (e .body) file) ++ rewritten (remaining file (e .through) (e .past))
-  turn-text t = let f = t .first in text-of (f .set) (f .others) (f .sets) (t .stands) (t .others) (f .number) (f .body) (f .closing)
+  pub turn-text : Turn file n at e → rewritten (remaining file n at) ≡ setAt file e ++ rewritten (remaining file (e .through) (e .past))
+  turn-text t =
+      let f = t .first in
+      text-of (f .set) (f .others) (f .sets) (t .stands) (t .others) (f .number) (f .body) (f .closing) _ refl (counted-own file n at e t)
+
+  -- its lines are in the file
+  pub turn-within : Turn file n at e → (e .body ≤ length file) × ((e .last ≤ length file) × (e .closing ≤ length file))
+  turn-within t = (t .body, (t .last, omega (arith, t .first .closing, t .stands .later, t .stands .past)))
 
   pub turn-none : Between file n at e → e .found ≡ false → rewritten (remaining file n at) ≡ []
   unfolding rewritten
   turn-none b h = rw (between-none file n at e b h) refl
 
 pub turn-length : (file : List ℕ) (n at : ℕ) (e : Extent) → Turn file n at e
-    → length (rewritten (remaining file n at)) ≡ (length (bodyText (e .closing) (e .body) file) + 21) + length (rewritten (remaining file (e .through) (e .past)))
+    → length (rewritten (remaining file n at)) ≡ length (setAt file e) + length (rewritten (remaining file (e .through) (e .past)))
 turn-length file n at e t =
-    let ls : List (List ℕ) = linesIn (e .closing) (e .body) file in
-    let rest : List ℕ = rewritten (remaining file (e .through) (e .past)) in
-    omega (arith, ap length (turn-text file n at e t), length-append (setText (e .number) ls) rest, setText-length (e .number) ls)
+    omega (arith, ap length (turn-text file n at e t), length-append (setAt file e) (rewritten (remaining file (e .through) (e .past))))
 
 -- the set that stands there, put into the buffer
 module _ (file out : List ℕ) (fits : length (rewrittenFile file) ≤ length out) (n at : ℕ) (e : Extent) (t : Turn file n at e) (past : ℕ) (now : List ℕ)
     (p : Put 0 (rewrittenFile file) out past (rewritten (remaining file n at)) now) where
-  pub set-room : past + length (setText (e .number) (linesIn (e .closing) (e .body) file)) ≤ length now
-  set-room =
-      put-room 0 (rewrittenFile file) out past (rewritten (remaining file n at)) now p (omega arith) (setText (e .number) (linesIn (e .closing) (e .body) file))
-      (rewritten (remaining file (e .through) (e .past))) (turn-text file n at e t)
+  abbrev rest : List ℕ
+  rest = rewritten (remaining file (e .through) (e .past))
 
-  pub set-next : (r : ℕ) (then : List ℕ) → r ≡ past + length (setText (e .number) (linesIn (e .closing) (e .body) file))
-      → then ≡ placed past (setText (e .number) (linesIn (e .closing) (e .body) file)) now
-      → Put 0 (rewrittenFile file) out r (rewritten (remaining file (e .through) (e .past))) then
+  pub set-room : past + length (setAt file e) ≤ length now
+  set-room = put-room 0 (rewrittenFile file) out past (rewritten (remaining file n at)) now p (omega arith) (setAt file e) rest (turn-text file n at e t)
+
+  pub set-next : (r : ℕ) (then : List ℕ) → r ≡ past + length (setAt file e) → then ≡ placed past (setAt file e) now → Put 0 (rewrittenFile file) out r rest then
   set-next r then q o =
-      put-next 0 (rewrittenFile file) out past (rewritten (remaining file n at)) now p (omega arith) (setText (e .number) (linesIn (e .closing) (e .body) file))
-      (rewritten (remaining file (e .through) (e .past))) (turn-text file n at e t) r then q o
+      put-next 0 (rewrittenFile file) out past (rewritten (remaining file n at)) now p (omega arith) (setAt file e) rest (turn-text file n at e t) r then q o
 
 -- the buffer after a refusal, and after a text
 refused-out : (file out : List ℕ) (r : Reply) → r ≡ rewriteReply file (length out) → 0 < r .number → out ≡ rewriteOut file out

@@ -1,14 +1,17 @@
 -- The rewriter (01, "Rewriter": "LF ends, no blanks at line ends, no lines outside sets, delimiters and dataset numbers spelled plainly;
--- all else keeps its spelling"). Its reply and the lent buffer afterwards, for every string of bytes.
+-- all else keeps its spelling"; 02, C-13: padding is
+-- "dropped by the rewriter"). Its reply and the lent buffer afterwards, for every string of bytes.
 use mathlib.Core.Bool.{true}
 use mathlib.Core.List.{List, [], _∷_, _++_}
 use Prim.Native.Nat.{ℕ, zero, suc, _+_, _/_, _%_}
 use lib.Dec.{ltb, eqb}
-use lib.ListN.{length, drop}
+use lib.ListN.{length, take, drop}
 use Rattle.laws.specs.Choice.{pick}
 use Rattle.text.specs.Text.{trimmed}
 use Rattle.line.specs.Line.{columns}
 use Rattle.parts.specs.Parts.{Part, partsOf, datasetOf}
+use Rattle.parts.specs.Function.{partCase, storedOf}
+use Rattle.parts.specs.Padding.{countedPast}
 use Rattle.output.specs.Output.{ended}
 use Rattle.judge.specs.Judge.{judged, reply}
 use Rattle.judge.specs.declared.Reply.{Reply}
@@ -44,12 +47,22 @@ linesText (l ∷ ls) = ended (keptOf l) ++ linesText ls
 unfoldable pub headText : ℕ → List ℕ
 headText v = delimiterLine ++ ended (plainNumber v)
 
+-- lines, the last of them cut to so many bytes
+unfoldable pub cutLast : ℕ → List (List ℕ) → List (List ℕ)
+cutLast k [] = []
+cutLast k (l ∷ []) = take k l ∷ []
+cutLast k (l ∷ m ∷ ls) = l ∷ cutLast k (m ∷ ls)
+
+-- the lines of a set without padding: a 58's last line is cut behind its last counted number
+unfoldable pub unpadded : Part → List (List ℕ)
+unpadded p = pick (eqb (storedOf p) 0) (p .body) (cutLast (countedPast (partCase p) (storedOf p)) (p .body))
+
 -- a set of this number and these lines
 unfoldable pub setText : ℕ → List (List ℕ) → List ℕ
 setText v ls = headText v ++ (linesText ls ++ delimiterLine)
 
 unfoldable pub rewrittenSet : Part → List ℕ
-rewrittenSet p = setText (datasetOf p) (p .body)
+rewrittenSet p = setText (datasetOf p) (unpadded p)
 
 -- sets one after the other: "no lines outside sets"
 unfoldable pub rewritten : List Part → List ℕ

@@ -6,7 +6,9 @@ use Prim.{tt}
 use Prim.Native.Nat.{ℕ, zero, suc, _+_, _-_, _≤_}
 use native.Mathlib.Omega.{arith}
 use borrow.Author.Tests.{ne-eqb}
-use lib.ListN.{length, take, replicate, length-append, replicate-append-replicate}
+use lib.Dec.{eqb}
+use lib.ListN.{length, take, replicate, length-append, length-take, replicate-append-replicate}
+use lib.Seq.{take-nil}
 use Rattle.laws.specs.Choice.{pick}
 use Rattle.laws.specs.Cut.{cut, text}
 use Rattle.text.specs.Blank.{Blanks, Blanks.none as no-blank, Blanks.one as blank, allBlank}
@@ -48,6 +50,33 @@ module _ (l : List ℕ) (f : Fair l) where
   pub kept-allowed : Allowed (keptOf l)
   unfolding keptOf
   kept-allowed = rw (← trimmed-take (columns true l)) (allowed-take (length (trimmed (columns true l))) (f .bytes))
+
+-- the columns of a fair line that is cut are its first ones
+return-one : (b : ℕ) → 32 ≤ b → withoutReturn (b ∷ []) ≡ b ∷ []
+unfolding withoutReturn
+return-one b l = rw (ne-eqb b 13 (λ e. omega arith)) refl
+
+cut-return : (k : ℕ) (l : List ℕ) → Allowed (withoutReturn l) → withoutReturn (take k l) ≡ take k (withoutReturn l)
+unfolding withoutReturn
+cut-return zero l a = refl
+cut-return (suc k) [] a = refl
+cut-return (suc k) (b ∷ []) a = ap (λ (x : List ℕ). withoutReturn (b ∷ x)) (take-nil k) ∙ by (eqb b 13)
+  where
+    by : (t : Bool) → pick t [] (b ∷ []) ≡ take (suc k) (pick t [] (b ∷ []))
+    by true = refl
+    by false = sym (ap (_∷_ b) (take-nil k))
+cut-return (suc zero) (b ∷ c ∷ l) (byte lo hi a) = return-one b lo
+cut-return (suc (suc k)) (b ∷ c ∷ l) (byte lo hi a) = ap (_∷_ b) (cut-return (suc k) (c ∷ l) a)
+
+pub cut-columns : (k : ℕ) (l : List ℕ) → Fair l → columns true (take k l) ≡ take k (columns true l)
+unfolding columns
+cut-columns k l f = cut-return k l (f .bytes)
+
+pub cut-fair : (k : ℕ) (l : List ℕ) → Fair l → Fair (take k l)
+cut-fair k l f = record {
+  bytes = rw (cut-columns k l f) (allowed-take k (f .bytes));
+  short = rw (cut-columns k l f) (omega (arith, length-take k (columns true l), f .short));
+}
 
 -- the lines of a text
 pub cut-ended : {t : List ℕ} → Allowed t → (rest : List ℕ) → cut (ended t ++ rest) ≡ text (t ∷ cut rest .lines) (cut rest .rest)

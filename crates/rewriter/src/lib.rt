@@ -2,11 +2,12 @@
 ghost use mathlib.Core.Path.{_≡_};
 ghost use Prim.Native.Nat.{_+_, _≤_};
 ghost use lib.ListN.{length};
-ghost use Rattle.rewriter.specs.Rewriter.{digitOrBlank, plainNumber, keptOf, headText, setText, rewrittenFile, rewriteReply, rewriteOut};
-ghost use Rattle.rewriter.specs.Body.{linesIn, bodyText};
+ghost use Rattle.rewriter.specs.Rewriter.{digitOrBlank, plainNumber, keptOf, headText, rewrittenFile, rewriteReply, rewriteOut};
+ghost use Rattle.rewriter.specs.Body.{bodyText, cutText, lastText, setAt};
 ghost use Rattle.output.specs.Output.{placed};
 use judge::Reply;
 use output::put_line;
+use parts::Extent;
 
 // The last digit of a number, a blank where the number is 0.
 fn digit_or_blank(v: u32) -> u8
@@ -88,21 +89,67 @@ pub fn put_head(out: &mut [u8], at: usize, number: u32) -> usize
     put_line(out, past, &row)
 }
 
-// Puts a set of this number, with the lines that begin at byte `from` and stop before byte `closing`, at byte `at`; answers the byte
-// past it.
-fn put_set(
+// How many bytes are kept of the line that begins at byte `at`, where only so many of it count.
+fn cut_len(file: &[u8], at: usize, most: usize) -> usize
+    requires { ⌜ at ≤ length (now file) ⌝ }
+    ensures { λ r. ⌜ r ≡ length (cutText most at (now (file .entry))) ⌝ }
+{
+    let end = line::find_end(file, at);
+    if most < end - at {
+        return kept_len(&file[at..at + most]);
+    }
+    kept_len(&file[at..end])
+}
+
+// The length of what is kept of that line, none where it does not begin before byte `closing`.
+fn last_len(file: &[u8], at: usize, closing: usize, most: usize) -> usize
+    requires { ⌜ (at ≤ length (now file)) × (length (now file) ≤ 16777216) ⌝ }
+    ensures { λ r. ⌜ r ≡ length (lastText most closing at (now (file .entry))) ⌝ }
+{
+    if closing <= at {
+        return 0;
+    }
+    cut_len(file, at, most) + 1
+}
+
+// Puts what is kept of that line at byte `at`; answers the byte past it.
+fn put_last(
     out: &mut [u8],
     at: usize,
     file: &[u8],
-    number: u32,
-    from: usize,
+    line: usize,
     closing: usize,
+    most: usize,
 ) -> usize
-    requires { ⌜ (from ≤ length (now file)) × (at + length (setText number (linesIn closing from (now file))) ≤ length (now out)) ⌝ }
-    ensures { λ r. ⌜ (r ≡ at + length (setText number (linesIn closing from (now (file .entry))))) × (now (out .exit) ≡ placed at (setText number (linesIn closing from (now (file .entry)))) (now (out .entry))) ⌝ }
+    requires { ⌜ (line ≤ length (now file)) × (at + length (lastText most closing line (now file)) ≤ length (now out)) ⌝ }
+    ensures { λ r. ⌜ (r ≡ at + length (lastText most closing line (now (file .entry)))) × (now (out .exit) ≡ placed at (lastText most closing line (now (file .entry))) (now (out .entry))) ⌝ }
 {
-    let opened = put_head(out, at, number);
-    let closed = put_body(out, opened, file, from, closing);
+    if closing <= line {
+        return at;
+    }
+    let past = line + cut_len(file, line, most);
+    put_line(out, at, &file[line..past])
+}
+
+// The length of a set rewritten: 14 bytes open it, 7 close it.
+fn set_len(file: &[u8], set: Extent) -> usize
+    requires { ⌜ (length (now file) ≤ 16777216) × ((set .body ≤ length (now file)) × ((set .last ≤ length (now file)) × (set .closing ≤ length (now file)))) ⌝ }
+    ensures { λ r. ⌜ r ≡ length (setAt (now (file .entry)) set) ⌝ }
+{
+    let kept = parts::counted_at(file, set);
+    let front = body_len(file, set.body, kept.line);
+    front + last_len(file, kept.line, set.closing, kept.past) + 21
+}
+
+// Puts a set rewritten at byte `at`; answers the byte past it.
+fn put_set(out: &mut [u8], at: usize, file: &[u8], set: Extent) -> usize
+    requires { ⌜ ((set .body ≤ length (now file)) × ((set .last ≤ length (now file)) × (set .closing ≤ length (now file)))) × (at + length (setAt (now file) set) ≤ length (now out)) ⌝ }
+    ensures { λ r. ⌜ (r ≡ at + length (setAt (now (file .entry)) set)) × (now (out .exit) ≡ placed at (setAt (now (file .entry)) set) (now (out .entry))) ⌝ }
+{
+    let kept = parts::counted_at(file, set);
+    let opened = put_head(out, at, set.number);
+    let last = put_body(out, opened, file, set.body, kept.line);
+    let closed = put_last(out, last, file, kept.line, set.closing, kept.past);
     put_line(out, closed, b"    -1")
 }
 
@@ -116,7 +163,7 @@ fn rewritten_len(file: &[u8]) -> usize
     let mut lines = 0;
     let mut set = parts::next_set(file, at, lines);
     while set.found {
-        n += body_len(file, set.body, set.closing) + 21;
+        n += set_len(file, set);
         at = set.past;
         lines = set.through;
         set = parts::next_set(file, at, lines);
@@ -134,7 +181,7 @@ fn put_sets(out: &mut [u8], file: &[u8])
     let mut lines = 0;
     let mut set = parts::next_set(file, from, lines);
     while set.found {
-        past = put_set(out, past, file, set.number, set.body, set.closing);
+        past = put_set(out, past, file, set);
         from = set.past;
         lines = set.through;
         set = parts::next_set(file, from, lines);

@@ -1,8 +1,9 @@
 -- `lister::put_row` meets its contract.
 use mathlib.Core.Path.{refl, _∙_}
 use lib.ListN.{length-set}
+use Rattle.parts.specs.CountedLaws.{padding-few}
 use Rattle.lister.specs.Found.{entryAt}
-use Rattle.lister.specs.ListerLaws.{six}
+use Rattle.lister.specs.ListerLaws.{seven}
 use native.Mathlib.Omega.{arith}
 use borrow.Author.Needs.{needs}
 use Rattle.lister.proofs.put_row.Statement.{statement}
@@ -13,6 +14,9 @@ declared-count-requires c κs = search needs
 
 data-start-requires : tie.Need-data-start-requires
 data-start-requires c κs = search needs
+
+padding-at-requires : tie.Need-padding-at-requires
+padding-at-requires c κs = search needs
 
 add-row : tie.Need-add-row
 add-row c = search needs
@@ -40,7 +44,7 @@ cast-row-3 c = search needs
 
 slice-write-row-5 : tie.Need-slice-write-row-5
 slice-write-row-5 c =
-    let at-pre = c .before .before .before .before .before .before .before in
+    let at-pre = c .before .before .before .before .before .before .before .before in
     simp length-set (omega (arith, at-pre .pre .0))
 
 cast-row-4 : tie.Need-cast-row-4
@@ -48,7 +52,18 @@ cast-row-4 c = search needs
 
 slice-write-row-6 : tie.Need-slice-write-row-6
 slice-write-row-6 c =
-    let at-pre = c .before .before .before .before .before .before .before in
+    let at-pre = c .before .before .before .before .before .before .before .before in
+    simp length-set (omega (arith, at-pre .pre .0))
+
+cast-row-5 : tie.Need-cast-row-5
+cast-row-5 c =
+    let at-padding-at = c .before .before .before in
+    let args = at-padding-at .before .before .before .before .before .args in
+    omega (arith, at-padding-at .padding-at .ensures, padding-few (args .file .now) (args .e))
+
+slice-write-row-7 : tie.Need-slice-write-row-7
+slice-write-row-7 c =
+    let at-pre = c .before .before .before .before .before .before .before .before in
     simp length-set (omega (arith, at-pre .pre .0))
 
 same-length : tie.Need-same-length
@@ -57,9 +72,11 @@ same-length c = search needs
 returns : tie.Need-returns
 unfolding entryAt
 returns c =
-    let at-declared-count = c .before .before .before .before in
+    let at-data-start = c .before .before .before .before in
+    let at-declared-count = at-data-start .before in
     let at-start = at-declared-count .before .before .before in
-    six (at-start .args .row .now) _ _ _ _ _ _ (at-start .pre .0) ∙ rw (at-declared-count .declared-count .ensures, c .before .before .before .data-start .ensures .0) refl
+    seven (at-start .args .row .now) _ _ _ _ _ _ _ (at-start .pre .0)
+    ∙ rw (at-declared-count .declared-count .ensures, at-data-start .data-start .ensures .0, c .before .before .before .padding-at .ensures) refl
 
 pub put-row-spec : {M : Type 1} → statement M
 put-row-spec =
@@ -67,6 +84,7 @@ put-row-spec =
     (tie.spec
     declared-count-requires
     data-start-requires
+    padding-at-requires
     add-row
     cast-row
     slice-write-row
@@ -78,5 +96,7 @@ put-row-spec =
     slice-write-row-5
     cast-row-4
     slice-write-row-6
+    cast-row-5
+    slice-write-row-7
     same-length
     returns)

@@ -9,7 +9,7 @@ use Rattle.parts.specs.Parts.{partsOf}
 use Rattle.parts.specs.Set.{remaining}
 use Rattle.parts.specs.Turn.{Between}
 use Rattle.parts.specs.TurnLaws.{turn, between-start, between-next}
-use Rattle.lister.specs.Lister.{rowsOf}
+use Rattle.lister.specs.Lister.{rowNumbers, rowsOf}
 use Rattle.lister.specs.ListerLaws.{rows-count, rows-start, rows-room, rows-places, rows-left, rows-turn, rows-kept, rows-done, row-length}
 use borrow.Author.Needs.{needs}
 use native.Mathlib.Omega.{arith}
@@ -20,7 +20,7 @@ use Rattle.lister.proofs.put_rows.Tie as tie
 record Laid (file rows₀ rows : List ℕ) (i lines at : ℕ) (e : Extent) : Type 0 where
   between : Between file lines at e
   same : length rows ≡ length rows₀
-  left : i + 6 * length (remaining file lines at) ≡ 6 * length (partsOf file)
+  left : i + rowNumbers * length (remaining file lines at) ≡ rowNumbers * length (partsOf file)
   laid : take i rows ++ rowsOf (remaining file lines at) ≡ rowsOf (partsOf file)
   kept : drop i rows ≡ drop i rows₀
 
@@ -67,8 +67,8 @@ put-row-requires c κs =
     let at-pre = at-loop .before .before .before .before in
     let t = turn _ _ _ _ (inv .between) (c .before .loop-test .taken) in
     let p = rows-places _ _ _ _ t in
-    let room : at-loop .loop .i + 6 ≤ length (at-loop .loop .rows) = omega (arith, rows-room _ _ _ _ _ _ t (inv .left) (at-pre .pre .1), inv .same) in
-    (row-length (at-loop .loop .rows) (at-loop .loop .i) room, (at-pre .pre .0, (t .body, (p .lines, (p .first, t .within)))))
+    let room : at-loop .loop .i + rowNumbers ≤ length (at-loop .loop .rows) = omega (arith, rows-room _ _ _ _ _ _ t (inv .left) (at-pre .pre .1), inv .same) in
+    (row-length (at-loop .loop .rows) (at-loop .loop .i) room, (at-pre .pre .0, (t .body, (t .last, (p .lines, (p .first, t .within))))))
 
 next-set-requires-2 : tie.Need-next-set-requires-2 Inv-loop μ-loop
 next-set-requires-2 c κs =
@@ -92,10 +92,10 @@ loop-again c =
     let t = turn _ _ _ _ (inv .between) found in
     let i : ℕ = at-loop .loop .i in
     let rows : List ℕ = at-loop .loop .rows in
-    let l : i + 6 ≤ length rows = omega (arith, rows-room _ _ _ _ _ _ t (inv .left) (at-pre .pre .1), inv .same) in
+    let l : i + rowNumbers ≤ length rows = omega (arith, rows-room _ _ _ _ _ _ t (inv .left) (at-pre .pre .1), inv .same) in
     record {
       between = between-next _ _ _ _ (inv .between) found _ (c .next-set2 .ensures);
-      same = same-len-mid {X = ℕ} i (i + 6 - i) rows (at-put-row .put-row .last .0) (at-put-row .put-row .kept .0) ∙ inv .same;
+      same = same-len-mid {X = ℕ} i (i + rowNumbers - i) rows (at-put-row .put-row .last .0) (at-put-row .put-row .kept .0) ∙ inv .same;
       left = rows-left _ _ _ _ _ t ∙ inv .left;
       laid = rows-turn _ _ _ _ _ _ _ t l row ∙ inv .laid;
       kept = rows-kept _ _ _ _ _ _ _ t l row _ (inv .kept);

@@ -1,4 +1,4 @@
--- `listing::show_file` is safe and ends: where the lister answers 0, its rows have six places for each set.
+-- `listing::show_file` is safe and ends: where the lister answers 0, its rows have the places of each set.
 use mathlib.Core.Path.{_≡_}
 use mathlib.Core.List.{List}
 use mathlib.Core.Logic.{⊎-elim}
@@ -10,21 +10,21 @@ use Rattle.laws.specs.ChoiceLaws.{below-or-not}
 use Rattle.judge.specs.declared.Reply.{Reply}
 use Rattle.judge.specs.Judge.{judged}
 use Rattle.parts.specs.Parts.{partsOf}
-use Rattle.lister.specs.Lister.{listReply}
+use Rattle.lister.specs.Lister.{rowNumbers, listReply}
 use borrow.Author.Needs.{needs}
 use Rattle.listing.proofs.show_file.Statement.{statement}
 use Rattle.listing.proofs.show_file.Tie as tie
 
 -- a reply of 0 counts no more sets than have their places
-rows-fit : (file : List ℕ) (places : ℕ) (r : Reply) → r ≡ listReply file places → r .number ≤ 0 → 6 * r .place ≤ places
+rows-fit : (file : List ℕ) (places : ℕ) (r : Reply) → r ≡ listReply file places → r .number ≤ 0 → rowNumbers * r .place ≤ places
 unfolding listReply
 rows-fit file places r e h =
     ⊎-elim
     (λ l. let z : judged file .number ≤ 0 = rw (e, lt-ltb 0 (judged file .number) l) at h in absurd (omega arith))
     (λ a. ⊎-elim
-    (λ l. let z : _≤_ 17 0 = rw (e, le-ltb 0 (judged file .number) a, lt-ltb places (6 * length (partsOf file)) l) at h in absurd (omega arith))
-    (λ m. rw (e, le-ltb 0 (judged file .number) a, le-ltb places (6 * length (partsOf file)) m) m)
-    (below-or-not places (6 * length (partsOf file))))
+    (λ l. let z : _≤_ 17 0 = rw (e, le-ltb 0 (judged file .number) a, lt-ltb places (rowNumbers * length (partsOf file)) l) at h in absurd (omega arith))
+    (λ m. rw (e, le-ltb 0 (judged file .number) a, le-ltb places (rowNumbers * length (partsOf file)) m) m)
+    (below-or-not places (rowNumbers * length (partsOf file))))
     (below-or-not 0 (judged file .number))
 
 slice-aggregate-list : tie.Need-slice-aggregate-list

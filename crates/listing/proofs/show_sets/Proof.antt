@@ -1,6 +1,7 @@
--- `listing::show_sets` is safe and ends: the six places of each set are in the rows.
+-- `listing::show_sets` is safe and ends: the places of each set are in the rows.
 use Prim.Native.Nat.{_*_, _≤_, _-_}
 use native.Mathlib.Omega.{arith}
+use Rattle.lister.specs.Lister.{rowNumbers}
 use Rattle.lister.specs.ListerLaws.{row-length}
 use borrow.Author.Needs.{needs}
 use Rattle.listing.proofs.show_sets.Statement.{statement}
@@ -39,7 +40,7 @@ part-show-set-end c = search needs
 show-set-requires : tie.Need-show-set-requires Inv-loop μ-loop
 show-set-requires c κs =
     let at-start = c .before .before .before .before in
-    row-length (at-start .args .rows .now) (6 * c .before .before .loop .set) (omega arith)
+    row-length (at-start .args .rows .now) (rowNumbers * c .before .before .loop .set) (omega arith)
 
 loop-less : tie.Need-loop-less Inv-loop μ-loop
 loop-less c = search needs

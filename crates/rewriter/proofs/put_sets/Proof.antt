@@ -9,7 +9,7 @@ use Rattle.parts.specs.Set.{remaining}
 use Rattle.parts.specs.Turn.{Between}
 use Rattle.parts.specs.TurnLaws.{turn, between-start, between-next}
 use Rattle.rewriter.specs.Rewriter.{rewritten, rewrittenFile}
-use Rattle.rewriter.specs.PutLaws.{rewritten-start, turn-none, set-room, set-next}
+use Rattle.rewriter.specs.PutLaws.{rewritten-start, turn-none, turn-within, set-room, set-next}
 use borrow.Author.Needs.{needs}
 use native.Mathlib.Omega.{arith}
 use Rattle.rewriter.proofs.put_sets.Statement.{statement}
@@ -37,7 +37,7 @@ put-set-requires c κs =
     let at-loop = c .before .before in
     let at-pre = at-loop .before .before .before .before in
     let t = turn _ _ _ _ (at-loop .loop .inv .between) (c .before .loop-test .taken) in
-    (t .body, set-room _ _ (at-pre .pre) _ _ _ t _ _ (at-loop .loop .inv .put))
+    (turn-within _ _ _ _ t, set-room _ _ (at-pre .pre) _ _ _ t _ _ (at-loop .loop .inv .put))
 
 next-set-requires-2 : tie.Need-next-set-requires-2 Inv-loop μ-loop
 next-set-requires-2 c κs =

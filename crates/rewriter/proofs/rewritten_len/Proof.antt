@@ -8,7 +8,7 @@ use Rattle.parts.specs.Set.{remaining}
 use Rattle.parts.specs.Turn.{Between}
 use Rattle.parts.specs.TurnLaws.{turn, between-start, between-next}
 use Rattle.rewriter.specs.Rewriter.{rewritten, rewrittenFile}
-use Rattle.rewriter.specs.PutLaws.{rewritten-start, file-most, turn-none, turn-length}
+use Rattle.rewriter.specs.PutLaws.{rewritten-start, file-most, turn-none, turn-within, turn-length}
 use borrow.Author.Needs.{needs}
 use native.Mathlib.Omega.{arith}
 use Rattle.rewriter.proofs.rewritten_len.Statement.{statement}
@@ -33,22 +33,17 @@ loop-holds c =
     let file : List ℕ = c .before .before .args .file .now in
     record { between = between-start file _ (c .next-set .ensures); measured = omega (arith, ap length (rewritten-start file)) }
 
-body-len-requires : tie.Need-body-len-requires Inv-loop μ-loop
-body-len-requires c κs = turn _ _ _ _ (c .before .loop .inv .between) (c .loop-test .taken) .body
+set-len-requires : tie.Need-set-len-requires Inv-loop μ-loop
+set-len-requires c κs =
+    let at-pre = c .before .before .before .before in
+    (at-pre .pre, turn-within _ _ _ _ (turn _ _ _ _ (c .before .loop .inv .between) (c .loop-test .taken)))
 
 add-n : tie.Need-add-n Inv-loop μ-loop
 add-n c =
     let inv = c .before .before .loop .inv in
     let at-pre = c .before .before .before .before .before in
     let t = turn _ _ _ _ (inv .between) (c .before .loop-test .taken) in
-    omega (arith, c .body-len .ensures, inv .measured, at-pre .pre, turn-length _ _ _ _ t, file-most (at-pre .args .file .now))
-
-add-n-2 : tie.Need-add-n-2 Inv-loop μ-loop
-add-n-2 c =
-    let inv = c .before .before .loop .inv in
-    let at-pre = c .before .before .before .before .before in
-    let t = turn _ _ _ _ (inv .between) (c .before .loop-test .taken) in
-    omega (arith, c .body-len .ensures, inv .measured, at-pre .pre, turn-length _ _ _ _ t, file-most (at-pre .args .file .now))
+    omega (arith, c .set-len .ensures, inv .measured, at-pre .pre, turn-length _ _ _ _ t, file-most (at-pre .args .file .now))
 
 next-set-requires-2 : tie.Need-next-set-requires-2 Inv-loop μ-loop
 next-set-requires-2 c κs = let t = turn _ _ _ _ (c .before .before .loop .inv .between) (c .before .loop-test .taken) in (t .within, t .lines)
@@ -64,7 +59,7 @@ loop-again c =
     let t = turn _ _ _ _ (inv .between) found in
     record {
       between = between-next _ _ _ _ (inv .between) found _ (c .next-set2 .ensures);
-      measured = omega (arith, c .before .body-len .ensures, inv .measured, turn-length _ _ _ _ t);
+      measured = omega (arith, c .before .set-len .ensures, inv .measured, turn-length _ _ _ _ t);
     }
 
 returns : tie.Need-returns Inv-loop μ-loop
@@ -80,9 +75,8 @@ rewritten-len-spec =
     μ-loop
     next-set-requires
     loop-holds
-    body-len-requires
+    set-len-requires
     add-n
-    add-n-2
     next-set-requires-2
     loop-less
     loop-again

@@ -1,0 +1,91 @@
+-- The last line of a 58 of a list as it stands in a text: it is that of the last stored number, and which of its columns count.
+use mathlib.Core.Path.{_≡_, refl}
+use mathlib.Core.Bool.{Bool, true, false}
+use mathlib.Core.List.{List, [], _++_}
+use Prim.Native.Nat.{ℕ, zero, suc, _+_, _-_, _*_, _≤_, _<_}
+use native.Mathlib.Nat.{zero-mul, suc-mul, div-lt-iff-lt-mul}
+use native.Mathlib.Omega.{arith}
+use borrow.Author.Tests.{eqb-true}
+use lib.Dec.{eqb}
+use lib.Seq.{drop-at, drop-drop}
+use lib.ListN.{length, getD, drop, replicate, length-map}
+use Rattle.laws.specs.Choice.{pick}
+use Rattle.text.specs.Blank.{Blanks, none, one}
+use Rattle.text.specs.BlankLaws.{allBlank-complete, blanks-replicate}
+use Rattle.line.specs.Line.{columns, filled}
+use Rattle.line.specs.LineLaws.{filled-short}
+use Rattle.layout.specs.Columns.{lineOf, fieldOf, total}
+use Rattle.layout.specs.ColumnsLaws.{stored-at, fieldOf-inside}
+use Rattle.layout.specs.Layout.{layoutOf, fieldsOf, numbersOf}
+use Rattle.layout.specs.LayoutLaws.{fieldsOf-some, total-inside}
+use Rattle.record_table.specs.TypedSets.{headerLines}
+use Rattle.theory.specs.Sets.{Set}
+use Rattle.theory.specs.Due.{linesFor}
+use Rattle.line_laws.specs.LineTestsLaws.{blanks-take}
+use Rattle.parts.specs.Parts.{Part, lastLine}
+use Rattle.parts.specs.Parts as Parts
+use Rattle.parts.specs.Function as Function
+use Rattle.parts.specs.Padding.{countedPast, remainder, paddingIn, paddingOf}
+use Rattle.parts.specs.CountedLaws.{past-inside}
+use Rattle.parts_laws.specs.Holds.{columnsOf, Holds}
+use Rattle.parts_laws.specs.Declared.{declared, setCase}
+use Rattle.parts_laws.specs.DeclaredLaws.{case-held, declared-held}
+use Rattle.parts_laws.specs.Stored.{storedCount}
+use Rattle.parts_laws.specs.StoredLaws.{line-enough, set-data, stored-case}
+
+-- as many numbers are stored in the text as in the list
+stored-if : (t : Bool) (n a b : ℕ) → (t ≡ true → a ≡ b) → pick t n 0 * numbersOf a ≡ pick t n 0 * numbersOf b
+stored-if true n a b h = rw (h refl) refl
+stored-if false n a b h = rw (zero-mul (numbersOf a), zero-mul (numbersOf b)) refl
+
+pub stored-held : {s : Set} {p : Part} → Holds s p → Function.storedOf p ≡ storedCount s
+unfolding Function.storedOf storedCount declared
+stored-held {s} {p} h = rw (declared-held h) (stored-if (eqb (s .number) 58) _ (Function.partCase p) (setCase s) (λ e. case-held h (eqb-true (s .number) 58 e)))
+
+-- the last of so many numbers stands on the last of their lines
+last-most : (n t : ℕ) → 0 < n → 0 < t → linesFor n t < suc (suc (lineOf n (t - 1)))
+unfolding linesFor
+last-most n t p h =
+    let s : lineOf n (t - 1) * n + fieldOf n (t - 1) ≡ t - 1 = stored-at n (t - 1) in
+    let f : fieldOf n (t - 1) < n = fieldOf-inside n (t - 1) p in
+    let m : t + (n - 1) < suc (suc (lineOf n (t - 1))) * n = rw (suc-mul, suc-mul) (omega arith) in
+    div-lt-iff-lt-mul p .1 m
+
+last-of : (n t : ℕ) → 0 < n → 0 < t → linesFor n t ≡ suc (lineOf n (t - 1))
+last-of n t p h = omega (arith, line-enough n t (t - 1) p (omega arith), last-most n t p h)
+
+pub last-held : {s : Set} {p : Part} → Holds s p → s .number ≡ 58 → 0 < storedCount s
+    → lastLine p ≡ headerLines + lineOf (fieldsOf (setCase s)) (storedCount s - 1)
+last-held {s} {p} h e some =
+    let c : length (columnsOf (p .body)) ≡ headerLines + linesFor (fieldsOf (setCase s)) (storedCount s) = set-data (h .lines) e .count in
+    let n : length (columnsOf (p .body)) ≡ length (p .body) = length-map (p .body) (columns true) in
+    let l : linesFor (fieldsOf (setCase s)) (storedCount s) ≡ suc (lineOf (fieldsOf (setCase s)) (storedCount s - 1))
+    = last-of (fieldsOf (setCase s)) (storedCount s) (fieldsOf-some (setCase s) (stored-case s 0 some)) some in
+    omega arith
+
+-- a line that ends with its last counted column at the latest has no padding
+blanks-drop : {l : List ℕ} (m : ℕ) → Blanks l → Blanks (drop m l)
+blanks-drop zero b = b
+blanks-drop (suc m) none = none
+blanks-drop (suc m) (one b) = blanks-drop m b
+
+blank-past : (cs : List ℕ) (k : ℕ) → length cs ≤ k → length cs ≤ 80 → Blanks (drop k (filled cs))
+blank-past cs k h s =
+    let z : length cs + (k - length cs) ≡ k = omega arith in
+    let b : Blanks (drop (k - length cs) (drop (length cs) (cs ++ replicate (80 - length cs) 32)))
+    = rw (drop-at cs (replicate (80 - length cs) 32) (length cs) refl) (blanks-drop (k - length cs) (blanks-replicate (80 - length cs))) in
+    rw (filled-short cs s) (rw (drop-drop, z) at b)
+
+pub ended-unpadded : (p : Part) → length (columns true (getD (p .body) (lastLine p) [])) ≤ countedPast (Function.partCase p) (Function.storedOf p)
+    → paddingOf p ≡ 0
+unfolding paddingOf paddingIn remainder Parts.lineOf
+ended-unpadded p h =
+    let k : ℕ = countedPast (Function.partCase p) (Function.storedOf p) in
+    let cs : List ℕ = columns true (getD (p .body) (lastLine p) []) in
+    let within : length cs ≤ 80 = omega (arith, past-inside (Function.partCase p) (Function.storedOf p), total-inside (Function.partCase p)) in
+    let blank = allBlank-complete (blanks-take (total (layoutOf (Function.partCase p) .widths) - k) (blank-past cs k h within)) in
+    rw blank (pick-same (eqb (Function.storedOf p) 0))
+  where
+    pick-same : (t : Bool) → _≡_ {A = ℕ} (pick t 0 0) 0
+    pick-same true = refl
+    pick-same false = refl
