@@ -7,7 +7,7 @@ use Prim.Native.Nat.{ℕ, _≤_}
 use lib.ListN.{length}
 use Rattle.line.specs.Line.{Allowed, columns}
 use Rattle.parts.specs.Parts.{closes, Part, PartState, outside, opened, inside, datasetOf}
-use Rattle.rewriter.specs.Rewriter.{plainNumber, keptOf}
+use Rattle.rewriter.specs.Rewriter.{plainNumber, keptOf, unpadded}
 
 -- a line that keeps the rules on bytes and columns
 pub record Fair (l : List ℕ) : Type 0 where
@@ -40,4 +40,4 @@ plainDelimiter = 32 ∷ 32 ∷ 32 ∷ 32 ∷ 45 ∷ 49 ∷ []
 -- the lines that sets are laid out in
 unfoldable pub laid : List Part → List (List ℕ)
 laid [] = []
-laid (p ∷ ps) = plainDelimiter ∷ plainNumber (datasetOf p) ∷ (map keptOf (p .body) ++ (plainDelimiter ∷ laid ps))
+laid (p ∷ ps) = plainDelimiter ∷ plainNumber (datasetOf p) ∷ (map keptOf (unpadded p) ++ (plainDelimiter ∷ laid ps))

@@ -1,10 +1,12 @@
 -- What a file is rewritten to (01, "Rewriter": "LF ends, no blanks at line ends, no lines outside sets, delimiters and dataset numbers
--- spelled plainly; all else keeps its spelling"). Stated from texts and a list of sets alone: nothing here runs the rewriter. A line is
+-- spelled plainly; all else keeps its spelling"; 02, C-13: padding is "dropped by the rewriter"). Stated from texts and a list of sets alone: nothing here runs the rewriter. A line is
 -- given by its columns, its end left out.
 use mathlib.Core.Path.{_≡_}
 use mathlib.Core.List.{List, [], _∷_, _++_}
 use Prim.Native.Nat.{ℕ, _≤_}
-use lib.ListN.{length}
+use lib.Dec.{eqb}
+use lib.ListN.{length, take}
+use Rattle.laws.specs.Choice.{pick}
 use Rattle.text.specs.Blank.{Blanks}
 use Rattle.text.specs.Text.{Unpadded, TextIn}
 use Rattle.text.specs.Parts.{Digits}
@@ -13,6 +15,9 @@ use Rattle.delimiter.specs.Kind.{Delimiter}
 use Rattle.theory.specs.Sets.{Set}
 use Rattle.line_laws.specs.NoDelimiter.{NoDelimiter}
 use Rattle.theory.specs.Proper.{BlankLines, Ended}
+use Rattle.parts.specs.Padding.{countedPast}
+use Rattle.parts_laws.specs.Declared.{setCase}
+use Rattle.parts_laws.specs.Stored.{storedCount}
 
 -- The rewritten form.
 
@@ -29,11 +34,21 @@ pub data Trimmed : List (List ℕ) → Type 0 where
   none : Trimmed []
   more : {cs : List ℕ} {css : List (List ℕ)} → Unpadded cs → Trimmed css → Trimmed (cs ∷ css)
 
+-- how many columns of a set's last line count: of a 58's those up to its last counted number, of any other's all 80
+unfoldable pub countedColumns : Set → ℕ
+countedColumns s = pick (eqb (storedCount s) 0) 80 (countedPast (setCase s) (storedCount s))
+
+-- no padding: the last line ends with its last counted column at the latest
+pub data EndsBy (k : ℕ) : List (List ℕ) → Type 0 where
+  none : EndsBy k []
+  last : {cs : List ℕ} → length cs ≤ k → EndsBy k (cs ∷ [])
+  more : {cs ds : List ℕ} {css : List (List ℕ)} → EndsBy k (ds ∷ css) → EndsBy k (cs ∷ ds ∷ css)
+
 -- the lines of a file, "no lines outside sets": for each set in order a delimiter, its number in six columns, its lines and a delimiter
 pub data PlainSets : List Set → List (List ℕ) → Type 0 where
   none : PlainSets [] []
   more : {s : Set} {ss : List Set} (number : List ℕ) (body after : List (List ℕ))
-      → Plainly (s .number) number → length number ≡ 6 → NoDelimiter body → Trimmed body → PlainSets ss after
+      → Plainly (s .number) number → length number ≡ 6 → NoDelimiter body → Trimmed body → EndsBy (countedColumns s) body → PlainSets ss after
       → PlainSets (s ∷ ss) (delimiterSpelled ∷ number ∷ (body ++ (delimiterSpelled ∷ after)))
 
 -- "LF ends": each line is its columns, within the rules on bytes and columns, and an LF
@@ -62,21 +77,25 @@ pub record OwnLines (bodies : List (List (List ℕ))) (bytes : List ℕ) : Type 
   pub ends : Ended columns bytes
   pub own : Own bodies columns
 
--- lines that are the same but for blanks at their ends: line by line one text, and then any blanks
-pub data SameLines : List (List ℕ) → List (List ℕ) → Type 0 where
-  none : SameLines [] []
-  more : {t a b : List ℕ} {old new : List (List ℕ)} → TextIn t a → TextIn t b → SameLines old new → SameLines (a ∷ old) (b ∷ new)
+-- lines that are the same but for blanks at their ends, and but for what stands past the first k columns of the last: line by line one
+-- text, and then any blanks
+pub data SameLines (k : ℕ) : List (List ℕ) → List (List ℕ) → Type 0 where
+  none : SameLines k [] []
+  last : {t a b : List ℕ} → TextIn t (take k a) → TextIn t (take k b) → SameLines k (a ∷ []) (b ∷ [])
+  more : {t a b c d : List ℕ} {old new : List (List ℕ)} → TextIn t a → TextIn t b → SameLines k (c ∷ old) (d ∷ new)
+      → SameLines k (a ∷ c ∷ old) (b ∷ d ∷ new)
 
--- the same set by set
-pub data SameSets : List (List (List ℕ)) → List (List (List ℕ)) → Type 0 where
-  none : SameSets [] []
-  more : {a b : List (List ℕ)} {old new : List (List (List ℕ))} → SameLines a b → SameSets old new → SameSets (a ∷ old) (b ∷ new)
+-- the same set by set, padding aside
+pub data SameSets : List Set → List (List (List ℕ)) → List (List (List ℕ)) → Type 0 where
+  none : SameSets [] [] []
+  more : {s : Set} {ss : List Set} {a b : List (List ℕ)} {old new : List (List (List ℕ))} → SameLines (countedColumns s) a b → SameSets ss old new
+      → SameSets (s ∷ ss) (a ∷ old) (b ∷ new)
 
--- "all else keeps its spelling": the sets of two texts have the same own lines, set by set and line by line, but for blanks at line ends and
--- for the line ends
-pub record KeepsSpellings (old new : List ℕ) : Type 0 where
+-- "all else keeps its spelling": the sets of two texts have the same own lines, set by set and line by line, but for blanks at line ends,
+-- padding and the line ends
+pub record KeepsSpellings (sets : List Set) (old new : List ℕ) : Type 0 where
   pub before : List (List (List ℕ))
   pub after : List (List (List ℕ))
   pub in-old : OwnLines before old
   pub in-new : OwnLines after new
-  pub same : SameSets before after
+  pub same : SameSets sets before after

@@ -1,10 +1,16 @@
 -- What is kept of the lines of a set: lines of the same set, with no blanks at line ends, spelled the same.
-use mathlib.Core.Path.{_≡_, refl, subst}
-use mathlib.Core.Bool.{true}
+use mathlib.Core.Path.{_≡_, refl, sym, ap, subst, _∙_}
+use mathlib.Core.Bool.{Bool, true, false}
 use mathlib.Core.List.{List, [], _∷_, map, append-nil}
-use Prim.Native.Nat.{ℕ, _≤_}
+use Prim.Native.Nat.{ℕ, _*_, _≤_}
+use native.Mathlib.Nat.{zero-mul}
 use native.Mathlib.Omega.{arith}
-use lib.ListN.{length}
+use borrow.Author.Tests.{eqb-true}
+use lib.Dec.{eqb}
+use lib.ListN.{length, take, length-take}
+use lib.Seq.{take-all}
+use Rattle.laws.specs.Choice.{pick}
+use Rattle.laws.specs.ChoiceLaws.{false-not-true}
 use Rattle.text.specs.Text.{Unpadded, TextIn, text-in, trimmed}
 use Rattle.text.specs.TextLaws.{trimmed-complete, trimmed-sound}
 use Rattle.line.specs.Line.{columns, filled}
@@ -14,11 +20,21 @@ use Rattle.record.specs.Written.{Written}
 use Rattle.theory.specs.Sets.{Set}
 use Rattle.theory.specs.Proper.{Inside, TypedLines, PlainLines, SetLines}
 use Rattle.line_laws.specs.Short.{Short}
-use Rattle.parts_laws.specs.Holds.{columnsOf}
-use Rattle.rewriter.specs.Rewriter.{keptOf}
-use Rattle.rewriter.specs.BodyLaws.{trimmed-most}
-use Rattle.rewriter.specs.RewriterLaws.{filled-text}
-use Rattle.rewriter_laws.specs.Form.{Trimmed, SameLines}
+use Rattle.layout.specs.Layout.{numbersOf}
+use Rattle.record.specs.Declared.{countBy}
+use Rattle.parts.specs.Parts.{Part}
+use Rattle.parts.specs.Function.{partCase, storedOf}
+use Rattle.parts.specs.Padding.{countedPast}
+use Rattle.parts_laws.specs.Holds.{columnsOf, Holds}
+use Rattle.parts_laws.specs.Declared.{seventhOf, declared, setCase}
+use Rattle.parts_laws.specs.DeclaredLaws.{case-held}
+use Rattle.parts_laws.specs.Stored.{storedCount}
+use Rattle.parts_laws.specs.PaddingLaws.{stored-held}
+use Rattle.rewriter.specs.Rewriter.{keptOf, cutLast, unpadded}
+use Rattle.rewriter.specs.BodyLaws.{trimmed-most, keptOf-most}
+use Rattle.rewriter.specs.Fair.{Fair, FairLines, Inner}
+use Rattle.rewriter.specs.RewriterLaws.{filled-text, cut-columns, cut-fair}
+use Rattle.rewriter_laws.specs.Form.{Trimmed, countedColumns, EndsBy, SameLines}
 use Rattle.text.specs.Blank.{Blanks.none as no-blank}
 
 -- One line.
@@ -68,7 +84,7 @@ plain-kept [] PlainLines.none s = PlainLines.none
 plain-kept (l ∷ ls) (PlainLines.more w n p) (Short.more h s) = PlainLines.more (text-kept l w) (inside-kept l h n) (plain-kept ls p s)
 
 -- they are lines of the same set
-pub set-kept : {s : Set} (ls : List (List ℕ)) → SetLines s (columnsOf ls) → Short (columnsOf ls) → SetLines s (map keptOf ls)
+set-kept : {s : Set} (ls : List (List ℕ)) → SetLines s (columnsOf ls) → Short (columnsOf ls) → SetLines s (map keptOf ls)
 set-kept ls (SetLines.typed e l) s = SetLines.typed e (typed-kept ls l s)
 set-kept ls (SetLines.plain e l) s = SetLines.plain e (plain-kept ls l s)
 
@@ -77,10 +93,38 @@ pub body-trimmed : (ls : List (List ℕ)) → Trimmed (map keptOf ls)
 body-trimmed [] = Trimmed.none
 body-trimmed (l ∷ ls) = Trimmed.more (unpadded-text (kept-in l)) (body-trimmed ls)
 
+-- Lines of which the last is cut.
+
+-- what is kept of a fair line that is cut
+kept-cut : (k : ℕ) (l : List ℕ) → Fair l → keptOf (take k l) ≡ trimmed (take k (columns true l))
+unfolding keptOf
+kept-cut k l f = ap trimmed (cut-columns k l f)
+
+kept-few : (k : ℕ) (l : List ℕ) → length (keptOf (take k l)) ≤ k
+kept-few k l = omega (arith, keptOf-most (take k l), length-take k l)
+
+-- it ends with the last column that counts at the latest
+pub body-ends : (k : ℕ) (ls : List (List ℕ)) → EndsBy k (map keptOf (cutLast k ls))
+unfolding cutLast
+body-ends k [] = EndsBy.none
+body-ends k (l ∷ []) = EndsBy.last (kept-few k l)
+body-ends k (l ∷ m ∷ []) = EndsBy.more (body-ends k (m ∷ []))
+body-ends k (l ∷ m ∷ n ∷ ls) = EndsBy.more (body-ends k (m ∷ n ∷ ls))
+
 -- it is spelled the same
-pub body-same : (ls : List (List ℕ)) → SameLines (columnsOf ls) (map keptOf ls)
-body-same [] = SameLines.none
-body-same (l ∷ ls) = SameLines.more (kept-in l) (text-alone (unpadded-text (kept-in l))) (body-same ls)
+cut-same : (k : ℕ) (l : List ℕ) → Fair l → TextIn (trimmed (take k (columns true l))) (take k (keptOf (take k l)))
+cut-same k l f =
+    let whole : take k (keptOf (take k l)) ≡ keptOf (take k l) = take-all k (keptOf (take k l)) (kept-few k l) in
+    rw (whole, kept-cut k l f) (text-alone (unpadded-text (trimmed-sound (take k (columns true l)))))
+
+pub body-same : (k : ℕ) {ls : List (List ℕ)} → Inner ls → SameLines k (columnsOf ls) (map keptOf (cutLast k ls))
+unfolding cutLast
+body-same k Inner.none = SameLines.none
+body-same k (Inner.more {l} f c Inner.none) = SameLines.last (trimmed-sound (take k (columns true l))) (cut-same k l f)
+body-same k (Inner.more {l} f c (Inner.more g d Inner.none)) =
+    SameLines.more (kept-in l) (text-alone (unpadded-text (kept-in l))) (body-same k (Inner.more g d Inner.none))
+body-same k (Inner.more {l} f c (Inner.more g d (Inner.more h e i))) =
+    SameLines.more (kept-in l) (text-alone (unpadded-text (kept-in l))) (body-same k (Inner.more g d (Inner.more h e i)))
 
 -- and no other lines are both
 line-only : {t cs : List ℕ} (l : List ℕ) → TextIn t (columns true l) → TextIn t cs → Unpadded cs → cs ≡ keptOf l
@@ -90,11 +134,78 @@ line-only {t} {cs} l x y u =
     let r : trimmed cs ≡ cs = trimmed-complete (text-alone u) in
     cc
 
-pub body-only : (ls : List (List ℕ)) {css : List (List ℕ)} → SameLines (columnsOf ls) css → Trimmed css → css ≡ map keptOf ls
-body-only [] SameLines.none b = refl
-body-only (l ∷ ls) (SameLines.more x y s) (Trimmed.more u b) = rw (line-only l x y u, body-only ls s b) refl
+last-only : {t cs : List ℕ} (k : ℕ) (l : List ℕ) → Fair l → TextIn t (take k (columns true l)) → TextIn t (take k cs) → Unpadded cs → length cs ≤ k
+    → cs ≡ keptOf (take k l)
+last-only {t} {cs} k l f x y u h =
+    let p : keptOf (take k l) ≡ t = kept-cut k l f ∙ trimmed-complete x in
+    let w : take k cs ≡ cs = take-all k cs h in
+    let q : trimmed cs ≡ t = ap trimmed (sym w) ∙ trimmed-complete y in
+    let r : trimmed cs ≡ cs = trimmed-complete (text-alone u) in
+    cc
+
+pub body-only : (k : ℕ) {ls css : List (List ℕ)} → Inner ls → SameLines k (columnsOf ls) css → Trimmed css → EndsBy k css → css ≡ map keptOf (cutLast k ls)
+unfolding cutLast
+body-only k Inner.none SameLines.none b e = refl
+body-only k (Inner.more {l} f c Inner.none) (SameLines.last x y) (Trimmed.more u b) (EndsBy.last h) = rw (last-only k l f x y u h) refl
+body-only k (Inner.more {l} f c (Inner.more g d i)) (SameLines.more x y s) (Trimmed.more u b) (EndsBy.more e) =
+    rw (line-only l x y u, body-only k (Inner.more g d i) s b e) refl
 
 -- lines are spelled as themselves
-pub lines-same : (css : List (List ℕ)) → SameLines css css
-lines-same [] = SameLines.none
-lines-same (cs ∷ css) = SameLines.more (trimmed-sound cs) (trimmed-sound cs) (lines-same css)
+pub lines-same : (k : ℕ) (css : List (List ℕ)) → SameLines k css css
+lines-same k [] = SameLines.none
+lines-same k (cs ∷ []) = SameLines.last (trimmed-sound (take k cs)) (trimmed-sound (take k cs))
+lines-same k (cs ∷ ds ∷ css) = SameLines.more (trimmed-sound cs) (trimmed-sound cs) (lines-same k (ds ∷ css))
+
+-- The lines of a set without padding.
+
+-- they are those of which the last is cut to the columns that count
+whole-line : (l : List ℕ) → Fair l → keptOf (take 80 l) ≡ keptOf l
+unfolding keptOf
+whole-line l f = ap trimmed (cut-columns 80 l f ∙ take-all 80 (columns true l) (f .short))
+
+whole-cut : {ls : List (List ℕ)} → Inner ls → map keptOf (cutLast 80 ls) ≡ map keptOf ls
+unfolding cutLast
+whole-cut Inner.none = refl
+whole-cut (Inner.more {l} f c Inner.none) = rw (whole-line l f) refl
+whole-cut (Inner.more {l} f c (Inner.more g d i)) = ap (_∷_ (keptOf l)) (whole-cut (Inner.more g d i))
+
+stored-58 : (s : Set) → eqb (storedCount s) 0 ≡ false → s .number ≡ 58
+unfolding storedCount declared
+stored-58 s h = by (eqb (s .number) 58) refl h
+  where
+    by : (t : Bool) → eqb (s .number) 58 ≡ t → eqb (pick t (countBy (seventhOf s)) 0 * numbersOf (setCase s)) 0 ≡ false → s .number ≡ 58
+    by true e g = eqb-true (s .number) 58 e
+    by false e g = false-not-true (sym g ∙ rw (zero-mul (numbersOf (setCase s))) refl)
+
+pub unpadded-cut : {s : Set} {p : Part} → Holds s p → Inner (p .body) → map keptOf (unpadded p) ≡ map keptOf (cutLast (countedColumns s) (p .body))
+unfolding unpadded countedColumns
+unpadded-cut {s} {p} h i = rw (stored-held h) (by (eqb (storedCount s) 0) refl)
+  where
+    by : (t : Bool) → eqb (storedCount s) 0 ≡ t
+        → map keptOf (pick t (p .body) (cutLast (countedPast (partCase p) (storedCount s)) (p .body)))
+        ≡ map keptOf (cutLast (pick t 80 (countedPast (setCase s) (storedCount s))) (p .body))
+    by true e = sym (whole-cut i)
+    by false e = rw (case-held h (stored-58 s e)) refl
+
+-- fair ones
+inner-fair : {ls : List (List ℕ)} → Inner ls → FairLines ls
+inner-fair Inner.none = FairLines.none
+inner-fair (Inner.more f c i) = FairLines.more f (inner-fair i)
+
+cut-fair-lines : (k : ℕ) {ls : List (List ℕ)} → Inner ls → FairLines (cutLast k ls)
+unfolding cutLast
+cut-fair-lines k Inner.none = FairLines.none
+cut-fair-lines k (Inner.more {l} f c Inner.none) = FairLines.more (cut-fair k l f) FairLines.none
+cut-fair-lines k (Inner.more f c (Inner.more g d i)) = FairLines.more f (cut-fair-lines k (Inner.more g d i))
+
+pub unpadded-fair : (p : Part) → Inner (p .body) → FairLines (unpadded p)
+unfolding unpadded
+unpadded-fair p i = by (eqb (storedOf p) 0)
+  where
+    by : (t : Bool) → FairLines (pick t (p .body) (cutLast (countedPast (partCase p) (storedOf p)) (p .body)))
+    by true = inner-fair i
+    by false = cut-fair-lines (countedPast (partCase p) (storedOf p)) i
+
+-- lines of the same set
+pub lines-kept : {s : Set} {p : Part} → Holds s p → Inner (p .body) → SetLines s (map keptOf (unpadded p))
+lines-kept h i = ?

@@ -2,7 +2,7 @@
 use mathlib.Core.List.{List, [], _∷_, map}
 use Prim.Native.Nat.{ℕ}
 use Rattle.parts.specs.Parts.{Part}
-use Rattle.rewriter.specs.Rewriter.{keptOf}
+use Rattle.rewriter.specs.Rewriter.{keptOf, unpadded}
 use Rattle.theory.specs.Sets.{Set}
 use Rattle.parts_laws.specs.Holds.{columnsOf}
 use Rattle.rewriter_laws.specs.Form.{PlainSets}
@@ -12,9 +12,9 @@ abbrev pub bodyOf : Part → List (List ℕ)
 bodyOf p = columnsOf (p .body)
 
 abbrev pub keptIn : Part → List (List ℕ)
-keptIn p = map keptOf (p .body)
+keptIn p = map keptOf (unpadded p)
 
 -- the own lines of sets in rewritten form
 abbrev pub bodiesOf : {ss : List Set} {css : List (List ℕ)} → PlainSets ss css → List (List (List ℕ))
 bodiesOf PlainSets.none = []
-bodiesOf (PlainSets.more number body after p n d t w) = body ∷ bodiesOf w
+bodiesOf (PlainSets.more number body after p n d t e w) = body ∷ bodiesOf w

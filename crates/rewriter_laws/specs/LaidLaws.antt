@@ -16,17 +16,17 @@ use Rattle.line_laws.specs.Ends.{joined}
 use Rattle.parts.specs.Parts.{bytesIn, Part, datasetOf}
 use Rattle.parts.specs.PartsLaws.{bytesIn-append}
 use Rattle.parts_laws.specs.Holds.{columnsOf, Holds, AtPlaces}
-use Rattle.rewriter.specs.Rewriter.{plainNumber, keptOf, linesText, headText, setText, rewrittenSet, rewritten}
-use Rattle.rewriter.specs.BodyLaws.{linesText-most}
+use Rattle.rewriter.specs.Rewriter.{plainNumber, keptOf, linesText, headText, unpadded, setText, rewrittenSet, rewritten}
+use Rattle.rewriter.specs.BodyLaws.{linesText-most, unpadded-most}
 use Rattle.rewriter.specs.PutLaws.{plainNumber-length, setText-length}
 use Rattle.rewriter.specs.PlainLaws.{plainNumber-allowed}
-use Rattle.rewriter.specs.Fair.{Inner, FairSets, laid, plainDelimiter}
+use Rattle.rewriter.specs.Fair.{FairLines, Inner, FairSets, laid, plainDelimiter}
 use Rattle.rewriter.specs.RewriterLaws.{kept-allowed}
-use Rattle.rewriter_laws.specs.Form.{Plainly, PlainSets, LfEnded, Own, SameSets}
+use Rattle.rewriter_laws.specs.Form.{Plainly, countedColumns, PlainSets, LfEnded, Own, SameSets}
 use Rattle.line_laws.specs.NoDelimiter.{NoDelimiter}
 use Rattle.line_laws.specs.NoDelimiterLaws.{set-none}
 use Rattle.rewriter_laws.specs.NumberLaws.{plainNumber-plainly, plainNumber-line, plainNumber-only, delimiter-six, number-six}
-use Rattle.rewriter_laws.specs.KeptLaws.{kept-most, set-kept, body-trimmed, body-same, body-only, lines-same}
+use Rattle.rewriter_laws.specs.KeptLaws.{kept-most, body-trimmed, body-ends, body-same, body-only, lines-same, unpadded-cut, unpadded-fair, lines-kept}
 use Rattle.rewriter_laws.specs.Laid.{bodyOf, keptIn, bodiesOf}
 
 -- The text is its lines, each with an LF.
@@ -48,7 +48,7 @@ lines-joined (l ∷ ls) rest = ap (λ (x : List ℕ). keptOf l ++ (10 ∷ x)) (l
 pub laid-joined : (ps : List Part) → rewritten ps ≡ joined (laid ps) []
 unfolding rewritten rewrittenSet setText headText laid joined
 laid-joined [] = refl
-laid-joined (p ∷ ps) = rw (lines-joined (p .body) (plainDelimiter ∷ laid ps), ← laid-joined ps) (simp append-assoc)
+laid-joined (p ∷ ps) = rw (lines-joined (unpadded p) (plainDelimiter ∷ laid ps), ← laid-joined ps) (simp append-assoc)
 
 -- The lines keep the rules on bytes and columns.
 
@@ -58,10 +58,10 @@ delimiter-allowed = blank-byte (blank-byte (blank-byte (blank-byte (byte {b = 45
     blank-byte : {bs : List ℕ} → Allowed bs → Allowed (32 ∷ bs)
     blank-byte a = byte {b = 32} (omega arith) (omega arith) a
 
-body-ended : {ls rest : List (List ℕ)} → Inner ls → LfEnded rest (joined rest []) → LfEnded (map keptOf ls ++ rest) (joined (map keptOf ls ++ rest) [])
+body-ended : {ls rest : List (List ℕ)} → FairLines ls → LfEnded rest (joined rest []) → LfEnded (map keptOf ls ++ rest) (joined (map keptOf ls ++ rest) [])
 unfolding joined
-body-ended Inner.none e = e
-body-ended (Inner.more {l} f c i) e = LfEnded.more (keptOf l) _ (kept-allowed l f) (kept-most l (f .short)) (body-ended i e)
+body-ended FairLines.none e = e
+body-ended (FairLines.more {l} f i) e = LfEnded.more (keptOf l) _ (kept-allowed l f) (kept-most l (f .short)) (body-ended i e)
 
 pub laid-ended : {ps : List Part} → FairSets ps → LfEnded (laid ps) (joined (laid ps) [])
 unfolding laid joined
@@ -69,7 +69,7 @@ laid-ended FairSets.none = LfEnded.none
 laid-ended (FairSets.more {p} i s) =
     LfEnded.more plainDelimiter _ delimiter-allowed (omega arith)
     (LfEnded.more (plainNumber (datasetOf p)) _ (plainNumber-allowed (datasetOf p)) (omega (arith, plainNumber-length (datasetOf p)))
-    (body-ended i (LfEnded.more plainDelimiter _ delimiter-allowed (omega arith) (laid-ended s))))
+    (body-ended (unpadded-fair p i) (LfEnded.more plainDelimiter _ delimiter-allowed (omega arith) (laid-ended s))))
 
 -- One set.
 
@@ -96,8 +96,8 @@ module _ {s : Set} {p : Part} (h : Holds s p) where
   held-plainly = let b = number-bounds (h .number) in rw held-number (plainNumber-plainly (s .number) (b .0) (b .1))
 
   -- its lines
-  held-none : NoDelimiter (map keptOf (p .body))
-  held-none = set-none (set-kept (p .body) (h .lines) (h .short))
+  held-none : Inner (p .body) → NoDelimiter (keptIn p)
+  held-none i = set-none (lines-kept h i)
 
   -- it is no longer than it was
   held-short : length (rewrittenSet p) ≤ bytesIn (p .opening ∷ p .number ∷ (p .body ++ (p .closing ∷ [])))
@@ -106,7 +106,7 @@ module _ {s : Set} {p : Part} (h : Holds s p) where
       let o : 6 ≤ length (p .opening) = columns-six (p .opening) (delimiter-six _ (h .opening)) in
       let v : 6 ≤ length (p .number) = columns-six (p .number) (number-six _ (h .number)) in
       let c : 6 ≤ length (p .closing) = columns-six (p .closing) (delimiter-six _ (h .closing)) in
-      rw (setText-length, bytesIn-append (p .body) _) (omega (arith, linesText-most (p .body)))
+      rw (setText-length, bytesIn-append (p .body) _) (omega (arith, linesText-most (unpadded p), unpadded-most p))
 
 -- The sets of a list, as they stand in a text.
 
@@ -125,31 +125,33 @@ stand-own (AtPlaces.more {p = p} {ps = ps} before after b i j h w) =
     b (h .opening) (set-none (h .lines)) (h .closing) (stand-own w))
 
 -- what they are laid out as: lines of the same list
-pub laid-lines : {n at : ℕ} {ss : List Set} {ps : List Part} {ls : List (List ℕ)} → AtPlaces n at ss ps ls → Lines ss (laid ps)
+pub laid-lines : {n at : ℕ} {ss : List Set} {ps : List Part} {ls : List (List ℕ)} → AtPlaces n at ss ps ls → FairSets ps → Lines ss (laid ps)
 unfolding laid
-laid-lines (AtPlaces.end b) = Lines.end BlankLines.none
-laid-lines (AtPlaces.more {p = p} {ps = ps} before after b i j h w) =
+laid-lines (AtPlaces.end b) FairSets.none = Lines.end BlankLines.none
+laid-lines (AtPlaces.more {p = p} {ps = ps} before after b i j h w) (FairSets.more f g) =
     Lines.more plainDelimiter (plainNumber (datasetOf p)) plainDelimiter [] (keptIn p) (laid ps)
-    BlankLines.none delimiter-filled (held-line h) (set-kept (p .body) (h .lines) (h .short)) delimiter-filled (laid-lines w)
+    BlankLines.none delimiter-filled (held-line h) (lines-kept h f) delimiter-filled (laid-lines w g)
 
 -- in rewritten form
-pub laid-plain : {n at : ℕ} {ss : List Set} {ps : List Part} {ls : List (List ℕ)} → AtPlaces n at ss ps ls → PlainSets ss (laid ps)
+pub laid-plain : {n at : ℕ} {ss : List Set} {ps : List Part} {ls : List (List ℕ)} → AtPlaces n at ss ps ls → FairSets ps → PlainSets ss (laid ps)
 unfolding laid
-laid-plain (AtPlaces.end b) = PlainSets.none
-laid-plain (AtPlaces.more {p = p} {ps = ps} before after b i j h w) =
-    PlainSets.more (plainNumber (datasetOf p)) (keptIn p) (laid ps) (held-plainly h) (plainNumber-length (datasetOf p)) (held-none h) (body-trimmed (p .body)) (laid-plain w)
+laid-plain (AtPlaces.end b) FairSets.none = PlainSets.none
+laid-plain (AtPlaces.more {s = s} {p = p} {ps = ps} before after b i j h w) (FairSets.more f g) =
+    PlainSets.more (plainNumber (datasetOf p)) (keptIn p) (laid ps) (held-plainly h) (plainNumber-length (datasetOf p)) (held-none h f) (body-trimmed (unpadded p))
+    (rw (unpadded-cut h f) (body-ends (countedColumns s) (p .body))) (laid-plain w g)
 
 -- with these own lines
-pub laid-own : {n at : ℕ} {ss : List Set} {ps : List Part} {ls : List (List ℕ)} → AtPlaces n at ss ps ls → Own (map keptIn ps) (laid ps)
+pub laid-own : {n at : ℕ} {ss : List Set} {ps : List Part} {ls : List (List ℕ)} → AtPlaces n at ss ps ls → FairSets ps → Own (map keptIn ps) (laid ps)
 unfolding laid
-laid-own (AtPlaces.end b) = Own.end BlankLines.none
-laid-own (AtPlaces.more {p = p} {ps = ps} before after b i j h w) =
-    Own.more plainDelimiter (plainNumber (datasetOf p)) plainDelimiter [] (keptIn p) (laid ps) BlankLines.none delimiter-filled (held-none h) delimiter-filled (laid-own w)
+laid-own (AtPlaces.end b) FairSets.none = Own.end BlankLines.none
+laid-own (AtPlaces.more {p = p} {ps = ps} before after b i j h w) (FairSets.more f g) =
+    Own.more plainDelimiter (plainNumber (datasetOf p)) plainDelimiter [] (keptIn p) (laid ps) BlankLines.none delimiter-filled (held-none h f) delimiter-filled (laid-own w g)
 
 -- spelled the same
-pub kept-same : (ps : List Part) → SameSets (map bodyOf ps) (map keptIn ps)
-kept-same [] = SameSets.none
-kept-same (p ∷ ps) = SameSets.more (body-same (p .body)) (kept-same ps)
+pub kept-same : {n at : ℕ} {ss : List Set} {ps : List Part} {ls : List (List ℕ)} → AtPlaces n at ss ps ls → FairSets ps → SameSets ss (map bodyOf ps) (map keptIn ps)
+kept-same (AtPlaces.end b) FairSets.none = SameSets.none
+kept-same (AtPlaces.more {s = s} {p = p} before after b i j h w) (FairSets.more f g) =
+    SameSets.more {s = s} {a = bodyOf p} {b = keptIn p} (rw (unpadded-cut h f) (body-same (countedColumns s) f)) (kept-same w g)
 
 -- no longer than the text
 pub laid-short : {n at : ℕ} {ss : List Set} {ps : List Part} {ls : List (List ℕ)} → AtPlaces n at ss ps ls → length (rewritten ps) ≤ bytesIn ls
@@ -161,21 +163,21 @@ laid-short (AtPlaces.more {p = p} {ps = ps} before after b i j h w) =
 -- Lines in rewritten form of the same list, spelled the same, are the lines laid out.
 
 -- the own lines of sets are spelled as themselves
-pub sets-same : (bodies : List (List (List ℕ))) → SameSets bodies bodies
-sets-same [] = SameSets.none
-sets-same (b ∷ bodies) = SameSets.more (lines-same b) (sets-same bodies)
+pub sets-same : {n at : ℕ} {ss : List Set} {ps : List Part} {ls : List (List ℕ)} → AtPlaces n at ss ps ls → SameSets ss (map bodyOf ps) (map bodyOf ps)
+sets-same (AtPlaces.end b) = SameSets.none
+sets-same (AtPlaces.more {s = s} {p = p} before after b i j h w) = SameSets.more (lines-same (countedColumns s) (bodyOf p)) (sets-same w)
 
 pub plain-own : {ss : List Set} {css : List (List ℕ)} (w : PlainSets ss css) → Own (bodiesOf w) css
 plain-own PlainSets.none = Own.end BlankLines.none
-plain-own (PlainSets.more number body after p n d t w) = Own.more plainDelimiter number plainDelimiter [] body after BlankLines.none delimiter-filled d delimiter-filled (plain-own w)
+plain-own (PlainSets.more number body after p n d t e w) = Own.more plainDelimiter number plainDelimiter [] body after BlankLines.none delimiter-filled d delimiter-filled (plain-own w)
 
 -- set by set
-pub plain-only : {n at : ℕ} {ss : List Set} {ps : List Part} {ls css : List (List ℕ)} → AtPlaces n at ss ps ls → (w : PlainSets ss css)
-    → SameSets (map bodyOf ps) (bodiesOf w) → css ≡ laid ps
+pub plain-only : {n at : ℕ} {ss : List Set} {ps : List Part} {ls css : List (List ℕ)} → AtPlaces n at ss ps ls → FairSets ps → (w : PlainSets ss css)
+    → SameSets ss (map bodyOf ps) (bodiesOf w) → css ≡ laid ps
 unfolding laid
-plain-only (AtPlaces.end b) PlainSets.none SameSets.none = refl
-plain-only (AtPlaces.more {p = p} {ps = ps} before after b i j h w) (PlainSets.more number body later k n d t v) (SameSets.more x y) =
+plain-only (AtPlaces.end b) FairSets.none PlainSets.none SameSets.none = refl
+plain-only (AtPlaces.more {s = s} {p = p} {ps = ps} before after b i j h w) (FairSets.more q r) (PlainSets.more number body later k n d t z v) (SameSets.more x y) =
     let e : number ≡ plainNumber (datasetOf p) = plainNumber-only k n ∙ ap plainNumber (sym (held-number h)) in
-    let f : body ≡ map keptOf (p .body) = body-only (p .body) x t in
-    let g : later ≡ laid ps = plain-only w v y in
+    let f : body ≡ keptIn p = body-only (countedColumns s) q x t z ∙ sym (unpadded-cut h q) in
+    let g : later ≡ laid ps = plain-only w r v y in
     rw (e, f, g) refl

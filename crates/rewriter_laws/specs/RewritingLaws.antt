@@ -15,7 +15,7 @@ use Rattle.parts.specs.PartsLaws.{lines-past}
 use Rattle.parts_laws.specs.Holds.{AtPlaces}
 use Rattle.parts_laws.specs.HoldsLaws.{lines-stand}
 use Rattle.rewriter.specs.Rewriter.{rewrittenFile}
-use Rattle.rewriter.specs.Fair.{FairLines, laid}
+use Rattle.rewriter.specs.Fair.{FairLines, FairSets, laid}
 use Rattle.rewriter.specs.RewriterLaws.{fair-passed, file-fair}
 use Rattle.rewriter_laws.specs.Form.{InForm, LfEnded, OwnLines, SameSets, KeepsSpellings}
 use Rattle.rewriter_laws.specs.OwnLaws.{own-only}
@@ -41,9 +41,13 @@ module _ {sets : List Set} {bytes : List ℕ} (p : Proper sets bytes) where
   proper-own : OwnLines (map bodyOf (partsOf bytes)) bytes
   proper-own = record { columns = p .columns; ends = p .ends; own = rw (ended-complete (p .ends) .same) at (stand-own proper-stand) }
 
+  -- fair ones
+  proper-fair : FairSets (partsOf bytes)
+  proper-fair = file-fair bytes (pass-fair (ended-complete (p .ends) .pass))
+
   -- the lines that they are laid out in
   rewritten-ends : LfEnded (laid (partsOf bytes)) (rewrittenFile bytes)
-  rewritten-ends = rw (laid-joined (partsOf bytes)) (laid-ended (file-fair bytes (pass-fair (ended-complete (p .ends) .pass))))
+  rewritten-ends = rw (laid-joined (partsOf bytes)) (laid-ended proper-fair)
 
   -- what a proper writing is rewritten to is no longer
   pub rewritten-short : length (rewrittenFile bytes) ≤ length bytes
@@ -54,7 +58,7 @@ module _ {sets : List Set} {bytes : List ℕ} (p : Proper sets bytes) where
   rewritten-proper = record {
     columns = laid (partsOf bytes);
     ends = lf-ended rewritten-ends;
-    lines = laid-lines proper-stand;
+    lines = laid-lines proper-stand proper-fair;
     some = p .some;
     most = p .most;
     short = omega (arith, p .short, rewritten-short);
@@ -62,28 +66,28 @@ module _ {sets : List Set} {bytes : List ℕ} (p : Proper sets bytes) where
 
   -- FORM: it is in rewritten form.
   pub rewritten-form : InForm sets (rewrittenFile bytes)
-  rewritten-form = record { columns = laid (partsOf bytes); ends = rewritten-ends; plain = laid-plain proper-stand }
+  rewritten-form = record { columns = laid (partsOf bytes); ends = rewritten-ends; plain = laid-plain proper-stand proper-fair }
 
   -- SPELLINGS: it keeps the file's spellings.
-  pub rewritten-keeps : KeepsSpellings bytes (rewrittenFile bytes)
+  pub rewritten-keeps : KeepsSpellings sets bytes (rewrittenFile bytes)
   rewritten-keeps = record {
     before = map bodyOf (partsOf bytes);
     after = map keptIn (partsOf bytes);
     in-old = proper-own;
-    in-new = record { columns = laid (partsOf bytes); ends = lf-ended rewritten-ends; own = laid-own proper-stand };
-    same = kept-same (partsOf bytes);
+    in-new = record { columns = laid (partsOf bytes); ends = lf-ended rewritten-ends; own = laid-own proper-stand proper-fair };
+    same = kept-same proper-stand proper-fair;
   }
 
   -- ONLY: no other text is both.
-  pub rewritten-only : (new : List ℕ) → InForm sets new → KeepsSpellings bytes new → new ≡ rewrittenFile bytes
+  pub rewritten-only : (new : List ℕ) → InForm sets new → KeepsSpellings sets bytes new → new ≡ rewrittenFile bytes
   rewritten-only new f k =
       let a : k .before ≡ map bodyOf (partsOf bytes) = own-only (k .in-old) proper-own in
       let b : k .after ≡ bodiesOf (f .plain) = own-only (k .in-new) (record { columns = f .columns; ends = lf-ended (f .ends); own = plain-own (f .plain) }) in
-      let s : SameSets (map bodyOf (partsOf bytes)) (bodiesOf (f .plain)) = rw (a, b) at (k .same) in
-      lf-joined (f .ends) ∙ ap (λ (x : List (List ℕ)). joined x []) (plain-only proper-stand (f .plain) s) ∙ sym (laid-joined (partsOf bytes))
+      let s : SameSets sets (map bodyOf (partsOf bytes)) (bodiesOf (f .plain)) = rw (a, b) at (k .same) in
+      lf-joined (f .ends) ∙ ap (λ (x : List (List ℕ)). joined x []) (plain-only proper-stand proper-fair (f .plain) s) ∙ sym (laid-joined (partsOf bytes))
 
   -- SAME: a proper writing in rewritten form is rewritten to itself.
   pub rewritten-same : InForm sets bytes → rewrittenFile bytes ≡ bytes
   rewritten-same f =
       let b : List (List (List ℕ)) = map bodyOf (partsOf bytes) in
-      sym (rewritten-only bytes f (record { before = b; after = b; in-old = proper-own; in-new = proper-own; same = sets-same b }))
+      sym (rewritten-only bytes f (record { before = b; after = b; in-old = proper-own; in-new = proper-own; same = sets-same proper-stand }))
