@@ -117,7 +117,7 @@ fn example() -> Fixed {
     Fixed {
         name: "example",
         file: EXAMPLE.to_string(),
-        rows: vec![[1, 164, 0, 0, 164, 0], [7, 58, 7, 164, 672, 572]],
+        rows: vec![[1, 164, 0, 0, 164, 0, 0], [7, 58, 7, 164, 672, 572, 0]],
         numbers: vec![
             (2, 0, typed(572, 585, false, 100_000)),
             (2, 1, typed(585, 598, true, 200_000)),
@@ -168,7 +168,7 @@ fn example_untidy() -> Fixed {
     file += "\n \r\n";
     // Two lines more than in the example stand before each line.
     let at = |line| begins(&file, line);
-    let rows = vec![[3, 164, 0, at(3), at(9), 0], [9, 58, 7, at(9), at(25), at(22)]];
+    let rows = vec![[3, 164, 0, at(3), at(9), 0, 0], [9, 58, 7, at(9), at(25), at(22), 0]];
     let numbers = vec![
         (2, 0, number(&file, (22, 1, 13), false, 100_000, -6)),
         (2, 1, number(&file, (22, 14, 26), true, 200_000, -6)),
@@ -217,7 +217,7 @@ fn alone(
 ) -> Fixed {
     Fixed {
         name,
-        rows: vec![[1, 58, count, 0, file.len() as u32, begins(&file, 14)]],
+        rows: vec![[1, 58, count, 0, file.len() as u32, begins(&file, 14), 0]],
         numbers: numbers.into_iter().map(|(index, number)| (1, index, number)).collect(),
         values: values.into_iter().map(|(index, value)| (1, index, value)).collect(),
         all_values: vec![(1, all_values), (0, Err(18)), (2, Err(18))],
@@ -623,7 +623,7 @@ fn untidy_without_letter() -> Fixed {
     ];
     Fixed {
         name: "untidy, without a letter",
-        rows: vec![[1, 164, 0, 0, at(7), 0], [7, 58, 1, at(7), at(22), at(20)]],
+        rows: vec![[1, 164, 0, 0, at(7), 0, 0], [7, 58, 1, at(7), at(22), at(20), 0]],
         numbers,
         values: vec![(2, 0, Err(21)), (2, 1, Err(18)), (1, 0, Err(18))],
         all_values: vec![(1, Err(18)), (2, Err(21)), (3, Err(18))],
@@ -663,7 +663,7 @@ fn plain_sets() -> Fixed {
     Fixed {
         name: "plain sets",
         file: file.to_string(),
-        rows: vec![[3, 1, 0, 6, 27, 0], [7, 15, 0, 28, 68, 0]],
+        rows: vec![[3, 1, 0, 6, 27, 0, 0], [7, 15, 0, 28, 68, 0, 0]],
         numbers: vec![(0, 0, Err(18)), (1, 0, Err(18)), (2, 0, Err(18)), (3, 0, Err(18))],
         values: vec![(0, 0, Err(18)), (1, 0, Err(18)), (2, 0, Err(18)), (3, 0, Err(18))],
         all_values: vec![(0, Err(18)), (1, Err(18)), (2, Err(18)), (3, Err(18))],
@@ -775,10 +775,10 @@ fn messy() -> Fixed {
         name: "messy",
         file: file.to_string(),
         rows: vec![
-            [3, 151, 0, at(3), at(13), 0],
-            [14, 58, 2, at(14), at(29), at(27)],
-            [29, 82, 0, at(29), at(36), 0],
-            [36, 999_999, 0, at(36), at(42), 0],
+            [3, 151, 0, at(3), at(13), 0, 0],
+            [14, 58, 2, at(14), at(29), at(27), 0],
+            [29, 82, 0, at(29), at(36), 0, 0],
+            [36, 999_999, 0, at(36), at(42), 0, 0],
         ],
         numbers,
         values: vec![
