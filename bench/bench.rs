@@ -20,7 +20,7 @@ mod sets;
 
 use calls::ARCHIVES;
 use common::files;
-use common::uff::{self, Word, LONGEST, SETS};
+use common::uff::{self, Word, LONGEST, ROW_NUMBERS, SETS};
 use std::hint::black_box;
 use std::time::Instant;
 
@@ -117,6 +117,32 @@ fn judge_table() {
     judge_row("case 1, 1 MB", &sets::many(1, LONGEST / 16));
     judge_row("case 1, 4 MB", &sets::many(1, LONGEST / 4));
     judge_row("case 1, 16 MB again", &sets::many(1, LONGEST));
+}
+
+// Listing --------------------------------------------------------------------------------------
+
+/// The rows of an earlier archive may have fewer numbers: only those of the present one are looked at.
+fn list_row(name: &str, file: &[u8]) {
+    let mut words = [Word::accepted(0); ARCHIVES.len()];
+    let mut proved = [(); ARCHIVES.len()].map(|()| vec![1; SETS * ROW_NUMBERS]);
+    let mut plain = Vec::new();
+    let mut sides: Vec<Side> = Vec::new();
+    for ((archive, word), rows) in ARCHIVES.iter().zip(&mut words).zip(&mut proved) {
+        sides.push(Box::new(move || *word = black_box((archive.list)(black_box(file), rows))));
+    }
+    sides.push(Box::new(|| plain = black_box(reader::list(black_box(file)).unwrap_or_default())));
+    let speeds = best(file, sides);
+    check(name, !plain.is_empty() && words == [Word::accepted(plain.len() as u32); ARCHIVES.len()]);
+    check(name, proved[0][..plain.len() * ROW_NUMBERS] == plain.concat());
+    row(name, file.len(), &speeds);
+}
+
+fn list_table() {
+    heading("the lister", "file", &["Rust"]);
+    list_row("4,096 plain sets without lines", &files::empty_sets(SETS));
+    list_row("4,096 sets 82 of one entry", &sets::traces());
+    list_row("4,096 sets 58 of one value", &files::function(1, 1, 1).repeat(SETS));
+    list_row("case 1, 16 MB", &sets::many(1, LONGEST));
 }
 
 // Reading all values ---------------------------------------------------------------------------
@@ -263,6 +289,7 @@ fn main() {
         println!("built without gfortran");
     }
     judge_table();
+    list_table();
     values_tables();
     rewrite_table();
     bursts_table();

@@ -14,6 +14,7 @@ mod before {
 pub struct Archive {
     pub name: &'static str,
     pub judge: fn(&[u8]) -> Word,
+    pub list: fn(&[u8], &mut [u32]) -> Word,
     pub values: fn(&[u8], u32, &mut [f64]) -> Word,
     pub rewrite: fn(&[u8], &mut [u8]) -> Word,
     /// The end's reply for a file that comes in bursts of so many bytes.
@@ -25,6 +26,7 @@ macro_rules! archive {
         Archive {
             name: $name,
             judge: $calls::judge,
+            list: $calls::list,
             values: $calls::values,
             rewrite: $calls::rewrite,
             in_bursts: |file, length| {

@@ -19,12 +19,12 @@
 #include <stddef.h>
 #include <stdint.h>
 
-#define UFF_VERSION "3.0"
+#define UFF_VERSION "4.0"
 
 /* The most bytes that a file has, the most sets, and the numbers that the lister gives for a set. */
 #define UFF_LONGEST 16777216
 #define UFF_SETS 4096
-#define UFF_ROW_NUMBERS 6
+#define UFF_ROW_NUMBERS 7
 
 /* The bytes of an answer of uff_number, the most that uff_value gives, and the most doubles that uff_values gives. */
 #define UFF_NUMBER_BYTES 20
@@ -74,7 +74,7 @@ static inline const char *uff_text(unsigned number)
     case 14: return "minimum or increment is not zero with uneven spacing, or a factor is not above zero";
     case 15: return "the file has more than 4,096 sets";
     case 16: return "the file has no set";
-    case 17: return "fewer than six places are lent for each set";
+    case 17: return "fewer than seven places are lent for each set";
     case 18: return "there is no such set, number or value, or the set is not a 58";
     case 19: return "a number cannot be written exactly in its field";
     case 20: return "the buffer lent is too short";
@@ -99,10 +99,14 @@ extern "C" {
 uint64_t uff_judge(const uint8_t *file, size_t file_len);
 
 /*
- * The lister: six numbers for each set, one set after the other: its opening line, dataset number,
- * declared count of values, first byte, byte past its closing line, first byte of its data lines. The
- * third and sixth are 0 unless it is a 58. The answer is the number of sets. Refused as by the judge,
- * then with 17; UFF_SETS * UFF_ROW_NUMBERS places are enough for every file.
+ * The lister: seven numbers for each set, one set after the other: its opening line, dataset number,
+ * declared count of values, first byte, byte past its closing line, first byte of its data lines,
+ * padding numbers. The third, sixth and seventh are 0 unless it is a 58. The answer is the number of
+ * sets. Refused as by the judge, then with 17; UFF_SETS * UFF_ROW_NUMBERS places are enough for every
+ * file.
+ *
+ * Padding is what stands in the last data line of a 58 past the numbers that are counted: a number in
+ * every field up to the full line. No other call shows it, and the rewriter drops it.
  */
 uint64_t uff_list(const uint8_t *file, size_t file_len, uint32_t *rows, size_t rows_len);
 
@@ -135,9 +139,9 @@ uint64_t uff_value(const uint8_t *file, size_t file_len, uint32_t set, uint32_t 
 uint64_t uff_values(const uint8_t *file, size_t file_len, uint32_t set, double *out, size_t places);
 
 /*
- * The rewriter: the file with LF ends, no blanks at line ends, no lines outside sets, delimiters and
- * dataset numbers spelled plainly, and all else as it was. The answer is its length. Refused as by the
- * judge, then with 20; UFF_LONGEST bytes are enough for every file.
+ * The rewriter: the file with LF ends, no blanks at line ends, no lines outside sets, no padding,
+ * delimiters and dataset numbers spelled plainly, and all else as it was. The answer is its length.
+ * Refused as by the judge, then with 20; UFF_LONGEST bytes are enough for every file.
  */
 uint64_t uff_rewrite(const uint8_t *file, size_t file_len, uint8_t *out, size_t out_len);
 

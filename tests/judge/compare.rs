@@ -52,6 +52,9 @@ const LEAST: [(usize, u32); 17] = [
 /// So many reals of the proper files must have an exponent without a letter.
 const LEAST_WITHOUT_LETTER: u32 = 400_000;
 
+/// So many sets of the proper files must have padding.
+const LEAST_PADDED: u32 = 10_000;
+
 /// The proved judge's whole reply. An empty file is lent as null and otherwise, in turn.
 fn proved(file: &[u8]) -> Word {
     if file.is_empty() {
@@ -69,6 +72,8 @@ struct Run {
     came: [u32; 26],
     /// Exponents without a letter in the proper files.
     without_letter: u32,
+    /// Sets with padding in the proper files.
+    padded: u32,
 }
 
 impl Run {
@@ -113,6 +118,7 @@ fn take_generated(run: &mut Run) {
                 let made = generate::proper(&mut random);
                 let expected = Reply::accepted(made.lines);
                 run.without_letter += made.without_letter;
+                run.padded += made.padded;
                 run.take("proper file", &made.file, Some(expected));
             }
             // Wrong fields, lines and counts, now and then damaged on top.
@@ -165,16 +171,16 @@ fn check_outcomes(run: &Run) {
             std::process::exit(1);
         }
     }
-    println!("{} exponents without a letter in proper files", run.without_letter);
-    if run.without_letter < LEAST_WITHOUT_LETTER {
-        println!("less than {LEAST_WITHOUT_LETTER}");
+    println!("{} exponents without a letter, {} sets with padding in proper files", run.without_letter, run.padded);
+    if run.without_letter < LEAST_WITHOUT_LETTER || run.padded < LEAST_PADDED {
+        println!("less than {LEAST_WITHOUT_LETTER} or {LEAST_PADDED}");
         std::process::exit(1);
     }
 }
 
 fn main() {
     let alone = std::env::args().any(|argument| argument == "--self");
-    let mut run = Run { alone, files: 0, bytes: 0, came: [0; 26], without_letter: 0 };
+    let mut run = Run { alone, files: 0, bytes: 0, came: [0; 26], without_letter: 0, padded: 0 };
     for edge in edges::edges() {
         run.take(&edge.name, &edge.file, Some(edge.reply));
     }

@@ -2,6 +2,8 @@
 
 #[path = "columns.rs"]
 pub mod columns;
+#[path = "padding.rs"]
+pub mod padding;
 
 use crate::common::files::{empty_sets, filled, function, joined, lines, EXAMPLE};
 use crate::judge::Reply;
@@ -154,6 +156,7 @@ pub fn edges() -> Vec<Edge> {
     units(&mut list);
     orders(&mut list);
     columns::add_all(&mut list);
+    padding::add_all(&mut list);
     list.0
 }
 
@@ -532,8 +535,8 @@ fn function_data(list: &mut List) {
     list.add("data line, column 79", put(&base, 14, 79, "x"), refused(13, 14, 79));
     list.add("data line, column 80", put(&base, 14, 80, "0"), refused(13, 14, 80));
     list.add("data line, column 81", put(&base, 14, 81, " "), refused(3, 14, 1));
-    list.add("last data line, column 14", put(&base, 15, 14, "x"), refused(13, 15, 14));
-    list.add("last data line with a number more", put(&base, 15, 14, "  1.00000E-01"), refused(13, 15, 16));
+    list.add("last data line, column 14", put(&base, 15, 14, "x"), refused(12, 15, 14));
+    list.add("last data line with a number more", put(&base, 15, 14, "  1.00000E-01"), refused(25, 15, 27));
     list.add("12 before 13", put(&put(&base, 14, 66, "             "), 14, 79, "x"), refused(25, 14, 66));
     list.add("last data line filled", put(&base, 15, 80, " "), accepted(16));
     list.add("last data line empty", with(&base, 15, ""), refused(25, 15, 1));
@@ -689,7 +692,7 @@ fn fields_without_letter(list: &mut List) {
     list.add("five of E15.7 that touch", orders, accepted(30));
     let digit_past = with_fields(function(1, 6, 6), 14, &[single, single, single, single, single, single, "0"]);
     list.add("E13.5, a fourth digit past the last field", digit_past, refused(13, 14, 79));
-    list.add("the last number, a fourth digit past it", with_fields(function(1, 7, 7), 15, &[single, "0"]), refused(13, 15, 14));
+    list.add("the last number, a fourth digit past it", with_fields(function(1, 7, 7), 15, &[single, "0"]), refused(12, 15, 14));
     list.add("the last number, its third digit lost", with_fields(function(1, 7, 7), 15, &[&single[..12]]), refused(12, 15, 1));
     list.add("a letter in one field only", with_fields(function(5, 2, 2), 14, &[double, "-1.000000000000E-101"]), accepted(15));
 }
@@ -718,8 +721,8 @@ fn lost_captures(list: &mut List) {
     list.add("lost: one value", function(1, 13, 12), refused(7, 16, 1));
     // Declares 12, holds 11: the last line has five of its six fields.
     list.add("lost: one value of a line", function(1, 12, 11), refused(25, 15, 66));
-    // Declares 11, holds 12: the sixth field is not due.
-    list.add("one value more", function(1, 11, 12), refused(13, 15, 68));
+    // Declares 11, holds 12: the sixth field is padding.
+    list.add("one value more", function(1, 11, 12), accepted(16));
     list.add("one line more", function(1, 6, 12), refused(8, 15, 1));
     // The next set follows a lost one.
     let two = [first(&early, 15), function(1, 1, 1)].concat();

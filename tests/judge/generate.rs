@@ -1,7 +1,7 @@
 //! A deterministic generator of test files for the two judges.
 //!
-//! `proper` writes a random list of sets in random spellings; both judges must accept the result.
-//! `faulty` does the same but now and then writes a wrong field, a wrong line or a wrong count.
+//! `proper` writes a random list of sets in random spellings, some with padding; both judges must accept the result.
+//! `faulty` does the same but now and then writes a wrong field, a wrong line, a wrong count or padding with holes.
 //! `damage` changes the bytes of a finished file: bytes, lines, line ends, columns, exponents, length.
 //! `arbitrary` gives strings of bytes that are a file by chance only, `long_line` one line with bad
 //! bytes in any column.
@@ -41,12 +41,13 @@ impl Random {
     }
 }
 
-/// A generated file, the number of its lines (right for proper files only) and of its exponents
-/// without a letter.
+/// A generated file, the number of its lines (right for proper files only), of its exponents without a
+/// letter and of its sets with padding.
 pub struct Made {
     pub file: Vec<u8>,
     pub lines: u32,
     pub without_letter: u32,
+    pub padded: u32,
 }
 
 /// What a real field has to be.
@@ -117,6 +118,7 @@ struct Pen<'a> {
     line: Vec<u8>,
     lines: u32,
     without_letter: u32,
+    padded: u32,
     /// Line ends: 0 for LF, 1 for CR LF, 2 for both in turn.
     ends: usize,
     /// Blanks at line ends: 0 for none, 1 for filled to column 80, 2 for anything.
@@ -135,6 +137,7 @@ impl<'a> Pen<'a> {
             line: Vec::with_capacity(128),
             lines: 0,
             without_letter: 0,
+            padded: 0,
             ends,
             filled,
             faults,
@@ -142,7 +145,7 @@ impl<'a> Pen<'a> {
     }
 
     fn made(self) -> Made {
-        Made { file: self.out, lines: self.lines, without_letter: self.without_letter }
+        Made { file: self.out, lines: self.lines, without_letter: self.without_letter, padded: self.padded }
     }
 
     /// Is the next thing to be wrong?
@@ -654,7 +657,33 @@ impl<'a> Pen<'a> {
             }
             self.end();
         }
-        self.reals(widths, count * numbers);
+        self.data(widths, count * numbers);
+    }
+
+    /// The data lines of a 58: stored numbers, and in the last line padding now and then (request C-13).
+    fn data(&mut self, widths: &[usize], stored: usize) {
+        for n in 0..stored {
+            self.real(widths[n % widths.len()], Kind::Any);
+            if n + 1 == stored && self.random.one_in(3) {
+                self.padding(&widths[n % widths.len() + 1..]);
+            }
+            if (n + 1) % widths.len() == 0 || n + 1 == stored {
+                self.end();
+            }
+        }
+    }
+
+    /// Numbers in all the fields of a remainder, or, as a fault, in some of them.
+    fn padding(&mut self, remainder: &[usize]) {
+        self.padded += u32::from(!remainder.is_empty());
+        let holes = self.wrong() || self.wrong();
+        for &width in remainder {
+            if holes && self.random.one_in(2) {
+                self.blanks(width);
+            } else {
+                self.real(width, Kind::Any);
+            }
+        }
     }
 
     /// Lines of reals, the last holding what is left.

@@ -1,7 +1,7 @@
 //! A plain, strict judge of Universal Files: the second opinion.
 //!
-//! It was written from the papers alone (document 01, the source documents it names and requests C-12
-//! and C-14 of document 02, with the readings settled for them) and shares nothing with the proved
+//! It was written from the papers alone (document 01, the source documents it names and requests C-12,
+//! C-13 and C-14 of document 02, with the readings settled for them) and shares nothing with the proved
 //! judge, so that each can be held against the other. It answers refusals 0 to 16, 24 and 25 with their
 //! places as document 01's table says and their columns as C-14 does. Safe Rust, standard library only,
 //! nothing allocated; every line is looked at once, in order, and the first bad line decides.
@@ -260,8 +260,10 @@ enum Due {
     Head58(u32),
     /// 58: one of the lines 8 to 11; the case and the stored numbers are known.
     Axis58(u32, &'static [usize], u32),
-    /// Reals to come, so many, in fields of these widths; after them so many more of the same
-    /// kind, which start on a line of their own (1815's second list).
+    /// 58: stored numbers to come, so many, in lines of fields of these widths.
+    Data58(&'static [usize], u32),
+    /// 1815: reals to come, so many, in fields of these widths; after them so many more of the same
+    /// kind, which start on a line of their own (the second list).
     Reals(&'static [usize], u32, u32),
     /// 82: lines 1 and 2 (with the entries then due), and entries still to come.
     Head82,
@@ -362,8 +364,14 @@ fn step(due: Due, line: &[u8], sets: &mut u32) -> Result<Due, Fault> {
             Ok(if n < 11 {
                 Due::Axis58(n + 1, widths, numbers)
             } else {
-                Due::Reals(widths, numbers, 0)
+                Due::Data58(widths, numbers)
             })
+        }
+        Due::Data58(widths, numbers) => {
+            let here = widths.len().min(numbers as usize);
+            data(widths, here, line)?;
+            let left = numbers - here as u32;
+            Ok(if left > 0 { Due::Data58(widths, left) } else { Due::Closing })
         }
         Due::Reals(widths, numbers, more) => {
             let here = widths.len().min(numbers as usize);
@@ -547,6 +555,14 @@ fn no_stray(line: &[u8], from: usize, to: usize) -> Result<(), Fault> {
         Some(more) => Err(after(from + more)(13)),
         None => Ok(()),
     }
+}
+
+/// Judges a data line of a 58 that has so many counted numbers in fields of these widths. C-13: the full line's
+/// columns past them are all blank, or padding, which is judged as all the fields are. Only a last line has any.
+fn data(widths: &[usize], counted: usize, line: &[u8]) -> Result<(), Fault> {
+    let past = |fields: usize| widths[..fields].iter().sum();
+    let padded = !is_blank(columns(line, past(counted), past(widths.len())));
+    reals(if padded { widths } else { &widths[..counted] }, line)
 }
 
 /// Judges a line of reals with fields of these widths and nothing after them.

@@ -22,6 +22,7 @@ mod judge;
 mod list;
 mod number;
 mod outcomes;
+mod padded;
 mod reader;
 mod rewrite;
 mod run;
@@ -41,7 +42,7 @@ fn check_fixed() -> usize {
             answers += check(&subject, &fixed);
         }
     }
-    answers
+    answers + padded::check_padded()
 }
 
 fn main() {
@@ -54,6 +55,7 @@ fn main() {
     for edge in edges::edges() {
         run.take(&edge.name, &edge.file, Some(edge.reply), false);
     }
+    padded::take_most_sets(&mut run);
     generated::take_generated(&mut run);
     outcomes::check_outcomes(&run);
     if alone {

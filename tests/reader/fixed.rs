@@ -44,6 +44,8 @@ pub fn fixed() -> Vec<Fixed> {
         exact_without_letter(),
         exact_path_without_letter(),
         untidy_without_letter(),
+        padded_single(),
+        padded_double(),
         plain_sets(),
         messy(),
     ]
@@ -117,7 +119,7 @@ fn example() -> Fixed {
     Fixed {
         name: "example",
         file: EXAMPLE.to_string(),
-        rows: vec![[1, 164, 0, 0, 164, 0], [7, 58, 7, 164, 672, 572]],
+        rows: vec![[1, 164, 0, 0, 164, 0, 0], [7, 58, 7, 164, 672, 572, 0]],
         numbers: vec![
             (2, 0, typed(572, 585, false, 100_000)),
             (2, 1, typed(585, 598, true, 200_000)),
@@ -168,7 +170,7 @@ fn example_untidy() -> Fixed {
     file += "\n \r\n";
     // Two lines more than in the example stand before each line.
     let at = |line| begins(&file, line);
-    let rows = vec![[3, 164, 0, at(3), at(9), 0], [9, 58, 7, at(9), at(25), at(22)]];
+    let rows = vec![[3, 164, 0, at(3), at(9), 0, 0], [9, 58, 7, at(9), at(25), at(22), 0]];
     let numbers = vec![
         (2, 0, number(&file, (22, 1, 13), false, 100_000, -6)),
         (2, 1, number(&file, (22, 14, 26), true, 200_000, -6)),
@@ -217,7 +219,7 @@ fn alone(
 ) -> Fixed {
     Fixed {
         name,
-        rows: vec![[1, 58, count, 0, file.len() as u32, begins(&file, 14)]],
+        rows: vec![[1, 58, count, 0, file.len() as u32, begins(&file, 14), 0]],
         numbers: numbers.into_iter().map(|(index, number)| (1, index, number)).collect(),
         values: values.into_iter().map(|(index, value)| (1, index, value)).collect(),
         all_values: vec![(1, all_values), (0, Err(18)), (2, Err(18))],
@@ -623,11 +625,71 @@ fn untidy_without_letter() -> Fixed {
     ];
     Fixed {
         name: "untidy, without a letter",
-        rows: vec![[1, 164, 0, 0, at(7), 0], [7, 58, 1, at(7), at(22), at(20)]],
+        rows: vec![[1, 164, 0, 0, at(7), 0, 0], [7, 58, 1, at(7), at(22), at(20), 0]],
         numbers,
         values: vec![(2, 0, Err(21)), (2, 1, Err(18)), (1, 0, Err(18))],
         all_values: vec![(1, Err(18)), (2, Err(21)), (3, Err(18))],
         rewritten: WITHOUT_LETTER.to_string(),
+        file,
+    }
+}
+
+/// Document 01's example with its last line full, after a copy of itself: the padding is in no answer but the seventh.
+fn padded_single() -> Fixed {
+    let padding = " -1.00000E-01      -.5E+00     1.0E+999  1.00000-101 -0.00000E+00";
+    let last = "  7.00000E-01\n";
+    let full = EXAMPLE.replace(last, &format!("  7.00000E-01{padding}\n"));
+    let file = format!("{EXAMPLE}{full}");
+    let numbers = vec![
+        (4, 0, Ok(Number { first: 1244, past: 1257, negative: false, coefficient: 100_000, scale: -6 })),
+        (4, 6, Ok(Number { first: 1323, past: 1336, negative: false, coefficient: 700_000, scale: -6 })),
+        (4, 7, Err(18)),
+        (4, 11, Err(18)),
+        (2, 7, Err(18)),
+    ];
+    Fixed {
+        name: "example, and with padding",
+        // The padding takes 65 bytes; the first copy ends at byte 672.
+        rows: vec![
+            [1, 164, 0, 0, 164, 0, 0],
+            [7, 58, 7, 164, 672, 572, 0],
+            [23, 164, 0, 672, 836, 0, 0],
+            [29, 58, 7, 836, 1409, 1244, 5],
+        ],
+        numbers,
+        values: vec![(4, 0, real(0.1)), (4, 6, real(0.7)), (4, 7, Err(18)), (4, 11, Err(18))],
+        all_values: vec![
+            (2, Ok(vec![0.1, -0.2, 0.3, -0.4, 0.5, -0.6, 0.7])),
+            (4, Ok(vec![0.1, -0.2, 0.3, -0.4, 0.5, -0.6, 0.7])),
+        ],
+        rewritten: EXAMPLE.repeat(2),
+        file,
+    }
+}
+
+/// Case 6, CR LF and filled to column 80: one value of two counts in the last line, and the fields touch.
+fn padded_double() -> Fixed {
+    let bare = function(4, 3, 0, &[
+        "  1.00000E+00  2.000000000000E+00  3.00000E+00 -4.000000000000E+00",
+        "  5.00000E+00-6.0000000000000E+00",
+    ]);
+    let touching = "-6.0000000000000E+00";
+    let full = bare.replace(touching, &format!("{touching}-7.000000E+99-8.0000000000000-300"));
+    let file: String = full.lines().map(|line| format!("{line:80}\r\n")).collect();
+    let at = |line| begins(&file, line);
+    let numbers = vec![
+        (1, 3, number(&file, (14, 47, 66), true, 4_000_000_000_000, -12)),
+        (1, 4, number(&file, (15, 1, 13), false, 500_000, -5)),
+        (1, 5, number(&file, (15, 14, 33), true, 60_000_000_000_000, -13)),
+        (1, 6, Err(18)),
+    ];
+    Fixed {
+        name: "case 6 with padding, untidy",
+        rows: vec![[1, 58, 3, 0, at(17), at(14), 2]],
+        numbers,
+        values: vec![(1, 1, point(3.0, -4.0)), (1, 2, point(5.0, -6.0)), (1, 3, Err(18))],
+        all_values: vec![(1, Ok(vec![1.0, 2.0, 3.0, -4.0, 5.0, -6.0])), (2, Err(18))],
+        rewritten: bare,
         file,
     }
 }
@@ -663,7 +725,7 @@ fn plain_sets() -> Fixed {
     Fixed {
         name: "plain sets",
         file: file.to_string(),
-        rows: vec![[3, 1, 0, 6, 27, 0], [7, 15, 0, 28, 68, 0]],
+        rows: vec![[3, 1, 0, 6, 27, 0, 0], [7, 15, 0, 28, 68, 0, 0]],
         numbers: vec![(0, 0, Err(18)), (1, 0, Err(18)), (2, 0, Err(18)), (3, 0, Err(18))],
         values: vec![(0, 0, Err(18)), (1, 0, Err(18)), (2, 0, Err(18)), (3, 0, Err(18))],
         all_values: vec![(0, Err(18)), (1, Err(18)), (2, Err(18)), (3, Err(18))],
@@ -775,10 +837,10 @@ fn messy() -> Fixed {
         name: "messy",
         file: file.to_string(),
         rows: vec![
-            [3, 151, 0, at(3), at(13), 0],
-            [14, 58, 2, at(14), at(29), at(27)],
-            [29, 82, 0, at(29), at(36), 0],
-            [36, 999_999, 0, at(36), at(42), 0],
+            [3, 151, 0, at(3), at(13), 0, 0],
+            [14, 58, 2, at(14), at(29), at(27), 0],
+            [29, 82, 0, at(29), at(36), 0, 0],
+            [36, 999_999, 0, at(36), at(42), 0, 0],
         ],
         numbers,
         values: vec![

@@ -33,11 +33,11 @@ pub fn check_fixed(subject: &Subject, fixed: &Fixed) -> usize {
     fixed.numbers.len()
 }
 
-/// Every non-blank byte of a 58's data lines is in just one field, and each field in std's reading is
-/// the f64 of the exact path.
+/// Every non-blank byte of a 58's data lines is in just one stored number's field or in the padding that its row
+/// counts, and each stored number's field in std's reading is the f64 of the exact path.
 pub fn sound(subject: &Subject, set: u32, row: &Row, numbers: &[Number]) {
     let file = subject.file;
-    let [_, _, count, _, past, data, ..] = row.map(|place| place as usize);
+    let [_, _, count, _, past, data, padding] = row.map(|place| place as usize);
     let closing = file[..past - 1].iter().rposition(|&b| b == b'\n').map_or(0, |n| n + 1);
     let mut at = data;
     for number in numbers {
@@ -53,8 +53,10 @@ pub fn sound(subject: &Subject, set: u32, row: &Row, numbers: &[Number]) {
             subject.fail("plain value", &format!("{real:?} for {spelled:?}"));
         }
     }
-    if !is_blank(&file[at..closing]) || numbers.len() % count != 0 {
-        subject.fail("plain number", &format!("{} numbers in set {set}", numbers.len()));
+    // A padding number has one point, and a point is in no blank field.
+    let points = file[at..closing].iter().filter(|&&b| b == b'.').count();
+    if points != padding || (padding == 0 && !is_blank(&file[at..closing])) || numbers.len() % count != 0 {
+        subject.fail("plain number", &format!("{} numbers in set {set}, {padding} of padding", numbers.len()));
     }
 }
 

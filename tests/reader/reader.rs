@@ -1,8 +1,8 @@
 //! A plain lister, reader and rewriter of Universal Files: the second opinion.
 //!
-//! It was written from the papers alone (document 01, the source documents it names, request C-12 of
-//! document 02, the readings settled for them and the shapes of the C boundary) by somebody who had
-//! not seen the proved one.
+//! It was written from the papers alone (document 01, the source documents it names, requests C-12 and
+//! C-13 of document 02, the readings settled for them and the shapes of the C boundary) by somebody who
+//! had not seen the proved one.
 //! The plain judge beside it judges first; what that judge accepts is not doubted again here.
 //! Refusals 17 and 20 are about lent places, so they are the caller's. Safe Rust, standard library
 //! only.
@@ -22,7 +22,7 @@ const DELIMITER: &[u8] = b"    -1";
 const HEADER_LINES: usize = 11;
 
 /// Document 01's lister: opening line, dataset number, declared count, first byte, byte past the
-/// closing line, first byte of the data lines of each set.
+/// closing line, first byte of the data lines of each set, and C-13's padding numbers.
 pub fn list(file: &[u8]) -> Result<Vec<Row>, Reply> {
     Ok(accept(file)?.list())
 }
@@ -139,11 +139,11 @@ pub fn accept(file: &[u8]) -> Result<Accepted<'_>, Reply> {
 impl Accepted<'_> {
     pub fn list(&self) -> Vec<Row> {
         let row = |set: &Dataset| {
-            let (count, data) = match &set.form {
-                Some(form) => (form.count, set.lines[HEADER_LINES].first as u32),
-                None => (0, 0),
+            let (count, data, padding) = match &set.form {
+                Some(form) => (form.count, set.lines[HEADER_LINES].first as u32, set.padding(form)),
+                None => (0, 0, 0),
             };
-            [set.opening_line, set.number, count, set.first as u32, set.past as u32, data]
+            [set.opening_line, set.number, count, set.first as u32, set.past as u32, data, padding]
         };
         self.sets.iter().map(row).collect()
     }
@@ -177,7 +177,7 @@ impl Accepted<'_> {
         Ok((kind, shown))
     }
 
-    /// One pass over the data lines; the last one has only the fields that are left.
+    /// One pass over the data lines; of the last one only the fields that are left count.
     pub fn values(&self, set: u32) -> Result<Vec<f64>, Reply> {
         let (set, form) = self.function(set)?;
         let total = form.count as usize * form.numbers() as usize;
@@ -198,7 +198,7 @@ impl Accepted<'_> {
         let mut out = Vec::new();
         for set in &self.sets {
             let number = format!("{:6}", set.number);
-            let inside = set.lines.iter().map(|line| line.text);
+            let inside = (0..set.lines.len()).map(|n| set.kept(n));
             for line in [DELIMITER, number.as_bytes()].into_iter().chain(inside).chain([DELIMITER]) {
                 out.extend_from_slice(line);
                 out.push(b'\n');
@@ -217,6 +217,25 @@ impl Accepted<'_> {
 }
 
 impl Dataset<'_> {
+    /// C-13: the padding numbers of a 58, all the last line's fields past the counted ones where these are not blank.
+    fn padding(&self, form: &Form) -> u32 {
+        let padded = self.lines.last().is_some_and(|last| last.text.len() > form.last_columns());
+        if padded {
+            (form.widths.len() - form.last_fields()) as u32
+        } else {
+            0
+        }
+    }
+
+    /// A line's text (from 0) without padding.
+    fn kept(&self, n: usize) -> &[u8] {
+        let text = self.lines[n].text;
+        match &self.form {
+            Some(form) if n + 1 == self.lines.len() => &text[..form.last_columns()],
+            _ => text,
+        }
+    }
+
     /// A stored number that is there.
     fn number_at(&self, form: &Form, index: usize) -> Number {
         let fields = form.widths.len();
@@ -234,6 +253,16 @@ impl Form {
     /// Numbers stored for one value: its abscissa where uneven, its real and imaginary part.
     fn numbers(&self) -> u64 {
         1 + u64::from(self.uneven) + u64::from(self.complex)
+    }
+
+    /// The counted fields of the last data line, 1 to a full line's, and the columns that they take.
+    fn last_fields(&self) -> usize {
+        let stored = self.count as usize * self.numbers() as usize;
+        (stored - 1) % self.widths.len() + 1
+    }
+
+    fn last_columns(&self) -> usize {
+        self.widths[..self.last_fields()].iter().sum()
     }
 }
 

@@ -26,17 +26,17 @@ pub fn check_fixed(subject: &Subject, fixed: &Fixed) -> usize {
     1
 }
 
-/// The rewritten file is accepted, has the same sets and numbers, and is rewritten as itself.
+/// The rewritten file is accepted, has the same sets and numbers and no padding, is rewritten as itself and is no longer.
 pub fn sound(subject: &Subject, rows: &[Row]) {
     let text = subject.accepted().rewrite();
-    let untidy = text.contains(&b'\r') || text.windows(2).any(|two| two == b" \n");
+    let untidy = text.contains(&b'\r') || text.windows(2).any(|two| two == b" \n") || text.len() > subject.file.len();
     let again = match reader::accept(&text) {
         Ok(again) if !untidy && again.rewrite() == text => again,
         _ => subject.fail("plain rewrite", &String::from_utf8_lossy(&text)),
     };
     let kept = |row: &Row| (row[1], row[2]);
-    if !again.list().iter().map(kept).eq(rows.iter().map(kept)) {
-        subject.fail("plain rewrite", "the rewritten file has other sets");
+    if !again.list().iter().map(kept).eq(rows.iter().map(kept)) || again.list().iter().any(|row| row[6] > 0) {
+        subject.fail("plain rewrite", "the rewritten file has other sets, or padding");
     }
     if subject.file.len() > LONG {
         return;

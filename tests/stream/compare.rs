@@ -4,7 +4,7 @@
 //! of none; after each burst the answer must be what the plain judge says of the lines whose LF has
 //! come, at the end what it says of the whole file, column included, and again when asked again; a
 //! burst after that is 23. Lines with bad bytes and CRs also come in bursts that end just before, at and
-//! after each of these. The program stops at the first difference (exit 1).
+//! after each of these, 58s with padding in bursts that end at each byte of their last line. The program stops at the first difference (exit 1).
 
 #[path = "../common/mod.rs"]
 mod common;
@@ -20,7 +20,7 @@ mod judge;
 use common::files::{ends, print_lines};
 use common::lent::Lent;
 use common::uff::{self, Word, LONGEST, SO_FAR, STREAM_LINE, STREAM_NUMBERS};
-use edges::columns;
+use edges::{columns, padding};
 use generate::Random;
 use judge::Reply;
 
@@ -233,6 +233,21 @@ impl Run {
         }
     }
 
+    /// A 58 with its remainder filled, wholly and in part, in bursts that end at each byte of its last data line, and
+    /// one byte at a time.
+    fn take_padding(&mut self) {
+        for padded in padding::remainders().into_iter().chain(padding::second_lines()) {
+            let file = &padded.file;
+            let begins = |line: usize| file.split_inclusive(|&b| b == b'\n').take(line - 1).map(<[u8]>::len).sum::<usize>();
+            let last = begins(padded.line)..=begins(padded.line + 1);
+            for cut in last.clone() {
+                self.take_cut(&padded.name, file, &[cut]);
+            }
+            self.take_cut(&padded.name, file, &last.collect::<Vec<_>>());
+            assert_eq!(judge::judge(file), padded.reply, "{}", padded.name);
+        }
+    }
+
     /// One line of any length, with bad bytes and CRs in any column, in bursts of a few bytes, and after a line.
     fn take_any_lines(&mut self, random: &mut Random) {
         for _ in 0..LONG_LINES {
@@ -352,6 +367,7 @@ fn check_outcomes(run: &Run) {
 fn main() {
     let mut run = Run { random: Random::new(0x5EED_0C11_0B57_0127), cuts: 0, bursts: 0, ends: [0; 26] };
     run.take_columns();
+    run.take_padding();
     for edge in edges::edges() {
         for _ in 0..CUTS {
             run.take(&edge.name, &edge.file);

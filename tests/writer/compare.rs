@@ -24,7 +24,7 @@ mod writer;
 
 use common::files::{ends, print_lines};
 use common::lent::{self, Due};
-use common::uff::{self, Word, LONGEST, NUMBER_BYTES};
+use common::uff::{self, Word, LONGEST, NUMBER_BYTES, ROW_NUMBERS};
 use generate::Random;
 use inputs::Numbers;
 use judge::Reply;
@@ -107,6 +107,15 @@ impl Subject<'_> {
         self.hold("uff_judge", 0, Ok((ends(file) as u32, Vec::new())), |_| uff::judge(file));
         let length = rewritten.len();
         self.hold("uff_rewrite", length, Ok((length as u32, rewritten)), |out| uff::rewrite(file, out));
+    }
+
+    /// The proved lister on an accepted file.
+    fn ask_list(&self, file: &[u8], accepted: &Accepted) {
+        let due: Due<u32> = Ok((accepted.list().len() as u32, accepted.list().concat()));
+        let places = accepted.list().len() * ROW_NUMBERS;
+        if let Err(what) = lent::hold(places, &due, |rows| uff::list(file, rows)) {
+            self.fail(&format!("uff_list, {places} places lent"), &what);
+        }
     }
 
     /// The proved reader on a stored number of a file's first set.

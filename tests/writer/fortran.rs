@@ -32,6 +32,10 @@ pub fn check_files(folder: &Path, alone: bool) {
     for (name, units) in [("exponents.uff", "164"), ("exponents-1p.uff", "164-1p")] {
         take_exponents(&mut run, name, &read(name), (&typed, units));
     }
+    let typed = text("full.txt");
+    for (name, earlier) in [("full-old.uff", true), ("full-zero.uff", false)] {
+        take_full(&mut run, name, &read(name), (&typed, earlier));
+    }
     println!("{} sets from Fortran read as the numbers typed", run.headers);
 }
 
@@ -118,6 +122,73 @@ fn take_exponents(run: &mut Run, name: &str, file: &[u8], (typed, units): (&str,
             subject.fail("its data", &format!("no exponent of case {case} is without a letter"));
         }
         take_set(run, (name, case), &file[first..past], &numbers);
+    }
+}
+
+/// Sets whose last line Addendum B's statements filled past the count (request C-13): the counted numbers are read, the
+/// seventh number is as typed, and what the arrays still held is what stands in the padding.
+fn take_full(run: &mut Run, name: &str, file: &[u8], (typed, earlier): (&str, bool)) {
+    let none = Numbers { coefficients: Vec::new(), scales: Vec::new() };
+    let subject = Subject { name, header: &[], numbers: &none };
+    let accepted = accept(&subject, file);
+    let rows = accepted.list();
+    let typed: Vec<[usize; 3]> = typed.lines().filter(|line| !line.starts_with('#')).map(full_set).collect();
+    if rows.len() != typed.len() {
+        subject.fail("plain lister", &format!("{} sets, {} typed", rows.len(), typed.len()));
+    }
+    if !run.alone {
+        subject.ask_accepted(file, accepted.rewrite());
+        subject.ask_list(file, &accepted);
+    }
+    for (row, [case, count, padding]) in rows.iter().zip(typed) {
+        let [_, dataset, declared, first, past, _, seventh] = row.map(|place| place as usize);
+        if [dataset, declared, seventh] != [58, count, padding] {
+            subject.fail("plain lister", &format!("case {case}, count {count}, padding {padding}: {row:?}"));
+        }
+        let numbers = eighths(count * [1, 2, 2, 3, 1, 2, 2, 3][case - 1]);
+        take_set(run, (name, case), &file[first..past], &numbers);
+        check_held(&subject, &file[first..past], (case, numbers.scales.len()), earlier);
+    }
+}
+
+/// Case, count and padding numbers of a set.
+fn full_set(line: &str) -> [usize; 3] {
+    let words: Vec<usize> = line.split(' ').filter_map(|word| word.parse().ok()).collect();
+    words.try_into().unwrap_or_else(|_| fail(&format!("{line} is not a case, a count and a number")))
+}
+
+/// So many stored numbers: number k (from 1) is k eighths, negative where k is even.
+fn eighths(stored: usize) -> Numbers {
+    let coefficients = (1..=stored as i64).map(|k| if k % 2 == 0 { -125 * k } else { 125 * k }).collect();
+    Numbers { coefficients, scales: vec![-3; stored] }
+}
+
+/// The fields of the last line past so many stored numbers: those of the line before, or -987.5 where there is none; zeros
+/// where the arrays were cleared.
+fn check_held(subject: &Subject, set: &[u8], (case, stored): (usize, usize), earlier: bool) {
+    let widths: &[usize] = match case {
+        1..=4 => &[13; 6],
+        5 | 7 => &[20; 4],
+        6 => &[13, 20, 13, 20],
+        _ => &[13, 20, 20],
+    };
+    let lines: Vec<&[u8]> = set.split(|&b| b == b'\n').collect();
+    // The closing delimiter and what stands after its LF come last.
+    let last = lines[lines.len() - 3];
+    let before = stored.saturating_sub(1) / widths.len() * widths.len();
+    let old = eighths(before);
+    for field in stored - before..widths.len() {
+        let from: usize = widths[..field].iter().sum();
+        let (negative, coefficient, scale) = reader::meaning(&last[from..from + widths[field]]);
+        let number = Number { first: 0, past: 0, negative, coefficient, scale };
+        let (size, scale) = match (earlier, before) {
+            (false, _) => (0, 0),
+            (true, 0) => (-9_875, -1),
+            (true, _) => (old.coefficients[before - widths.len() + field], -3),
+        };
+        if !equal(size, scale, &number) {
+            subject.fail("padding", &format!("case {case}, {stored} stored numbers: {number:?} in field {field}"));
+        }
     }
 }
 

@@ -71,6 +71,10 @@ struct text whole(void);
 /* A 58 alone with this line 7 and these data lines. */
 struct text with_data(const char *line_7, const char *data);
 
+/* The example with its last data line full past the count, which is line 21: five padding numbers in 65 columns. */
+#define PADDING " -1.00000E-01      -.5E+00     1.0E+999  1.00000-101 -0.00000E+00"
+struct text padded(void);
+
 /* A text of 80 columns. */
 #define EIGHTY "12345678901234567890123456789012345678901234567890123456789012345678901234567890"
 

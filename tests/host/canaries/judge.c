@@ -76,7 +76,12 @@ static void judge_lines(void)
     refuse_line("direction -7", 14, LINE_6("    1", "   3", "  -7"), 11, 77);
     refuse_line("thirteen blanks", 20, "  1.00000E-01 -2.00000E-01              -4.00000E-01  5.00000E-01 -6.00000E-01", 25, 27);
     refuse_line("a real without a point", 20, "  1.00000E-01        2E-01  3.00000E-01 -4.00000E-01  5.00000E-01 -6.00000E-01", 12, 14);
-    refuse_line("a byte past the fields due", 21, "  7.00000E-01 x", 13, 15);
+    accept_line("padding", 21, "  7.00000E-01" PADDING);
+    refuse_line("a byte past the numbers that count", 21, "  7.00000E-01 x", 12, 14);
+    refuse_line("a number past them", 21, "  7.00000E-01  8.00000E-01", 25, 27);
+    refuse_line("blanks, then a number", 21, "  7.00000E-01               8.00000E-01", 25, 14);
+    refuse_line("a byte past the full line", 21, "  7.00000E-01                                                                 x", 13, 79);
+    refuse_line("a byte past padding", 21, "  7.00000E-01" PADDING " x", 13, 80);
     refuse_line("a byte between fields", 14, "    1         1    0         0.NONE               7   3.NONE               0   0", 13, 31);
     refuse_line("uneven, minimum and increment not zero", 15, "         2         7         0  1.00000E-03  1.00000E-03  0.00000E+00", 14, 31);
     refuse_line("uneven, increment not zero", 15, "         2         7         0  0.00000E+00  1.00000E-03  0.00000E+00", 14, 44);

@@ -1,15 +1,20 @@
 /* The reader of stored numbers. */
 #include "canaries.h"
 
-/* A question for a number; `due` are its bytes, or null where it is refused. */
-static void ask_number(const char *what, uint32_t set, uint32_t index, size_t room, uint64_t refusal, const char *due)
+/* A question for a number of a file; `due` are its bytes, or null where it is refused. */
+static void ask_of(struct text t, const char *what, uint32_t set, uint32_t index, size_t room, uint64_t refusal, const char *due)
 {
-    struct text t = whole();
     struct lent file = lend(t.bytes, t.count), out = lend(NULL, room);
     name = what;
     check_reply(uff_number(file.at, t.count, set, index, out.at, room), refusal, due != NULL ? 20 : 0);
     take_back(&file, NULL, 0);
     take_back(&out, due, due != NULL ? UFF_NUMBER_BYTES : 0);
+}
+
+/* The same of the example. */
+static void ask_number(const char *what, uint32_t set, uint32_t index, size_t room, uint64_t refusal, const char *due)
+{
+    ask_of(whole(), what, set, index, room, refusal, due);
 }
 
 /* Bytes 572 to 585, 100000 (186a0 in base 16), scale -6; and so on. */
@@ -32,4 +37,7 @@ void try_number(void)
     ask_number("room of 19", 2, 0, 19, 20, NULL);
     ask_number("no room", 2, 0, 0, 20, NULL);
     ask_number("number 7 and no room", 2, 7, 0, 18, NULL);
+    ask_of(padded(), "the last number before padding", 2, 6, 20, 0, LAST);
+    ask_of(padded(), "a padding number", 2, 7, 20, 18, NULL);
+    ask_of(padded(), "the last padding number", 2, 11, 20, 18, NULL);
 }

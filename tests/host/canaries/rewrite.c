@@ -24,5 +24,8 @@ void try_rewrite(void)
     rewrite("a plain file, more room", whole(), 1000, 0);
     rewrite("an untidy file", untidy, 672, 0);
     rewrite("room of 671", untidy, 671, 20);
+    rewrite("a file with padding", padded(), 672, 0);
+    rewrite("a file with padding, its own length", padded(), 737, 0);
+    rewrite("a file with padding, room of 671", padded(), 671, 20);
     rewrite("no room", whole(), 0, 20);
 }

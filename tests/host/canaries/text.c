@@ -64,6 +64,11 @@ struct text whole(void)
     return with(1, LINES, 0, NULL);
 }
 
+struct text padded(void)
+{
+    return with(1, LINES, 21, "  7.00000E-01" PADDING);
+}
+
 struct text with_data(const char *line_7, const char *data)
 {
     struct text t = with(7, 19, 15, line_7);

@@ -76,6 +76,11 @@ static void single_values(void)
                           "  1.00000E-01 -0.00000E+00      +3.E+00     -.25D-01 1.234567e+22-1.234567E-09\n"
                           " 1.23456E+010\n"),
                 1, 1, case_1, 7);
+    give_values("case 1 with padding",
+                with_data(EVEN("2", "7"),
+                          "  1.00000E-01 -0.00000E+00      +3.E+00     -.25D-01 1.234567e+22-1.234567E-09\n"
+                          " 1.23456E+010" PADDING "\n"),
+                1, 1, case_1, 7);
     give_values("case 2",
                 with_data(UNEVEN("2", "4"),
                           "  0.00000E+00  1.00000E+00  1.00000E-01 -2.00000E+00  2.00000E-01  3.00000E+00\n"

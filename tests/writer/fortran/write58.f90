@@ -6,16 +6,26 @@
 !
 ! exponents.uff and exponents-1p.uff have a dataset 164 and the eight cases one after the other, with
 ! numbers of sizes 10^-300 to 10^300: where an exponent needs three digits, the letter is dropped.
+!
+! full-old.uff and full-zero.uff have the eight cases with several counts each, written by the output
+! statements of Addendum B as printed there (in capitals below): they write whole lines, so that the last
+! line is full past the count. What stands there is what the arrays still hold: in full-old.uff the line
+! before's numbers, or those of an earlier capture; in full-zero.uff zeros, the arrays being cleared.
 program write58
   implicit none
 
   ! Record 12's FORMATs, with or without the scale factor.
   character(len=40) :: single, double, mixed, mixed_complex
 
+  ! What the arrays of Addendum B hold before the first line.
+  double precision, parameter :: earlier = -987.5d0
+
   call write_all('', '.uff')
   call write_all('1P,', '-1p.uff')
   call write_exponents('', 'exponents.uff')
   call write_exponents('1P,', 'exponents-1p.uff')
+  call write_full('full-old.uff', .false.)
+  call write_full('full-zero.uff', .true.)
 
 contains
 
@@ -136,6 +146,234 @@ contains
     write (lun, mixed_complex) (x8(j), (y8(i,j), i=1,2), j=1,size(y8, 2))
     call close_set(lun)
   end subroutine write_exponents
+
+  ! Sets of each case, with one value and with counts whose last number stands in the second line.
+  subroutine write_full(name, cleared)
+    character(len=*), intent(in) :: name
+    logical, intent(in) :: cleared
+
+    integer, parameter :: most(8) = [6, 3, 3, 2, 4, 2, 2, 1]
+    integer :: lun, k, values
+
+    open (newunit=lun, file=name, status='replace', action='write')
+    do k = 1, 8
+      call write_case(lun, k, 1, cleared)
+      do values = most(k) + 1, 2 * most(k)
+        call write_case(lun, k, values, cleared)
+      end do
+    end do
+    close (lun)
+  end subroutine write_full
+
+  subroutine write_case(lun, k, nval, cleared)
+    integer, intent(in) :: lun, k, nval
+    logical, intent(in) :: cleared
+
+    integer, parameter :: ordinate_type(8) = [2, 2, 5, 5, 4, 4, 6, 6]
+    double precision :: increment
+
+    increment = 0.0d0
+    if (mod(k, 2) == 1) increment = 1.0d-3
+    call write_head(lun, achar(iachar('0') + k), '', ordinate_type(k), nval, mod(k, 2), [0.0d0, increment, 0.0d0])
+    select case (k)
+    case (1)
+      call case_1(lun, nval, cleared)
+    case (2)
+      call case_2(lun, nval, cleared)
+    case (3)
+      call case_3(lun, nval, cleared)
+    case (4)
+      call case_4(lun, nval, cleared)
+    case (5)
+      call case_5(lun, nval, cleared)
+    case (6)
+      call case_6(lun, nval, cleared)
+    case (7)
+      call case_7(lun, nval, cleared)
+    case (8)
+      call case_8(lun, nval)
+    end select
+    call write_delimiter(lun)
+  end subroutine write_case
+
+  ! Stored number k of a set (from 1): k eighths, with signs in turn.
+  pure double precision function stored(k)
+    integer, intent(in) :: k
+
+    stored = 0.125d0 * k
+    if (mod(k, 2) == 0) stored = -stored
+  end function stored
+
+  subroutine case_1(lun, nval, cleared)
+    integer, intent(in) :: lun, nval
+    logical, intent(in) :: cleared
+
+    REAL Y(6)
+    integer :: i, npro
+
+    y = real(earlier)
+    NPRO=0
+10  CONTINUE
+    if (cleared) y = 0.0
+    do i = 1, min(6, nval - npro)
+      y(i) = real(stored(npro + i))
+    end do
+    WRITE(LUN,1000)(Y(I),I=1,6)
+1000 FORMAT(6E13.5)
+    NPRO=NPRO+6
+    IF(NPRO.LT.NVAL)GO TO 10
+  end subroutine case_1
+
+  subroutine case_2(lun, nval, cleared)
+    integer, intent(in) :: lun, nval
+    logical, intent(in) :: cleared
+
+    REAL X(3),Y(3)
+    integer :: i, npro
+
+    x = real(earlier)
+    y = real(earlier)
+    NPRO=0
+10  CONTINUE
+    if (cleared) x = 0.0
+    if (cleared) y = 0.0
+    do i = 1, min(3, nval - npro)
+      x(i) = real(stored(2 * (npro + i) - 1))
+      y(i) = real(stored(2 * (npro + i)))
+    end do
+    WRITE(LUN,1000)(X(I),Y(I),I=1,3)
+1000 FORMAT(6E13.5)
+    NPRO=NPRO+3
+    IF(NPRO.LT.NVAL)GO TO 10
+  end subroutine case_2
+
+  subroutine case_3(lun, nval, cleared)
+    integer, intent(in) :: lun, nval
+    logical, intent(in) :: cleared
+
+    COMPLEX Y(3)
+    integer :: i, npro
+
+    y = cmplx(earlier, earlier, kind(1.0))
+    NPRO=0
+10  CONTINUE
+    if (cleared) y = (0.0, 0.0)
+    do i = 1, min(3, nval - npro)
+      y(i) = cmplx(stored(2 * (npro + i) - 1), stored(2 * (npro + i)), kind(1.0))
+    end do
+    WRITE(LUN,1000)(Y(I),I=1,3)
+1000 FORMAT(6E13.5)
+    NPRO=NPRO+3
+    IF(NPRO.LT.NVAL)GO TO 10
+  end subroutine case_3
+
+  subroutine case_4(lun, nval, cleared)
+    integer, intent(in) :: lun, nval
+    logical, intent(in) :: cleared
+
+    REAL X(2)
+    COMPLEX Y(2)
+    integer :: i, npro
+
+    x = real(earlier)
+    y = cmplx(earlier, earlier, kind(1.0))
+    NPRO=0
+10  CONTINUE
+    if (cleared) x = 0.0
+    if (cleared) y = (0.0, 0.0)
+    do i = 1, min(2, nval - npro)
+      x(i) = real(stored(3 * (npro + i) - 2))
+      y(i) = cmplx(stored(3 * (npro + i) - 1), stored(3 * (npro + i)), kind(1.0))
+    end do
+    WRITE(LUN,1000)(X(I),Y(I),I=1,2)
+1000 FORMAT(6E13.5)
+    NPRO=NPRO+2
+    IF(NPRO.LT.NVAL)GO TO 10
+  end subroutine case_4
+
+  subroutine case_5(lun, nval, cleared)
+    integer, intent(in) :: lun, nval
+    logical, intent(in) :: cleared
+
+    DOUBLE PRECISION Y(4)
+    integer :: i, npro
+
+    y = earlier
+    NPRO=0
+10  CONTINUE
+    if (cleared) y = 0.0d0
+    do i = 1, min(4, nval - npro)
+      y(i) = stored(npro + i)
+    end do
+    WRITE(LUN,1000)(Y(I),I=1,4)
+1000 FORMAT(4E20.12)
+    NPRO=NPRO+4
+    IF(NPRO.LT.NVAL)GO TO 10
+  end subroutine case_5
+
+  subroutine case_6(lun, nval, cleared)
+    integer, intent(in) :: lun, nval
+    logical, intent(in) :: cleared
+
+    REAL X(2)
+    DOUBLE PRECISION Y(2)
+    integer :: i, npro
+
+    x = real(earlier)
+    y = earlier
+    NPRO=0
+10  CONTINUE
+    if (cleared) x = 0.0
+    if (cleared) y = 0.0d0
+    do i = 1, min(2, nval - npro)
+      x(i) = real(stored(2 * (npro + i) - 1))
+      y(i) = stored(2 * (npro + i))
+    end do
+    WRITE(LUN,1000)(X(I),Y(I),I=1,2)
+1000 FORMAT(2(E13.5,E20.12))
+    NPRO=NPRO+2
+    IF(NPRO.LT.NVAL)GO TO 10
+  end subroutine case_6
+
+  subroutine case_7(lun, nval, cleared)
+    integer, intent(in) :: lun, nval
+    logical, intent(in) :: cleared
+
+    DOUBLE PRECISION Y(2,2)
+    integer :: i, j, npro
+
+    y = earlier
+    NPRO=0
+10  CONTINUE
+    if (cleared) y = 0.0d0
+    do j = 1, min(2, nval - npro)
+      y(1, j) = stored(2 * (npro + j) - 1)
+      y(2, j) = stored(2 * (npro + j))
+    end do
+    WRITE(LUN,1000)((Y(I,J),I=1,2),J=1,2)
+1000 FORMAT(4E20.12)
+    NPRO=NPRO+2
+    IF(NPRO.LT.NVAL)GO TO 10
+  end subroutine case_7
+
+  ! A line is a value, so that it is never more than full. Addendum B prints (X,Y(I),I=1,2), which would
+  ! write X twice.
+  subroutine case_8(lun, nval)
+    integer, intent(in) :: lun, nval
+
+    REAL X
+    DOUBLE PRECISION Y(2)
+    integer :: i, npro
+
+    NPRO=0
+10  CONTINUE
+    x = real(stored(3 * npro + 1))
+    y = [stored(3 * npro + 2), stored(3 * npro + 3)]
+    WRITE(LUN,1000)X,(Y(I),I=1,2)
+1000 FORMAT(E13.5,2E20.12)
+    NPRO=NPRO+1
+    IF(NPRO.LT.NVAL)GO TO 10
+  end subroutine case_8
 
   subroutine set_formats(scale_factor)
     character(len=*), intent(in) :: scale_factor
