@@ -1,37 +1,48 @@
--- The last line of a 58 of a list as it stands in a text: it is that of the last stored number, and which of its columns count.
-use mathlib.Core.Path.{_≡_, refl}
+-- The last line of a 58 of a list as it stands in a text: it is that of the last stored number, which of its columns count, and that it
+-- is no delimiter by these alone.
+use mathlib.Core.Path.{_≡_, refl, sym, ap, _∙_}
 use mathlib.Core.Bool.{Bool, true, false}
-use mathlib.Core.List.{List, [], _++_}
+use mathlib.Core.List.{List, [], _∷_, _++_}
 use Prim.Native.Nat.{ℕ, zero, suc, _+_, _-_, _*_, _≤_, _<_}
 use native.Mathlib.Nat.{zero-mul, suc-mul, div-lt-iff-lt-mul}
 use native.Mathlib.Omega.{arith}
 use borrow.Author.Tests.{eqb-true}
 use lib.Dec.{eqb}
-use lib.Seq.{drop-at, drop-drop}
-use lib.ListN.{length, getD, drop, replicate, length-map}
+use lib.IntN.{ℤ}
+use lib.Seq.{drop-at, drop-drop, getD-take, getD-append-add}
+use lib.ListN.{length, getD, drop, replicate, length-map, length-append, length-take}
 use Rattle.laws.specs.Choice.{pick}
 use Rattle.text.specs.Blank.{Blanks, none, one}
 use Rattle.text.specs.BlankLaws.{allBlank-complete, blanks-replicate}
+use Rattle.real.specs.Spelling.{RealSpelling, spelled}
 use Rattle.line.specs.Line.{columns, filled}
 use Rattle.line.specs.LineLaws.{filled-short}
-use Rattle.layout.specs.Columns.{lineOf, fieldOf, total}
-use Rattle.layout.specs.ColumnsLaws.{stored-at, fieldOf-inside}
+use Rattle.delimiter.specs.Kind.{Delimiter, delimiter}
+use Rattle.layout.specs.Columns.{lineOf, fieldOf, fieldStart, total}
+use Rattle.layout.specs.ColumnsLaws.{stored-at, fieldOf-inside, fieldStart-next}
 use Rattle.layout.specs.Layout.{layoutOf, fieldsOf, numbersOf}
 use Rattle.layout.specs.LayoutLaws.{fieldsOf-some, total-inside}
+use Rattle.field.specs.Item.{Item}
+use Rattle.record_table.specs.Row.{span, firstFields}
+use Rattle.record_table.specs.Records.{plain, dataRow}
 use Rattle.record_table.specs.TypedSets.{headerLines}
+use Rattle.record.specs.Written.{InColumns}
+use Rattle.record.specs.TakenLaws.{span-first}
+use Rattle.walk.specs.DueLaws.{dataRow-length}
+use Rattle.record_laws.specs.GroupLaws.{blanks-at}
 use Rattle.theory.specs.Sets.{Set}
-use Rattle.theory.specs.Due.{linesFor}
+use Rattle.theory.specs.Due.{linesFor, setRows}
 use Rattle.line_laws.specs.LineTestsLaws.{blanks-take}
 use Rattle.parts.specs.Parts.{Part, lastLine}
 use Rattle.parts.specs.Parts as Parts
 use Rattle.parts.specs.Function as Function
-use Rattle.parts.specs.Padding.{countedPast, remainder, paddingIn, paddingOf}
+use Rattle.parts.specs.Padding.{lastField, countedPast, remainder, paddingIn, paddingOf}
 use Rattle.parts.specs.CountedLaws.{past-inside}
 use Rattle.parts_laws.specs.Holds.{columnsOf, Holds}
 use Rattle.parts_laws.specs.Declared.{declared, setCase}
 use Rattle.parts_laws.specs.DeclaredLaws.{case-held, declared-held}
 use Rattle.parts_laws.specs.Stored.{storedCount}
-use Rattle.parts_laws.specs.StoredLaws.{line-enough, set-data, stored-case}
+use Rattle.parts_laws.specs.StoredLaws.{line-enough, data-row, data-field, lists-58, set-data, stored-case}
 
 -- as many numbers are stored in the text as in the list
 stored-if : (t : Bool) (n a b : ℕ) → (t ≡ true → a ≡ b) → pick t n 0 * numbersOf a ≡ pick t n 0 * numbersOf b
@@ -63,13 +74,62 @@ last-held {s} {p} h e some =
     = last-of (fieldsOf (setCase s)) (storedCount s) (fieldsOf-some (setCase s) (stored-case s 0 some)) some in
     omega arith
 
+-- it is written by the fields up to that of the last stored number, which are the columns that count
+pub last-row : (s : Set) → s .number ≡ 58 → 0 < storedCount s
+    → getD (setRows (s .number) (s .lines)) (headerLines + lineOf (fieldsOf (setCase s)) (storedCount s - 1)) (plain [])
+    ≡ firstFields (suc (lastField (setCase s) (storedCount s))) (dataRow (setCase s))
+unfolding lastField
+last-row s e some =
+    let n : ℕ = fieldsOf (setCase s) in
+    let t : ℕ = storedCount s in
+    let q : lineOf n (t - 1) * n + fieldOf n (t - 1) ≡ t - 1 = stored-at n (t - 1) in
+    let m : t - lineOf n (t - 1) * n ≡ suc (fieldOf n (t - 1)) = omega arith in
+    let d : lineOf n (t - 1) < linesFor n t = line-enough n t (t - 1) (fieldsOf-some (setCase s) (stored-case s 0 some)) (omega arith) in
+    ap (λ (k : ℕ). getD (setRows k (s .lines)) (headerLines + lineOf n (t - 1)) (plain [])) e
+    ∙ (rw (dataRow-length (setCase s), m) at (data-row (s .lines) (setCase s) t (lists-58 s e) (lineOf n (t - 1)) (rw (dataRow-length (setCase s)) d)))
+
+pub counted-span : (c n : ℕ) → span (firstFields (suc (lastField c n)) (dataRow c) .fields) ≡ countedPast c n
+unfolding dataRow countedPast
+counted-span c n = span-first (suc (lastField c n)) (layoutOf c .widths) ∙ fieldStart-next (layoutOf c .widths) (lastField c n)
+
+-- a data line is no delimiter: a real has a point
+real-point : {n : Bool} {c : ℕ} {s : ℤ} {cols : List ℕ} → RealSpelling n c s cols → ((k : ℕ) → k < length cols → getD cols k 32 ≡ 46 → ⊥) → ⊥
+real-point (spelled bl sg whole part exponent b g d l m x) f =
+    let rest : List ℕ = 46 ∷ (part ++ exponent) in
+    f (length bl + (length sg + (length whole + 0)))
+    (omega (arith, length-append bl (sg ++ (whole ++ rest)), length-append sg (whole ++ rest), length-append whole rest))
+    (getD-append-add bl (sg ++ (whole ++ rest)) (length sg + (length whole + 0)) 32
+    ∙ getD-append-add sg (whole ++ rest) (length whole + 0) 32
+    ∙ getD-append-add whole rest 0 32)
+
+delimiter-pointless : {line : List ℕ} → Delimiter line → (k : ℕ) → getD line k 32 ≡ 46 → ⊥
+delimiter-pointless (delimiter b) zero e = omega arith
+delimiter-pointless (delimiter b) (suc zero) e = omega arith
+delimiter-pointless (delimiter b) (suc (suc zero)) e = omega arith
+delimiter-pointless (delimiter b) (suc (suc (suc zero))) e = omega arith
+delimiter-pointless (delimiter b) (suc (suc (suc (suc zero)))) e = omega arith
+delimiter-pointless (delimiter b) (suc (suc (suc (suc (suc zero))))) e = omega arith
+delimiter-pointless (delimiter b) (suc (suc (suc (suc (suc (suc k)))))) e = omega (arith, blanks-at k b)
+
+first-start : (ws : List ℕ) → fieldStart ws 0 ≡ 0
+unfolding fieldStart
+first-start [] = refl
+first-start (w ∷ ws) = refl
+
+pub data-inside : (c m : ℕ) → c < 8 → {is : List Item} {line : List ℕ} → InColumns (firstFields (suc m) (dataRow c)) is line → Delimiter line → ⊥
+data-inside c m below {is} {line} w d =
+    let ws : List ℕ = layoutOf c .widths in
+    let first = rw (first-start ws) at (data-field c (suc m) 0 (omega arith) (fieldsOf-some c below) w) in
+    real-point (first .spelling)
+    (λ k h e. delimiter-pointless d k (sym (getD-take (getD ws 0 0) line k 32 (omega (arith, h, length-take (getD ws 0 0) line))) ∙ e))
+
 -- a line that ends with its last counted column at the latest has no padding
 blanks-drop : {l : List ℕ} (m : ℕ) → Blanks l → Blanks (drop m l)
 blanks-drop zero b = b
 blanks-drop (suc m) none = none
 blanks-drop (suc m) (one b) = blanks-drop m b
 
-blank-past : (cs : List ℕ) (k : ℕ) → length cs ≤ k → length cs ≤ 80 → Blanks (drop k (filled cs))
+pub blank-past : (cs : List ℕ) (k : ℕ) → length cs ≤ k → length cs ≤ 80 → Blanks (drop k (filled cs))
 blank-past cs k h s =
     let z : length cs + (k - length cs) ≡ k = omega arith in
     let b : Blanks (drop (k - length cs) (drop (length cs) (cs ++ replicate (80 - length cs) 32)))

@@ -25,7 +25,7 @@ use Rattle.theory.specs.Sets.{Set}
 use Rattle.theory.specs.Due.{linesFor, numberRows, rowsHolding, listsOf, setRows}
 use Rattle.theory.specs.Proper.{TypedLines, SetLines}
 use Rattle.parts.specs.Parts as Parts
-use Rattle.parts_laws.specs.Holds.{columnsOf, Holds}
+use Rattle.parts_laws.specs.Holds.{Holds}
 use Rattle.parts_laws.specs.Declared.{declared, setCase}
 use Rattle.parts_laws.specs.DeclaredLaws.{typed-line, typed-length, typed-58, lineOf-columns}
 use Rattle.parts_laws.specs.Stored.{storedCount, storedItem, ownColumns, DataLines}
@@ -56,7 +56,7 @@ line-enough n total j p h =
 
 -- the rows of a 58: its eleven records, then its data lines
 module _ (iss : List (List Item)) (c total : ℕ) (e : listsOf kind58 iss ≡ rowsHolding (dataRow c) total) where
-  data-row : (k : ℕ) → k < linesFor (length (dataRow c .fields)) total → getD (setRows 58 iss) (headerLines + k) (plain []) ≡ firstFields (total - k * length (dataRow c .fields)) (dataRow c)
+  pub data-row : (k : ℕ) → k < linesFor (length (dataRow c .fields)) total → getD (setRows 58 iss) (headerLines + k) (plain []) ≡ firstFields (total - k * length (dataRow c .fields)) (dataRow c)
   unfolding setRows kindOf sequence typedSets
   data-row k h =
       getD-append-add (map recordOf (sequence kind58)) (listsOf kind58 iss) k (plain [])
@@ -114,7 +114,7 @@ module _ (c m k : ℕ) (h : k < m) (l : k < fieldsOf c) where
       let p = fieldPast-total (take m ws) k in
       rw (map-take m ws, span-reals (take m ws)) (rw (getD-take m ws k 0 h, fieldStart-take m k ws (omega arith)) at p)
 
-  data-field : {is : List Item} {line : List ℕ} → InColumns (firstFields m (dataRow c)) is line
+  pub data-field : {is : List Item} {line : List ℕ} → InColumns (firstFields m (dataRow c)) is line
       → Spelled (getD is k Item.blank) (take (getD ws k 0) (drop (fieldStart ws k) line))
   unfolding dataRow
   data-field (InColumns.alone f) = some-field f refl
@@ -122,7 +122,7 @@ module _ (c m k : ℕ) (h : k < m) (l : k < fieldsOf c) where
       rw (left-columns own more (fieldStart ws k) (getD ws k 0) (omega (arith, e, field-left))) (some-field f refl)
 
 -- the lists of a 58
-lists-58 : (s : Set) → s .number ≡ 58 → listsOf kind58 (s .lines) ≡ rowsHolding (dataRow (setCase s)) (storedCount s)
+pub lists-58 : (s : Set) → s .number ≡ 58 → listsOf kind58 (s .lines) ≡ rowsHolding (dataRow (setCase s)) (storedCount s)
 unfolding listsOf following typedSets storedCount declared setCase storedBy
 lists-58 s e = rw e refl
 

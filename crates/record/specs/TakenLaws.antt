@@ -11,7 +11,7 @@ use Rattle.layout.specs.Columns.{fieldStart, total}
 use Rattle.layout.specs.ColumnsLaws.{fieldStart-total}
 use Rattle.layout.specs.Layout.{layoutOf}
 use Rattle.layout.specs.LayoutLaws.{total-inside, widths-six}
-use Rattle.record_table.specs.Row.{Field, Row, blanks, span, withPadding, firstFields}
+use Rattle.record_table.specs.Row.{Row, blanks, span, withPadding, firstFields}
 use Rattle.record_table.specs.Records.{E, recordOf, dataRow}
 use Rattle.record_table.specs.PaddingLaws.{recordOf-unpadded, first-unpadded, data-padding, data-full}
 use Rattle.record.specs.Check.{remainderIn, taken}
@@ -51,7 +51,7 @@ taken-first n k line = taken-whole (firstFields n (recordOf k)) line (first-unpa
 
 -- A data line's remainder, by the widths of its case.
 
-span-first : (n : ℕ) (ws : List ℕ) → span (take n (map E ws)) ≡ fieldStart ws n
+pub span-first : (n : ℕ) (ws : List ℕ) → span (take n (map E ws)) ≡ fieldStart ws n
 unfolding total fieldStart
 span-first zero ws = refl
 span-first (suc n) [] = refl

@@ -1,10 +1,10 @@
 -- Items that stand in the columns of fields: two runs of fields one after the other, and fields that are all blank.
 use mathlib.Core.Path.{_≡_, refl, sym, _∙_}
-use mathlib.Core.List.{List, [], _∷_, _++_, map, append-assoc}
+use mathlib.Core.List.{List, [], _∷_, _++_, append-assoc}
 use Prim.Native.Nat.{ℕ, _+_}
 use native.Mathlib.Omega.{arith}
 use native.Mathlib.Nat.{zero-add}
-use lib.ListN.{length, take, drop, length-append}
+use lib.ListN.{length, take, length-append}
 use lib.Seq.{take-add, take-at, drop-at}
 use Rattle.text.specs.Blank.{Blanks, none, one}
 use Rattle.text.specs.BlankLaws.{blanks-append}

@@ -20,7 +20,7 @@ use Rattle.field.specs.Item.{Item}
 use Rattle.field.specs.Field.{columnsOf, mayBlank, fieldNumber, withItem}
 use Rattle.record_table.specs.Row.{Field, Row, span, paddingFields, withPadding, breach}
 use Rattle.record_laws.specs.KeptReadingLaws.{kept-complete, kept-sound}
-use Rattle.record.specs.Check.{fieldsFault, orColumn, strayIn, stray, itemsOf, breachFault, conditionFault, strayFault, fieldsRefusal, remainderIn, taken, takenRefusal, rowRefusal}
+use Rattle.record.specs.Check.{fieldsFault, orColumn, strayIn, stray, itemsOf, breachFault, conditionFault, strayFault, fieldsRefusal, remainderIn, takenRefusal, rowRefusal}
 use Rattle.record.specs.CheckLaws.{orElse-passed}
 use Rattle.record.specs.TakenLaws.{taken-blank, taken-filled, remainder-none}
 use Rattle.record.specs.Written.{a-text, FieldsIn, rest, skipped, stands, InColumns, optionalItems, AllBlank, Together, Kept, nothing, Written}

@@ -12,7 +12,7 @@ use Rattle.laws.specs.RangesLaws.{in-range}
 use Rattle.codes.specs.Form.{Optional, never, within, optionalOf, blankFrom, blankPast}
 use Rattle.layout.specs.Layout.{layoutOf}
 use Rattle.field.specs.Item.{Item}
-use Rattle.record_table.specs.Row.{Field, Row, blanks, withPadding, firstFields}
+use Rattle.record_table.specs.Row.{Field, Row, blanks, firstFields}
 use Rattle.record_table.specs.Records.{E, records, recordOf, dataRow, noRecord}
 use Rattle.record_table.specs.TabledLaws.{recordOf-past}
 use Rattle.record_table.specs.PaddingLaws.{recordOf-unpadded, whole-fields, first-unpadded, data-full}

@@ -5,10 +5,10 @@ use mathlib.Core.Bool.{Bool, true, false}
 use mathlib.Core.List.{List, append-nil}
 use Prim.Native.Nat.{ℕ}
 use native.Mathlib.Omega.{arith}
-use lib.ListN.{take, drop, take-append-drop}
+use lib.ListN.{drop, take-append-drop}
 use Rattle.laws.specs.ChoiceLaws.{below-or-not, false-not-true}
 use Rattle.laws.specs.RangesLaws.{in-range}
-use Rattle.record_table.specs.Row.{Field, Remainder, blanks, padding, Row, filling, paddingFields, withPadding, cutOff, firstFields}
+use Rattle.record_table.specs.Row.{Field, Remainder, blanks, padding, Row, paddingFields, withPadding, firstFields}
 use Rattle.record_table.specs.Records.{records, recordOf, dataRow, noRecord}
 use Rattle.record_table.specs.TabledLaws.{recordOf-past}
 

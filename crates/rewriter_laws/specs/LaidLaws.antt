@@ -137,7 +137,7 @@ pub laid-plain : {n at : ℕ} {ss : List Set} {ps : List Part} {ls : List (List 
 unfolding laid
 laid-plain (AtPlaces.end b) FairSets.none = PlainSets.none
 laid-plain (AtPlaces.more {s = s} {p = p} {ps = ps} before after b i j h w) (FairSets.more f g) =
-    PlainSets.more (plainNumber (datasetOf p)) (keptIn p) (laid ps) (held-plainly h) (plainNumber-length (datasetOf p)) (held-none h f) (body-trimmed (unpadded p))
+    PlainSets.more {s = s} (plainNumber (datasetOf p)) (keptIn p) (laid ps) (held-plainly h) (plainNumber-length (datasetOf p)) (held-none h f) (body-trimmed (unpadded p))
     (rw (unpadded-cut h f) (body-ends (countedColumns s) (p .body))) (laid-plain w g)
 
 -- with these own lines

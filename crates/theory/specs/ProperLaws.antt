@@ -3,8 +3,6 @@ use mathlib.Core.List.{List, [], _∷_}
 use Prim.Native.Nat.{ℕ, zero, suc, _≤_, _<_}
 use native.Mathlib.Omega.{arith}
 use lib.ListN.{length, getD}
-use Rattle.line.specs.Line.{filled}
-use Rattle.delimiter.specs.Kind.{Delimiter}
 use Rattle.field.specs.Item.{Item}
 use Rattle.record_table.specs.Row.{Row}
 use Rattle.theory.specs.Sets.{Set}

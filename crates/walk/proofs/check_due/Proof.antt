@@ -1,5 +1,5 @@
 -- `walk::check_due` meets its contract.
-use mathlib.Core.Path.{refl, sym, _∙_}
+use mathlib.Core.Path.{sym, _∙_}
 use native.Mathlib.Omega.{arith}
 use Rattle.record_table.specs.Records.{traceEntries, orderLists, noRecord}
 use Rattle.walk.specs.DueLaws.{rowRefusal-record, rowRefusal-list, rowRefusal-data, listRow-58, listRow-82, listRow-1815, listRow-other}
