@@ -18,29 +18,28 @@ use Rattle.real.specs.RealLaws.{realOf-complete}
 use Rattle.real.specs.EndLaws.{signed-size}
 use Rattle.layout.specs.Columns.{fieldStart, lineOf, fieldOf}
 use Rattle.layout.specs.ColumnsLaws.{fieldOf-inside, stored-at}
-use Rattle.layout.specs.Layout.{layoutOf, fieldsOf, numbersOf}
+use Rattle.layout.specs.Layout.{layoutOf, fieldsOf}
 use Rattle.layout.specs.LayoutLaws.{fieldsOf-some, total-inside}
 use Rattle.field.specs.Item.{Item}
 use Rattle.record_table.specs.Row.{Row}
 use Rattle.record_table.specs.Records.{plain, records, recordOf, noRecord}
-use Rattle.record_table.specs.TypedSets.{kindOf, sequence, typedSets, headerLines, kind58, lineSeven}
+use Rattle.record_table.specs.TypedSets.{kindOf, sequence, typedSets, headerLines, kind58}
 use Rattle.record.specs.Written.{Written}
 use Rattle.decimal.specs.Decimal.{fieldText, SameNumber, ReadBack}
 use Rattle.decimal.specs.DecimalLaws.{fieldText-length, fits-read}
 use Rattle.laws.specs.ChoiceLaws.{false-not-true}
 use Rattle.laws.specs.Cut.{cut}
-use Rattle.record.specs.Declared.{caseIn, countIn, storedIn}
 use Rattle.header.specs.Header.{headerOf}
 use Rattle.theory.specs.Sets.{Set}
 use Rattle.theory.specs.Due.{listsOf, setRows}
 use Rattle.theory.specs.Proper.{SetLines}
 use Rattle.parts.specs.Parts as Parts
-use Rattle.parts.specs.Function as Function
 use Rattle.parts_laws.specs.Holds.{Holds}
-use Rattle.parts_laws.specs.Declared.{declared, setCase}
-use Rattle.parts_laws.specs.DeclaredLaws.{typed-line, typed-58, lineOf-columns, number-held, count-held, case-held}
+use Rattle.parts_laws.specs.Declared.{setCase}
+use Rattle.parts_laws.specs.DeclaredLaws.{typed-line, typed-58, lineOf-columns, number-held, case-held}
 use Rattle.parts_laws.specs.Stored.{storedCount, storedItem, ownColumns}
 use Rattle.parts_laws.specs.StoredLaws.{stored-spelled}
+use Rattle.parts_laws.specs.PaddingLaws.{stored-held}
 use Rattle.parts_laws.specs.Field.{Spelled}
 use Rattle.writer.specs.Writer.{decimalsOf, widthAt, fitsAt}
 use Rattle.rewriter_laws.specs.NumberLaws.{plainNumber-again}
@@ -51,7 +50,7 @@ use Rattle.writer_laws.specs.Line.{Fit}
 use Rattle.writer_laws.specs.LineLaws.{fields-allowed, fields-length}
 use Rattle.writer_laws.specs.DataRun.{AllFit, Roomy}
 use Rattle.writer_laws.specs.DataRunLaws.{fit-same, fit-drop, fit-line, width-roomy}
-use Rattle.writer_laws.specs.LentLaws.{lentPart}
+use Rattle.writer_laws.specs.LentLaws.{lentPart, line-first, lent-case, lent-stored}
 use Rattle.writer_laws.specs.Back.{Back}
 
 -- field k of a line
@@ -136,21 +135,10 @@ module _ (header : List ℕ) (p : Passed header) (xs ss : List ℤ) (stored : le
   abbrev data-lines : List (List ℕ)
   data-lines = dataLines (length xs) (layoutOf c .widths) xs ss
 
-  -- the lines of the header stand first in the set
-  line-first : (i : ℕ) → i < headerLines → Parts.lineOf lent i ≡ Parts.columnsIn (getD (cut header .lines) i [])
-  unfolding Parts.lineOf
-  line-first i h = ap Parts.columnsIn (List·getD-append (cut header .lines) data-lines [] i (omega (arith, p .lines)))
-
-  line-seven : Parts.lineOf lent lineSeven ≡ Parts.columnsIn (getD (cut header .lines) lineSeven [])
-  line-seven = line-first lineSeven (omega arith)
-
+  -- the data lines stand after the header's
   line-later : (q : ℕ) → Parts.lineOf lent (headerLines + q) ≡ Parts.columnsIn (getD data-lines q [])
   unfolding Parts.lineOf
   line-later q = ap Parts.columnsIn (ap (λ (n : ℕ). getD (cut header .lines ++ data-lines) (n + q) []) (sym (p .lines)) ∙ getD-append-add (cut header .lines) data-lines q [])
-
-  lent-case : Function.partCase lent ≡ c
-  unfolding Function.partCase
-  lent-case = rw line-seven (sym (p .seventh .case) ∙ p .case)
 
   -- the line of stored number j
   module _ (j : ℕ) (l : j < length xs) where
@@ -206,18 +194,13 @@ module _ (header : List ℕ) (p : Passed header) (xs ss : List ℤ) (stored : le
 
     -- the items of its first eleven lines are written in the header's lines
     pub set-header : (i : ℕ) → i < headerLines → Written (recordOf (getD (sequence kind58) i noRecord)) (getD (s .lines) i []) (Parts.columnsIn (getD (cut header .lines) i []))
-    set-header i l = rw (← line-first i l, lineOf-columns lent i) (header-line (h .lines) set-number i l)
+    set-header i l = rw (← line-first header p xs ss stored fit i l, lineOf-columns lent i) (header-line (h .lines) set-number i l)
 
     pub set-case : setCase s ≡ c
-    set-case = sym (case-held h set-number) ∙ lent-case
+    set-case = sym (case-held h set-number) ∙ lent-case header p xs ss stored fit
 
     pub set-stored : storedCount s ≡ length xs
-    unfolding storedCount declared storedIn
-    set-stored =
-        let line : List ℕ = Parts.columnsIn (getD (cut header .lines) lineSeven []) in
-        let k : caseIn line ≡ c = sym (p .seventh .case) ∙ p .case in
-        let n : countIn line * numbersOf c ≡ length xs = rw k at (sym (p .seventh .left)) ∙ p .left ∙ sym stored in
-        rw (set-case, set-number, ← count-held h set-number, line-seven) n
+    set-stored = sym (stored-held h) ∙ lent-stored header p xs ss stored fit
 
     pub stored-back : (j : ℕ) → j < length xs → Back (getD xs j (pos 0)) (getD ss j (pos 0)) (storedItem s j)
     stored-back j l =

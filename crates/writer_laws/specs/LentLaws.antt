@@ -7,7 +7,7 @@ use native.Mathlib.Omega.{arith}
 use borrow.Author.Tests.{le-ltb}
 use lib.Dec.{eqb}
 use lib.IntN.{ℤ}
-use lib.ListN.{length, length-append}
+use lib.ListN.{length, getD, length-append, List·getD-append}
 use Rattle.laws.specs.Choice.{pick}
 use Rattle.laws.specs.Run.{run}
 use Rattle.laws.specs.Cut.{text, cut, over, judge}
@@ -18,9 +18,10 @@ use Rattle.text.specs.Parts.{isDigit}
 use Rattle.delimiter.specs.Kind.{isDelimiter, thenBlank, datasetNumber}
 use Rattle.integer.specs.Integer.{integerOf, endInteger, stepInteger, push}
 use Rattle.layout.specs.Columns.{fieldOf}
-use Rattle.layout.specs.Layout.{layoutOf, fieldsOf}
+use Rattle.layout.specs.Layout.{layoutOf, fieldsOf, numbersOf}
 use Rattle.layout.specs.LayoutLaws.{fieldsOf-some}
-use Rattle.record_table.specs.TypedSets.{kindOf, isTyped, sequence, typedSets, headerLines, kind58}
+use Rattle.record_table.specs.TypedSets.{kindOf, isTyped, sequence, typedSets, headerLines, kind58, lineSeven}
+use Rattle.record.specs.Declared.{caseIn, countIn, storedIn}
 use Rattle.walk.specs.declared.Due.{Due}
 use Rattle.walk.specs.declared.State.{State}
 use Rattle.walk.specs.declared.Place.the-variants.{Outside, Number, Typed}
@@ -34,9 +35,11 @@ use Rattle.header.specs.Header as Header
 use Rattle.header.specs.Header.{headerOf}
 use Rattle.line_laws.specs.Ends.{joined}
 use Rattle.line_laws.specs.EndsLaws.{cut-joined}
-use Rattle.parts.specs.Parts.{Part, part, outside, inside, partsFrom, partsOf, datasetOf}
-use Rattle.output.specs.Output.{ended}
-use Rattle.rewriter.specs.Rewriter.{plainIn, digitOrBlank, plainNumber, delimiterLine, keptOf, linesText, headText, setText, rewrittenSet, rewritten, rewrittenFile}
+use Rattle.parts.specs.Parts.{columnsIn, Part, part, outside, inside, partsFrom, partsOf, datasetOf, lineOf}
+use Rattle.parts.specs.Function.{partCase, countOf, storedOf}
+use Rattle.parts.specs.Padding.{countedPast}
+use Rattle.rewriter.specs.Rewriter.{plainIn, digitOrBlank, plainNumber, delimiterLine, keptOf, linesText, headText, setText, cutLast, unpadded, rewrittenSet, rewritten, rewrittenFile}
+use Rattle.rewriter.specs.BodyLaws.{linesText-append}
 use Rattle.rewriter.specs.Fair.{Inner, plainDelimiter}
 use Rattle.rewriter.specs.RewriterLaws.{inner-append, delimiter-closes, cut-lines}
 use Rattle.decimal.specs.Decimal.{fieldText}
@@ -48,6 +51,7 @@ use Rattle.writer_laws.specs.DataLines.{dataLines, lentFile}
 use Rattle.writer_laws.specs.DataTextLaws.{field-zero, data-joined}
 use Rattle.writer_laws.specs.DataRun.{dataDue, AllFit, Neat, Ran}
 use Rattle.writer_laws.specs.DataRunLaws.{fit-same, data-ran, width-roomy}
+use Rattle.writer_laws.specs.UnpaddedLaws.{data-uncut}
 
 -- lines that are kept as they are
 neat-inner : {ls : List (List ℕ)} → Neat ls → Inner ls
@@ -62,11 +66,6 @@ neat-text : {ls : List (List ℕ)} → Neat ls → linesText ls ≡ joined ls []
 unfolding linesText joined
 neat-text Neat.none = refl
 neat-text (Neat.more {l} f c k n) = rw (k, neat-text n) (append-assoc l (10 ∷ []) _)
-
-linesText-append : (a b : List (List ℕ)) → linesText (a ++ b) ≡ linesText a ++ linesText b
-unfolding linesText
-linesText-append [] b = refl
-linesText-append (l ∷ a) b = rw (linesText-append a b) (sym (append-assoc (ended (keptOf l)) (linesText a) (linesText b)))
 
 -- bytes after a text whose last line has its LF
 pub cut-after : (a t : List ℕ) → cut a .rest ≡ [] → cut (a ++ t) ≡ text (cut a .lines ++ cut t .lines) (cut t .rest)
@@ -231,9 +230,35 @@ module _ (header : List ℕ) (p : Passed header) (xs ss : List ℤ) (stored : le
   unfolding partsOf
   lent-parts = rw (lent-cut, ← append-assoc (cut header .lines) lines (plainDelimiter ∷ [])) (one-part (cut header .lines ++ lines) lent-inner)
 
+  -- the lines of the header stand first in it, and line 7 gives its case and how many numbers it stores
+  pub line-first : (i : ℕ) → i < headerLines → lineOf lentPart i ≡ columnsIn (getD (cut header .lines) i [])
+  unfolding lineOf
+  line-first i h = ap columnsIn (List·getD-append (cut header .lines) lines [] i (omega (arith, p .lines)))
+
+  pub lent-case : partCase lentPart ≡ c
+  unfolding partCase
+  lent-case = rw (line-first lineSeven (omega arith)) (sym (p .seventh .case) ∙ p .case)
+
+  pub lent-stored : storedOf lentPart ≡ length xs
+  unfolding storedOf countOf datasetOf storedIn
+  lent-stored =
+      let line : List ℕ = columnsIn (getD (cut header .lines) lineSeven []) in
+      let k : caseIn line ≡ c = sym (p .seventh .case) ∙ p .case in
+      let n : countIn line * numbersOf c ≡ length xs = rw k at (sym (p .seventh .left)) ∙ p .left ∙ sym stored in
+      rw (lent-case, plainNumber-again 58 (omega arith) (omega arith), line-first lineSeven (omega arith)) n
+
+  -- it has no padding
+  lent-unpadded : unpadded lentPart ≡ cut header .lines ++ lines
+  unfolding unpadded
+  lent-unpadded = rw (lent-case, lent-stored) (by (eqb (length xs) 0))
+    where
+      by : (t : Bool) → pick t (cut header .lines ++ lines) (cutLast (countedPast c (length xs)) (cut header .lines ++ lines)) ≡ cut header .lines ++ lines
+      by true = refl
+      by false = data-uncut c (p .case-below) (cut header .lines) xs ss (omega (arith, p .stored-some, stored))
+
   -- what it is rewritten to
   pub lent-rewritten : rewrittenFile (lentFile header c xs ss) ≡ writtenSet header c xs ss
   unfolding rewritten rewrittenSet setText datasetOf writtenSet
   lent-rewritten =
-      rw (lent-parts, plainNumber-again 58 (omega arith) (omega arith), append-nil, linesText-append (cut header .lines) lines, ← data-lines)
+      rw (lent-parts, plainNumber-again 58 (omega arith) (omega arith), append-nil, lent-unpadded, linesText-append (cut header .lines) lines, ← data-lines)
       (ap (λ (t : List ℕ). headText 58 ++ t) (append-assoc (linesText (cut header .lines)) (dataText c 0 xs ss) delimiterLine))

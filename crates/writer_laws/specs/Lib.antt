@@ -8,6 +8,7 @@ pub mod Line
 pub mod LineLaws
 pub mod DataRun
 pub mod DataRunLaws
+pub mod UnpaddedLaws
 pub mod LentLaws
 pub mod Back
 pub mod BackLaws
