@@ -16,4 +16,5 @@ pub mod Cover
 pub mod CoverLaws
 pub mod OrderLaws
 pub mod Whole
+pub mod PaddedLaws
 pub mod WholeLaws

@@ -62,7 +62,7 @@ last-most n t p h =
     let m : t + (n - 1) < suc (suc (lineOf n (t - 1))) * n = rw (suc-mul, suc-mul) (omega arith) in
     div-lt-iff-lt-mul p .1 m
 
-last-of : (n t : ℕ) → 0 < n → 0 < t → linesFor n t ≡ suc (lineOf n (t - 1))
+pub last-of : (n t : ℕ) → 0 < n → 0 < t → linesFor n t ≡ suc (lineOf n (t - 1))
 last-of n t p h = omega (arith, line-enough n t (t - 1) p (omega arith), last-most n t p h)
 
 pub last-held : {s : Set} {p : Part} → Holds s p → s .number ≡ 58 → 0 < storedCount s

@@ -1,5 +1,5 @@
 -- A stored number of the list is what the bytes of its own columns mean.
-use mathlib.Core.Path.{_≡_, refl, sym, subst}
+use mathlib.Core.Path.{_≡_, sym, subst}
 use mathlib.Core.List.{List, []}
 use Prim.Native.Nat.{ℕ, _+_, _-_, _<_}
 use native.Mathlib.Omega.{arith}
@@ -17,16 +17,11 @@ use Rattle.parts.specs.Function as Function
 use Rattle.parts.specs.Set.{Somewhere}
 use Rattle.parts.specs.SetLaws.{line-bytes}
 use Rattle.parts_laws.specs.Holds.{Holds}
-use Rattle.parts_laws.specs.DeclaredLaws.{declared-held, case-held}
+use Rattle.parts_laws.specs.DeclaredLaws.{case-held}
 use Rattle.parts_laws.specs.Stored.{storedCount, storedItem, ownColumns}
 use Rattle.parts_laws.specs.StoredLaws.{stored-spelled}
 use Rattle.parts_laws.specs.Field.{Spelled}
 use Rattle.parts_laws.specs.BytesLaws.{field-bytes}
-
--- as many numbers are stored as the list has
-pub stored-held : {s : Set} {p : Parts.Part} → Holds s p → s .number ≡ 58 → Function.storedOf p ≡ storedCount s
-unfolding Function.storedOf storedCount
-stored-held h e = rw (declared-held h, case-held h e) refl
 
 -- the width of a stored number's columns
 span : (p : Parts.Part) (j : ℕ) → Function.pastByte p j - Function.firstByte p j ≡ getD (layoutOf (Function.partCase p) .widths) (fieldOf (fieldsOf (Function.partCase p)) j) 0
@@ -44,7 +39,7 @@ module _ (file : List ℕ) (p : Parts.Part) (ps : List Parts.Part) (w : Somewher
   abbrev line : ℕ
   line = headerLines + lineOf (fieldsOf c) j
 
-  own-bytes : (i : Item) → Spelled i (ownColumns c p j) → ownColumns c p j ≡ take (Function.pastByte p j - Function.firstByte p j) (drop (Function.firstByte p j) file)
+  pub own-bytes : (i : Item) → Spelled i (ownColumns c p j) → ownColumns c p j ≡ take (Function.pastByte p j - Function.firstByte p j) (drop (Function.firstByte p j) file)
   unfolding ownColumns Parts.lineOf Function.firstByte Function.pastByte Function.dataLine
   own-bytes i s =
       rw (span p j)

@@ -1,10 +1,11 @@
--- Every byte of a 58's data lines that is no blank, the lines' ends aside, lies in the columns of a field of a full line.
+-- Every byte of a 58's data lines that is no blank, the lines' ends aside, lies in the columns of a stored
+-- number or of a padding number.
 use mathlib.Core.Path.{_≡_, refl, sym, ap, _∙_}
 use mathlib.Core.Logic.{⊎-elim}
 use mathlib.Core.Bool.{Bool, true, false}
 use mathlib.Core.List.{List, [], _∷_}
 use Prim.Native.Nat.{ℕ, suc, _+_, _-_, _*_, _<_, _≤_}
-use native.Mathlib.Nat.{mul-le-mul, suc-mul, add-mul-div-right, add-mul-mod-self-right, div-eq-of-lt, mod-eq-of-lt, zero-add}
+use native.Mathlib.Nat.{mul-le-mul, suc-mul}
 use native.Mathlib.Omega.{arith}
 use borrow.Author.Tests.{eqb-true, eqb-false}
 use lib.Dec.{eqb}
@@ -13,14 +14,17 @@ use lib.Seq.{getD-take, getD-drop}
 use Rattle.laws.specs.ChoiceLaws.{below-or-not}
 use Rattle.line.specs.Line.{columns, withoutReturn, filled}
 use Rattle.line.specs.LineLaws.{columns-take, columns-lf, columns-return, filled-short}
-use Rattle.layout.specs.Columns.{lineOf, fieldOf}
+use Rattle.layout.specs.Columns.{lineOf, fieldStart, fieldPast}
+use Rattle.layout.specs.ColumnsLaws.{fieldPast-before, fieldPast-total}
 use Rattle.layout.specs.Layout.{layoutOf, fieldsOf}
 use Rattle.record_table.specs.TypedSets.{headerLines}
 use Rattle.theory.specs.Sets.{Set}
+use Rattle.theory.specs.Due.{linesFor}
 use Rattle.line_laws.specs.ShortLaws.{short-at}
 use Rattle.walk.specs.DueLaws.{getD-inside}
 use Rattle.parts.specs.Parts as Parts
 use Rattle.parts.specs.Function as Function
+use Rattle.parts.specs.Padding.{lastField, countedPast, paddingOf}
 use Rattle.parts.specs.Set.{Somewhere}
 use Rattle.parts.specs.SetLaws.{line-bytes, line-end}
 use Rattle.parts_laws.specs.Holds.{columnsOf, Holds}
@@ -28,9 +32,11 @@ use Rattle.parts_laws.specs.Declared.{setCase}
 use Rattle.parts_laws.specs.DeclaredLaws.{case-held}
 use Rattle.parts_laws.specs.Stored.{storedCount}
 use Rattle.parts_laws.specs.StoredLaws.{set-data}
+use Rattle.parts_laws.specs.PaddingLaws.{last-of}
 use Rattle.parts_laws.specs.CoverLaws.{data-covered}
 use Rattle.parts_laws.specs.OrderLaws.{lines-apart, body-length}
 use Rattle.parts_laws.specs.Whole.{fieldCount, Owned}
+use Rattle.parts_laws.specs.PaddedLaws.{stored-some, stored-place, last-number, padding-whole}
 
 -- the line of a byte
 record In (bs : List (List ℕ)) (at x : ℕ) : Type 0 where
@@ -73,13 +79,7 @@ column-byte l a h s =
     ∙ getD-inside (columns true l) a 32 0 h
     ∙ ap (λ (x : List ℕ). getD x a 0) (columns-take true l) ∙ getD-take (length (columns true l)) l a 0 h)
 
--- stored number k * n + f stands in field f of data line k
-stored-place : (n k f : ℕ) → f < n → (lineOf n (f + k * n) ≡ k) × (fieldOf n (f + k * n) ≡ f)
-unfolding lineOf fieldOf
-stored-place n k f h =
-    (add-mul-div-right f k (omega arith) ∙ rw (div-eq-of-lt h, zero-add) refl, add-mul-mod-self-right f k n ∙ mod-eq-of-lt h)
-
--- which is one of those of so many full lines
+-- a field of one of so many full lines
 stored-below : (n k f lines : ℕ) → f < n → k < lines → f + k * n < lines * n
 stored-below n k f lines h l =
     let m : suc k * n ≤ lines * n = mul-le-mul l (omega arith) in
@@ -97,10 +97,45 @@ module _ {s : Set} {p : Parts.Part} (file : List ℕ) (ps : List Parts.Part) (w 
   unfolding columns withoutReturn
   columns-at m = List·getD-map (columns true) (p .body) m []
 
+  -- a field of data line k with a column that is no blank is a stored number's or padding
+  module _ (k a f : ℕ) (l : k < linesFor (fieldsOf (setCase s)) (storedCount s)) (some : f < fieldsOf (setCase s)) (from : fieldStart (layoutOf (setCase s) .widths) f ≤ a)
+      (past : a < fieldPast (layoutOf (setCase s) .widths) f) (n : getD (Parts.lineOf p (headerLines + k)) a 32 ≡ 32 → ⊥) where
+    abbrev fields : ℕ
+    fields = fieldsOf (setCase s)
+
+    abbrev last : ℕ
+    last = lineOf fields (storedCount s - 1)
+
+    stored : 0 < storedCount s
+    stored = stored-some (h .lines) e
+
+    on-last : storedCount s ≤ f + k * fields → last ≤ k → f + k * fields < storedCount s + paddingOf p
+    unfolding countedPast fieldCount
+    on-last q g =
+        let ws : List ℕ = layoutOf (setCase s) .widths in
+        let c : linesFor fields (storedCount s) ≡ suc last = last-of fields (storedCount s) (omega arith) stored in
+        let z : k ≡ last = omega arith in
+        let m : last * fields + suc (lastField (setCase s) (storedCount s)) ≡ storedCount s = last-number h e stored in
+        let y : k * fields ≡ last * fields = ap (λ (x : ℕ). x * fields) z in
+        let b = fieldPast-before ws (lastField (setCase s) (storedCount s)) f (omega arith) in
+        let w = padding-whole h e stored a (omega (arith, b, from)) (omega (arith, past, fieldPast-total ws f)) (rw z at n) in
+        omega (arith, w, stored-below fields k f (linesFor fields (storedCount s)) some l)
+
+    before-last : storedCount s ≤ f + k * fields → k < last → ⊥
+    before-last q g =
+        let m : suc k * fields ≤ last * fields = mul-le-mul g (omega arith) in
+        omega (arith, suc-mul k fields, last-number h e stored)
+
+    counted : f + k * fields < storedCount s + paddingOf p
+    counted =
+        ⊎-elim (λ (q : f + k * fields < storedCount s). omega arith)
+        (λ (q : storedCount s ≤ f + k * fields). ⊎-elim (λ (g : k < last). absurd (before-last q g)) (on-last q) (below-or-not k last))
+        (below-or-not (f + k * fields) (storedCount s))
+
   -- a column of a data line that is no blank is a field's
   owned-column : (k a : ℕ) → headerLines + k < length (p .body) → (getD (filled (columns true (getD (p .body) (headerLines + k) []))) a 32 ≡ 32 → ⊥)
-      → Owned p (fieldCount s) (Parts.lineStart p (headerLines + k) + a)
-  unfolding Function.firstByte Function.pastByte Function.dataLine fieldsOf fieldCount
+      → Owned p (storedCount s + paddingOf p) (Parts.lineStart p (headerLines + k) + a)
+  unfolding Function.firstByte Function.pastByte Function.dataLine Parts.lineOf fieldsOf
   owned-column k a l n =
       let q : Function.partCase p ≡ setCase s = case-held h e in
       let d = set-data (h .lines) e in
@@ -109,7 +144,7 @@ module _ {s : Set} {p : Parts.Part} (file : List ℕ) (ps : List Parts.Part) (w 
       let g = stored-place (length (layoutOf (setCase s) .widths)) k (c .field) (c .some) in
       record {
         index = c .field + k * length (layoutOf (setCase s) .widths);
-        some = stored-below _ k (c .field) _ (c .some) (omega (arith, body-length h e));
+        some = counted k a (c .field) (omega (arith, body-length h e)) (c .some) (c .from) (c .past) n;
         from = rw (q, g .0, g .1) (omega (arith, c .from));
         past = rw (q, g .0, g .1) (omega (arith, c .past));
       }
@@ -131,7 +166,7 @@ module _ {s : Set} {p : Parts.Part} (file : List ℕ) (ps : List Parts.Part) (w 
 
   -- a byte of a data line that is no blank and no end
   owned-at : (m a : ℕ) → headerLines ≤ m → m < length (p .body) → a ≤ length (getD (p .body) m []) → (getD file (Parts.lineStart p m + a) 0 ≡ 32 → ⊥)
-      → (getD file (Parts.lineStart p m + a) 0 ≡ 10 → ⊥) → (getD file (Parts.lineStart p m + a) 0 ≡ 13 → ⊥) → Owned p (fieldCount s) (Parts.lineStart p m + a)
+      → (getD file (Parts.lineStart p m + a) 0 ≡ 10 → ⊥) → (getD file (Parts.lineStart p m + a) 0 ≡ 13 → ⊥) → Owned p (storedCount s + paddingOf p) (Parts.lineStart p m + a)
   owned-at m a o l b blank lf cr =
       let z : headerLines + (m - headerLines) ≡ m = omega arith in
       let d : a < length (getD (p .body) m []) = ⊎-elim (λ (q : a < length (getD (p .body) m [])). q)
@@ -144,7 +179,7 @@ module _ {s : Set} {p : Parts.Part} (file : List ℕ) (ps : List Parts.Part) (w 
       rw z at (owned-column (m - headerLines) a (rw z l) (rw z u))
 
   pub byte-owned : (x : ℕ) → Parts.lineStart p headerLines ≤ x → x < Parts.closingStart p → (getD file x 0 ≡ 32 → ⊥) → (getD file x 0 ≡ 10 → ⊥) → (getD file x 0 ≡ 13 → ⊥)
-      → Owned p (fieldCount s) x
+      → Owned p (storedCount s + paddingOf p) x
   byte-owned x a b blank lf cr =
       let i = line-of x a b in
       let g : headerLines ≤ i .line

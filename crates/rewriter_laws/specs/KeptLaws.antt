@@ -8,7 +8,7 @@ use native.Mathlib.Nat.{zero-mul}
 use native.Mathlib.Omega.{arith}
 use borrow.Author.Tests.{eqb-true}
 use lib.Dec.{eqb}
-use lib.ListN.{length, getD, take, drop, replicate, length-take, take-append-drop}
+use lib.ListN.{length, getD, take, drop, replicate, length-map, length-take, take-append-drop, List·getD-map}
 use lib.Seq.{take-all, take-append-le}
 use Rattle.laws.specs.Choice.{pick}
 use Rattle.laws.specs.ChoiceLaws.{false-not-true, below-or-not}
@@ -16,7 +16,7 @@ use Rattle.text.specs.Blank.{Blanks}
 use Rattle.text.specs.BlankLaws.{blanks-replicate}
 use Rattle.text.specs.Text.{Unpadded, TextIn, text-in, trimmed}
 use Rattle.text.specs.TextLaws.{trimmed-complete, trimmed-sound}
-use Rattle.line.specs.Line.{columns, filled}
+use Rattle.line.specs.Line.{columns, withoutReturn, filled}
 use Rattle.line.specs.LineLaws.{filled-short}
 use Rattle.field.specs.Item.{Item}
 use Rattle.record_table.specs.Row.{Row, span, firstFields}
@@ -32,13 +32,13 @@ use Rattle.layout.specs.Layout.{fieldsOf, numbersOf}
 use Rattle.record.specs.Declared.{countBy}
 use Rattle.parts.specs.Parts.{Part}
 use Rattle.parts.specs.Function.{partCase, storedOf}
-use Rattle.parts.specs.Padding.{lastField, countedPast}
+use Rattle.parts.specs.Padding.{lastField, countedPast, paddingOf}
 use Rattle.parts_laws.specs.Holds.{columnsOf, Holds}
 use Rattle.parts_laws.specs.Declared.{seventhOf, declared, setCase}
 use Rattle.parts_laws.specs.DeclaredLaws.{case-held, typed-58}
 use Rattle.parts_laws.specs.Stored.{storedCount}
 use Rattle.parts_laws.specs.StoredLaws.{stored-case}
-use Rattle.parts_laws.specs.PaddingLaws.{stored-held, last-held, last-row, counted-span, data-inside, blank-past}
+use Rattle.parts_laws.specs.PaddingLaws.{stored-held, last-held, last-row, counted-span, data-inside, blank-past, ended-unpadded}
 use Rattle.rewriter.specs.Rewriter.{keptOf, cutLast, unpadded}
 use Rattle.rewriter.specs.BodyLaws.{trimmed-most, keptOf-most}
 use Rattle.rewriter.specs.Fair.{Fair, FairLines, Inner}
@@ -279,3 +279,22 @@ lines-kept {s} {p} h i = rw (unpadded-cut h i) (by (eqb (storedCount s) 0) refl)
     by false e =
         let some : 0 < storedCount s = not-zero (storedCount s) e in
         last-cut (p .body) (h .lines) i (stored-58 s e) some (last-held h (stored-58 s e) some)
+
+-- Lines of which the last ends with its last counted column at the latest have no padding.
+
+ends-last : {k : ℕ} {css : List (List ℕ)} → EndsBy k css → length (getD css (length css - 1) []) ≤ k
+ends-last EndsBy.none = omega arith
+ends-last (EndsBy.last h) = h
+ends-last (EndsBy.more {css = css} e) = let z : suc (suc (length css)) - 1 ≡ suc (suc (length css) - 1) = omega arith in rw z (ends-last e)
+
+pub held-unpadded : {s : Set} {p : Part} → Holds s p → EndsBy (countedColumns s) (columnsOf (p .body)) → paddingOf p ≡ 0
+unfolding countedColumns paddingOf columns withoutReturn
+held-unpadded {s} {p} h x = by (eqb (storedCount s) 0) refl x
+  where
+    by : (t : Bool) → eqb (storedCount s) 0 ≡ t → EndsBy (pick t 80 (countedPast (setCase s) (storedCount s))) (columnsOf (p .body)) → paddingOf p ≡ 0
+    by true e y = rw (stored-held h, e) refl
+    by false e y =
+        let n : length (columnsOf (p .body)) ≡ length (p .body) = length-map (p .body) (columns true) in
+        let m : getD (columnsOf (p .body)) (length (p .body) - 1) [] ≡ columns true (getD (p .body) (length (p .body) - 1) [])
+        = List·getD-map (columns true) (p .body) (length (p .body) - 1) [] in
+        ended-unpadded p (rw (stored-held h, case-held h (stored-58 s e)) (rw (n, m) at (ends-last y)))

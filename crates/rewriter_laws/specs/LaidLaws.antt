@@ -15,6 +15,7 @@ use Rattle.theory.specs.Proper.{BlankLines, Lines, Ended}
 use Rattle.line_laws.specs.Ends.{joined}
 use Rattle.parts.specs.Parts.{bytesIn, Part, datasetOf}
 use Rattle.parts.specs.PartsLaws.{bytesIn-append}
+use Rattle.parts.specs.Padding.{paddingOf}
 use Rattle.parts_laws.specs.Holds.{columnsOf, Holds, AtPlaces}
 use Rattle.rewriter.specs.Rewriter.{plainNumber, keptOf, linesText, headText, unpadded, setText, rewrittenSet, rewritten}
 use Rattle.rewriter.specs.BodyLaws.{linesText-most, unpadded-most}
@@ -22,11 +23,11 @@ use Rattle.rewriter.specs.PutLaws.{plainNumber-length, setText-length}
 use Rattle.rewriter.specs.PlainLaws.{plainNumber-allowed}
 use Rattle.rewriter.specs.Fair.{FairLines, Inner, FairSets, laid, plainDelimiter}
 use Rattle.rewriter.specs.RewriterLaws.{kept-allowed}
-use Rattle.rewriter_laws.specs.Form.{Plainly, countedColumns, PlainSets, LfEnded, Own, SameSets}
+use Rattle.rewriter_laws.specs.Form.{Plainly, countedColumns, EndsBy, PlainSets, LfEnded, Own, SameSets}
 use Rattle.line_laws.specs.NoDelimiter.{NoDelimiter}
 use Rattle.line_laws.specs.NoDelimiterLaws.{set-none}
 use Rattle.rewriter_laws.specs.NumberLaws.{plainNumber-plainly, plainNumber-line, plainNumber-only, delimiter-six, number-six}
-use Rattle.rewriter_laws.specs.KeptLaws.{kept-most, body-trimmed, body-ends, body-same, body-only, lines-same, unpadded-cut, unpadded-fair, lines-kept}
+use Rattle.rewriter_laws.specs.KeptLaws.{kept-most, body-trimmed, body-ends, body-same, body-only, lines-same, unpadded-cut, unpadded-fair, lines-kept, held-unpadded}
 use Rattle.rewriter_laws.specs.Laid.{bodyOf, keptIn, bodiesOf}
 
 -- The text is its lines, each with an LF.
@@ -181,3 +182,12 @@ plain-only (AtPlaces.more {s = s} {p = p} {ps = ps} before after b i j h w) (Fai
     let f : body ≡ keptIn p = body-only (countedColumns s) q x t z ∙ sym (unpadded-cut h q) in
     let g : later ≡ laid ps = plain-only w r v y in
     rw (e, f, g) refl
+
+-- and have no padding
+pub plain-unpadded : {n at : ℕ} {ss : List Set} {ps : List Part} {ls css : List (List ℕ)} → AtPlaces n at ss ps ls → (w : PlainSets ss css) → map bodyOf ps ≡ bodiesOf w
+    → map paddingOf ps ≡ map (λ (s : Set). 0) ss
+plain-unpadded (AtPlaces.end b) PlainSets.none e = refl
+plain-unpadded (AtPlaces.more {s = s} {p = p} {ps = ps} before after b i j h w) (PlainSets.more number body later k n d t z v) e =
+    let own : bodyOf p ≡ body = cc in
+    let rest : map bodyOf ps ≡ bodiesOf v = cc in
+    rw (held-unpadded h (subst (EndsBy (countedColumns s)) (sym own) z), plain-unpadded w v rest) refl

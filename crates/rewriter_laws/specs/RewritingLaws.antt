@@ -12,6 +12,7 @@ use Rattle.line_laws.specs.EndsLaws.{ended-complete}
 use Rattle.line_laws.specs.ShortLaws.{ended-short}
 use Rattle.parts.specs.Parts.{bytesIn, partsOf}
 use Rattle.parts.specs.PartsLaws.{lines-past}
+use Rattle.parts.specs.Padding.{paddingOf}
 use Rattle.parts_laws.specs.Holds.{AtPlaces}
 use Rattle.parts_laws.specs.HoldsLaws.{lines-stand}
 use Rattle.rewriter.specs.Rewriter.{rewrittenFile}
@@ -20,7 +21,7 @@ use Rattle.rewriter.specs.RewriterLaws.{fair-passed, file-fair}
 use Rattle.rewriter_laws.specs.Form.{InForm, LfEnded, OwnLines, SameSets, KeepsSpellings}
 use Rattle.rewriter_laws.specs.OwnLaws.{own-only}
 use Rattle.rewriter_laws.specs.Laid.{bodyOf, keptIn, bodiesOf}
-use Rattle.rewriter_laws.specs.LaidLaws.{lf-ended, lf-joined, laid-joined, laid-ended, stand-own, laid-lines, laid-plain, laid-own, kept-same, laid-short, sets-same, plain-own, plain-only}
+use Rattle.rewriter_laws.specs.LaidLaws.{lf-ended, lf-joined, laid-joined, laid-ended, stand-own, laid-lines, laid-plain, laid-own, kept-same, laid-short, sets-same, plain-own, plain-only, plain-unpadded}
 
 -- lines that pass are fair
 pass-fair : {ls : List (List ℕ)} → AllPass ls → FairLines ls
@@ -77,6 +78,10 @@ module _ {sets : List Set} {bytes : List ℕ} (p : Proper sets bytes) where
     in-new = record { columns = laid (partsOf bytes); ends = lf-ended rewritten-ends; own = laid-own proper-stand proper-fair };
     same = kept-same proper-stand proper-fair;
   }
+
+  -- UNPADDED: a proper writing in rewritten form has no padding.
+  pub form-unpadded : InForm sets bytes → map paddingOf (partsOf bytes) ≡ map (λ (s : Set). 0) sets
+  form-unpadded f = plain-unpadded proper-stand (f .plain) (own-only proper-own (record { columns = f .columns; ends = lf-ended (f .ends); own = plain-own (f .plain) }))
 
   -- ONLY: no other text is both.
   pub rewritten-only : (new : List ℕ) → InForm sets new → KeepsSpellings sets bytes new → new ≡ rewrittenFile bytes
