@@ -6,7 +6,8 @@ use lib.ListN.{length, take, drop}
 use Rattle.judge.specs.Judge.{judged, reply}
 use Rattle.parts.specs.Parts.{Part, part, partsOf, datasetOf, pastOf}
 use Rattle.parts.specs.Function.{countOf, dataStart}
-use Rattle.lister.specs.Lister.{listReply, listRows}
+use Rattle.parts.specs.Padding.{paddingOf}
+use Rattle.lister.specs.Lister.{rowNumbers, listReply, listRows}
 use Rattle.reader.specs.Reader.{Said, Shown, shown, storedNumber, valueOf}
 use Rattle.values.specs.Values.{allValues}
 use Rattle.rewriter.specs.Rewriter.{rewrittenSet, rewrittenFile}
@@ -33,7 +34,7 @@ atStart p = part 0 0 (p .opening) (p .number) (p .body) (p .closing)
 
 -- its row, lines counted from its opening line and bytes from its first byte
 unfoldable pub rowAlone : Part → List ℕ
-rowAlone p = 1 ∷ datasetOf p ∷ countOf p ∷ 0 ∷ (pastOf p - p .bytes) ∷ (dataStart p - p .bytes) ∷ []
+rowAlone p = 1 ∷ datasetOf p ∷ countOf p ∷ 0 ∷ (pastOf p - p .bytes) ∷ (dataStart p - p .bytes) ∷ paddingOf p ∷ []
 
 -- a stored number as it is shown where b bytes more come before it; a refusal is the same
 abbrev pub shownBehind : ℕ → Shown → Shown
@@ -49,7 +50,7 @@ pub record Alone (bytes alone : List ℕ) (k : ℕ) (s : Set) (p : Part) : Type 
   pub judge : judged alone ≡ reply 0 (length (linesOf p))
   pub parts : partsOf alone ≡ atStart p ∷ []
   -- the lister's one row
-  pub listed : (rows : List ℕ) → 6 ≤ length rows → (listReply alone (length rows) ≡ reply 0 1) × (listRows alone rows ≡ rowAlone p ++ drop 6 rows)
+  pub listed : (rows : List ℕ) → rowNumbers ≤ length rows → (listReply alone (length rows) ≡ reply 0 1) × (listRows alone rows ≡ rowAlone p ++ drop rowNumbers rows)
   -- every question, the refused ones too, is answered as in the whole file
   pub number : (j : ℕ) → storedNumber bytes (suc k) j ≡ saidBehind (p .bytes) (storedNumber alone 1 j)
   pub value : (i : ℕ) → valueOf bytes (suc k) i ≡ valueOf alone 1 i

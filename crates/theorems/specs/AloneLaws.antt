@@ -23,12 +23,13 @@ use Rattle.parts.specs.Parts as Parts
 use Rattle.parts.specs.Parts.{Part, partsOf, bytesIn, pastOf, datasetOf}
 use Rattle.parts.specs.PartsLaws.{bytesIn-append}
 use Rattle.parts.specs.Function as Function
+use Rattle.parts.specs.Padding.{paddingOf}
 use Rattle.parts.specs.Set.{Somewhere}
 use Rattle.parts.specs.SetLaws.{somewhere}
 use Rattle.lister.specs.Lister.{entry, rowsOf}
 use Rattle.reader.specs.Reader.{Said, Shown, refused, setsFrom, shownOf, storedNumber, valueOf, numberFrom, valueFrom}
 use Rattle.values.specs.Values.{allFrom, allValues}
-use Rattle.rewriter.specs.Rewriter.{rewrittenSet, rewritten, rewrittenFile}
+use Rattle.rewriter.specs.Rewriter.{unpadded, rewrittenSet, rewritten, rewrittenFile}
 use Rattle.rewriter_laws.specs.RewritingLaws.{bytes-most}
 use Rattle.theory.specs.Sets.{Set, set}
 use Rattle.theory.specs.Proper.{BlankLines, Lines, Ended, Proper}
@@ -144,7 +145,7 @@ data-alone p = by (Parts.isFunction p)
     by false = omega arith
 
 row-alone : (p : Part) → rowsOf (atStart p ∷ []) ≡ rowAlone p
-unfolding rowsOf entry rowAlone datasetOf Function.countOf Parts.lineOf
+unfolding rowsOf entry rowAlone datasetOf Function.countOf Function.storedOf Function.partCase paddingOf Parts.lineOf
 row-alone p = rw (past-alone p, data-alone p) refl
 
 -- Its lines, taken out of the file's.
@@ -204,7 +205,7 @@ module _ {sets : List Set} {bytes : List ℕ} (w : Proper sets bytes) (k : ℕ) 
     alone-parts = rw alone-cut (held-part h)
 
     alone-rewritten : rewrittenFile (aloneIn bytes p) ≡ rewrittenSet p
-    unfolding rewritten rewrittenSet datasetOf
+    unfolding rewritten rewrittenSet unpadded datasetOf Function.countOf Function.storedOf Function.partCase Parts.lineOf
     alone-rewritten = rw alone-parts (append-nil (rewrittenSet p))
 
 -- THE SET ALONE. The bytes of set k of an accepted file, from its row's fourth number to its fifth, are a file of just that set, and every call

@@ -31,7 +31,8 @@ use Rattle.parts_laws.specs.DeclaredLaws.{declared-held, case-held}
 use Rattle.parts_laws.specs.Stored.{storedCount, storedItem}
 use Rattle.parts_laws.specs.CaseLaws.{case-eight, declared-some}
 use Rattle.parts_laws.specs.Field.{Spelled}
-use Rattle.parts_laws.specs.ShownLaws.{stored-held, stored-shown}
+use Rattle.parts_laws.specs.ShownLaws.{stored-shown}
+use Rattle.parts_laws.specs.PaddingLaws.{stored-held}
 use Rattle.parts_laws.specs.OrderLaws.{columns-inside}
 use Rattle.values.specs.Values.{allFrom, allValues}
 use Rattle.values.specs.Each.{Each}
@@ -54,11 +55,11 @@ module _ {s : Set} {p : Parts.Part} (bytes : List ℕ) (ps : List Parts.Part) (w
   -- its answer, by index
   pub number-answered : (j : ℕ) → j < storedCount s → numberFrom bytes (p ∷ ps) j ≡ shownOf (Function.firstByte p j) (Function.pastByte p j) (realOfItem (storedItem s j))
   number-answered j l =
-      let m : j < Function.storedOf p = rw (stored-held h e) l in
+      let m : j < Function.storedOf p = rw (stored-held h) l in
       rw (lt-ltb j (Function.storedOf p) m, realIn-held j l) refl
 
   pub number-past : (j : ℕ) → storedCount s ≤ j → numberFrom bytes (p ∷ ps) j ≡ refused 18 0
-  number-past j l = let m : Function.storedOf p ≤ j = rw (stored-held h e) l in rw (le-ltb j (Function.storedOf p) m) refl
+  number-past j l = let m : Function.storedOf p ≤ j = rw (stored-held h) l in rw (le-ltb j (Function.storedOf p) m) refl
 
   -- as many values as the list declares
   pub values-held : valuesIn p ≡ declared s
@@ -88,7 +89,7 @@ module _ {s : Set} {p : Parts.Part} (bytes : List ℕ) (ps : List Parts.Part) (w
   unfolding allSaid
   all-by-list =
       let m : 0 < valuesIn p = rw values-held (declared-some (h .lines) e) in
-      rw (lt-ltb 0 (valuesIn p) m, stored-held h e)
+      rw (lt-ltb 0 (valuesIn p) m, stored-held h)
       (ap (whole (storedCount s) []) (reads-same (realIn bytes p) (λ (j : ℕ). realOfItem (storedItem s j)) 0 0 (storedCount s) (λ r q. realIn-held (0 + r) (omega arith))))
 
 -- an accepted file's questions go to its sets

@@ -8,10 +8,10 @@ use Rattle.layout.specs.Layout.{numbersOf}
 use Rattle.theory.specs.Sets.{Set}
 use Rattle.parts.specs.Parts.{Part, closingStart}
 use Rattle.parts.specs.Function.{partCase, countOf, dataStart, firstByte, pastByte}
+use Rattle.parts.specs.Padding.{paddingOf}
 use Rattle.parts_laws.specs.Declared.{declared, setCase}
 use Rattle.parts_laws.specs.Stored.{storedCount, storedItem}
 use Rattle.parts_laws.specs.Field.{Spelled}
-use Rattle.parts_laws.specs.Whole.{fieldCount}
 use Rattle.theorems.specs.Answers.{ownBytes}
 
 -- a 58 of the list, and the part of the text that it is
@@ -55,11 +55,11 @@ pub record OfOneValue (s : Set) (p : Part) (x : ℕ) : Type 0 where
   pub of : OfValue s p x
   pub only : (other : OfValue s p x) → other .value ≡ of .value
 
--- byte x lies in the columns of a padding number: of a field past the stored numbers, up to the last data line's full length
+-- byte x lies in the columns of a padding number: of a field past the stored numbers, of which there are as many as the lister's seventh says
 pub record OfPadding (s : Set) (p : Part) (x : ℕ) : Type 0 where
   pub number : ℕ
   pub from : storedCount s ≤ number
-  pub below : number < fieldCount s
+  pub below : number < storedCount s + paddingOf p
   pub within : Within p number x
 
 -- 02, C-13: "a non-blank data byte belongs to one value or to padding", and never to both

@@ -1,33 +1,39 @@
 -- The columns of a 58's numbers, as the page of theorems states them.
-use mathlib.Core.Path.{_≡_, refl, sym, _∙_}
+use mathlib.Core.Path.{_≡_, refl, sym, subst, _∙_}
 use mathlib.Core.List.{List}
 use mathlib.Core.Logic.{⊎-elim}
 use Prim.Native.Nat.{ℕ, suc, _+_, _*_, _<_, _≤_}
-use native.Mathlib.Nat.{suc-mul, mul-le-mul-right, div-lt-iff-lt-mul}
+use native.Mathlib.Nat.{zero-mul, suc-mul, mul-le-mul-right, div-lt-iff-lt-mul}
 use native.Mathlib.Omega.{arith}
-use borrow.Author.Tests.{lt-ltb}
+use borrow.Author.Tests.{ne-eqb}
 use Rattle.laws.specs.ChoiceLaws.{below-or-not}
 use Rattle.layout.specs.Columns.{lineOf, fieldOf}
 use Rattle.layout.specs.ColumnsLaws.{fieldOf-inside, stored-at}
 use Rattle.layout.specs.Layout.{numbersOf}
+use Rattle.field.specs.Item.{Item}
 use Rattle.record_table.specs.TypedSets.{headerLines}
 use Rattle.theory.specs.Sets.{Set}
 use Rattle.theory.specs.Proper.{Proper}
-use Rattle.parts.specs.Parts.{Part, lineStart}
-use Rattle.parts.specs.Function.{dataStart, firstByte, pastByte}
+use Rattle.parts.specs.Parts.{Part, lineStart, lastLine}
+use Rattle.parts.specs.Parts as Parts
+use Rattle.parts.specs.Function.{partCase, dataStart, firstByte, pastByte}
+use Rattle.parts.specs.Padding.{paddingIn, paddingOf}
 use Rattle.parts_laws.specs.Holds.{Holds}
 use Rattle.parts_laws.specs.Declared.{declared, setCase}
 use Rattle.parts_laws.specs.DeclaredLaws.{number-held, case-held, declared-held}
-use Rattle.parts_laws.specs.Stored.{storedCount}
-use Rattle.parts_laws.specs.Whole.{fieldCount, Owned}
+use Rattle.parts_laws.specs.Stored.{storedCount, ownColumns}
+use Rattle.parts_laws.specs.Field.{Spelled}
+use Rattle.parts_laws.specs.Whole.{Owned}
+use Rattle.parts_laws.specs.PaddingLaws.{stored-held, last-held}
+use Rattle.parts_laws.specs.PaddedLaws.{numbersOf-some, stored-some, padding-held, padding-spelled}
 use Rattle.parts_laws.specs.WholeLaws.{byte-owned}
-use Rattle.parts_laws.specs.ShownLaws.{stored-shown}
+use Rattle.parts_laws.specs.ShownLaws.{own-bytes, stored-shown}
 use Rattle.parts_laws.specs.OrderLaws.{columns-inside, columns-before, columns-apart, first-column}
 use Rattle.parts_laws.specs.CaseLaws.{case-eight, declared-some}
 use Rattle.theorems.specs.Answers.{ownBytes}
-use Rattle.theorems.specs.Stands.{At58}
+use Rattle.theorems.specs.Stands.{SetAt, At58}
 use Rattle.theorems.specs.ListerLaws.{set-holds, set-somewhere}
-use Rattle.theorems.specs.Columns.{Columns, DataByte, Within, OfValue, OfOneValue, OfPadding, Belongs, to-value, to-padding}
+use Rattle.theorems.specs.Columns.{Columns, DataByte, Within, OfValue, OfPadding, Belongs, to-value, to-padding}
 
 -- the data lines of a 58 begin at its twelfth line
 data-start : {s : Set} {p : Part} → Holds s p → s .number ≡ 58 → dataStart p ≡ lineStart p headerLines
@@ -65,10 +71,6 @@ unfolding lineOf
 value-below n count j p h = div-lt-iff-lt-mul p .1 h
 
 -- a stored number is one of a value's
-numbersOf-some : (c : ℕ) → c < 8 → 0 < numbersOf c
-unfolding numbersOf
-numbersOf-some c h = rw (lt-ltb c 8 h) (omega arith)
-
 of-value : (s : Set) (p : Part) (x : ℕ) → setCase s < 8 → Owned p (storedCount s) x → OfValue s p x
 unfolding storedCount
 of-value s p x c o =
@@ -102,7 +104,7 @@ module _ (s : Set) (p : Part) (x : ℕ) (apart : (i j : ℕ) → i < j → i < s
       omega (arith, apart (v .value * n + v .number) (f .number) (omega (arith, i, f .from)) i, v .within .past, f .within .from)
 
   -- a field's byte, by its number
-  belongs : setCase s < 8 → Owned p (fieldCount s) x → Belongs s p x
+  belongs : setCase s < 8 → Owned p (storedCount s + paddingOf p) x → Belongs s p x
   belongs c o =
       ⊎-elim
       (λ (h : o .index < storedCount s).
@@ -138,3 +140,23 @@ module _ {sets : List Set} {bytes : List ℕ} (p : Proper sets bytes) {k : ℕ} 
       let start = data-start holds (a .number) in
       let owned = byte-owned bytes (a .at .others) (set-somewhere p (a .at)) holds (a .number) x (rw start at (d .from)) (d .past) (d .no-blank) (d .no-lf) (d .no-cr) in
       belongs s q x (columns-before holds (a .number)) (case-eight (holds .lines) (a .number)) owned
+
+  some-stored : 0 < storedCount s
+  some-stored = stored-some (holds .lines) (a .number)
+
+  -- the padding that the lister counts: by the last data line, and each of its numbers spells a real
+  pub padding-counted : paddingOf q ≡ paddingIn (setCase s) (storedCount s) (Parts.lineOf q (lastLine q))
+  padding-counted = rw (last-held holds (a .number) some-stored) (padding-held holds (a .number) some-stored)
+
+  pub padding-real : (j : ℕ) → storedCount s ≤ j → j < storedCount s + paddingOf q → (i : Item) × Spelled i (ownBytes bytes q j)
+  unfolding ownBytes
+  padding-real j from below =
+      let x = padding-spelled holds (a .number) some-stored j from below in
+      let own : Spelled (x .0) (ownColumns (partCase q) q j)
+      = subst (λ (c : ℕ). Spelled (x .0) (ownColumns c q j)) (sym (case-held holds (a .number))) (x .1) in
+      (x .0, subst (Spelled (x .0)) (own-bytes bytes q (a .at .others) (set-somewhere p (a .at)) j (x .0) own) own)
+
+-- a set that is no 58 has none
+pub padding-other : {sets : List Set} {bytes : List ℕ} → Proper sets bytes → {k : ℕ} {s : Set} {q : Part} → SetAt sets bytes k s q → (s .number ≡ 58 → ⊥) → paddingOf q ≡ 0
+unfolding paddingOf storedCount declared
+padding-other p {s = s} a n = rw (stored-held (set-holds p a), ne-eqb (s .number) 58 n, zero-mul) refl

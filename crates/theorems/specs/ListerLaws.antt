@@ -10,9 +10,10 @@ use Rattle.laws.specs.Cut.{cut}
 use Rattle.judge.specs.Judge.{reply}
 use Rattle.parts.specs.Parts.{Part, partsOf, datasetOf, pastOf}
 use Rattle.parts.specs.Function.{countOf, dataStart}
+use Rattle.parts.specs.Padding.{paddingOf}
 use Rattle.parts.specs.Set.{Somewhere}
 use Rattle.parts.specs.SetLaws.{somewhere}
-use Rattle.lister.specs.Lister.{entry, rowsOf, listReply, listRows}
+use Rattle.lister.specs.Lister.{rowNumbers, entry, rowsOf, listReply, listRows}
 use Rattle.theory.specs.Sets.{Set}
 use Rattle.theory.specs.Proper.{Proper}
 use Rattle.line_laws.specs.Ends.{CutInto, joined}
@@ -27,15 +28,15 @@ use Rattle.parts_laws.specs.DeclaredLaws.{number-held, declared-held, all-held,
 use Rattle.theorems.specs.Stands.{SetAt}
 use Rattle.theorems.specs.JudgeLaws.{proper-accepted}
 
--- the places 6k to 6k + 5 of rows are those of set k
-row-at : {q : Part} {others : List Part} (k : ℕ) (parts : List Part) (rest : List ℕ) → drop k parts ≡ q ∷ others → take 6 (drop (6 * k) (rowsOf parts ++ rest)) ≡ entry q
+-- the places 7k to 7k + 6 of rows are those of set k
+row-at : {q : Part} {others : List Part} (k : ℕ) (parts : List Part) (rest : List ℕ) → drop k parts ≡ q ∷ others → take rowNumbers (drop (rowNumbers * k) (rowsOf parts ++ rest)) ≡ entry q
 unfolding rowsOf entry
 row-at zero parts rest e = rw e refl
 row-at (suc k) [] rest e = absurd (omega (arith, ap length e))
 row-at (suc k) (p ∷ parts) rest e =
-    let next : 6 * suc k ≡ 6 + 6 * k = omega arith in
-    ap (λ (n : ℕ). take 6 (drop n (rowsOf (p ∷ parts) ++ rest))) next
-    ∙ ap (take 6) (sym (drop-drop (6 * k) 6 (rowsOf (p ∷ parts) ++ rest)))
+    let next : rowNumbers * suc k ≡ rowNumbers + rowNumbers * k = omega arith in
+    ap (λ (n : ℕ). take rowNumbers (drop n (rowsOf (p ∷ parts) ++ rest))) next
+    ∙ ap (take rowNumbers) (sym (drop-drop (rowNumbers * k) rowNumbers (rowsOf (p ∷ parts) ++ rest)))
     ∙ row-at k parts rest e
 
 module _ {sets : List Set} {bytes : List ℕ} (p : Proper sets bytes) where
@@ -57,11 +58,11 @@ module _ {sets : List Set} {bytes : List ℕ} (p : Proper sets bytes) where
       let f = stand-at k s later lister-places e in
       (f .part, record { later = later; listed = e; others = f .others; stands = f .sets })
 
-  pub lister-answers : (rows : List ℕ) → 6 * length sets ≤ length rows
-      → (listReply bytes (length rows) ≡ reply 0 (length sets)) × (listRows bytes rows ≡ rowsOf (partsOf bytes) ++ drop (6 * length sets) rows)
+  pub lister-answers : (rows : List ℕ) → rowNumbers * length sets ≤ length rows
+      → (listReply bytes (length rows) ≡ reply 0 (length sets)) × (listRows bytes rows ≡ rowsOf (partsOf bytes) ++ drop (rowNumbers * length sets) rows)
   unfolding listReply listRows
   lister-answers rows h =
-      let room = le-ltb (length rows) (6 * length sets) h in
+      let room = le-ltb (length rows) (rowNumbers * length sets) h in
       (rw (proper-accepted p, parts-many, room) refl, rw (proper-accepted p, parts-many, room) refl)
 
   pub lister-numbers : (map datasetOf (partsOf bytes) ≡ map (λ (s : Set). s .number) sets) × (map countOf (partsOf bytes) ≡ map declared sets)
@@ -84,10 +85,10 @@ module _ {sets : List Set} {bytes : List ℕ} (p : Proper sets bytes) where
     unfolding partsOf
     set-somewhere = somewhere bytes k 0 0 (partsOf bytes) q (a .others) (omega arith) refl (a .stands)
 
-    pub lister-row : (rows : List ℕ) → 6 * length sets ≤ length rows
-        → take 6 (drop (6 * k) (listRows bytes rows)) ≡ suc (q .lines) ∷ s .number ∷ declared s ∷ q .bytes ∷ pastOf q ∷ dataStart q ∷ []
+    pub lister-row : (rows : List ℕ) → rowNumbers * length sets ≤ length rows
+        → take rowNumbers (drop (rowNumbers * k) (listRows bytes rows)) ≡ suc (q .lines) ∷ s .number ∷ declared s ∷ q .bytes ∷ pastOf q ∷ dataStart q ∷ paddingOf q ∷ []
     unfolding entry
     lister-row rows h =
-        ap (λ (r : List ℕ). take 6 (drop (6 * k) r)) (lister-answers rows h .1)
-        ∙ row-at k (partsOf bytes) (drop (6 * length sets) rows) (a .stands)
+        ap (λ (r : List ℕ). take rowNumbers (drop (rowNumbers * k) r)) (lister-answers rows h .1)
+        ∙ row-at k (partsOf bytes) (drop (rowNumbers * length sets) rows) (a .stands)
         ∙ rw (number-held set-holds, declared-held set-holds) refl

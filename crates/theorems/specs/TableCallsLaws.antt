@@ -32,7 +32,7 @@ use Rattle.layout.specs.Layout.{numbersOf}
 use Rattle.record_table.specs.TypedSets.{headerLines}
 use Rattle.parts.specs.Parts.{Part, partsOf}
 use Rattle.parts.specs.Function.{partCase, storedOf, firstByte, pastByte}
-use Rattle.lister.specs.Lister.{listReply}
+use Rattle.lister.specs.Lister.{rowNumbers, listReply}
 use Rattle.reader.specs.declared.Read.{Read}
 use Rattle.reader.specs.declared.Read.the-variants as read
 use Rattle.reader.specs.Reader as Reader
@@ -158,7 +158,7 @@ pub calls-table : (bytes : List ℕ) (k i room : ℕ) → CallsInTable bytes k i
 unfolding listReply storedNumber valueOf allReply allValues rewriteReply
 calls-table bytes k i room =
     record {
-      lister = in-room bytes (ltb room (6 * length (partsOf bytes))) 17 (length (partsOf bytes)) (omega arith, omega arith);
+      lister = in-room bytes (ltb room (rowNumbers * length (partsOf bytes))) 17 (length (partsOf bytes)) (omega arith, omega arith);
       number = replied-after bytes (numberFrom bytes (setsFrom bytes k) i) (replied-number bytes (setsFrom bytes k) i);
       value = replied-after bytes (valueFrom bytes (setsFrom bytes k) i) (replied-value bytes (setsFrom bytes k) i);
       all = replied-places (judgedFirst (judged bytes) (allFrom bytes (setsFrom bytes k))) room (replied-after bytes (allFrom bytes (setsFrom bytes k)) (replied-all bytes (setsFrom bytes k)));

@@ -1,4 +1,4 @@
--- THE PAGE OF THEOREMS: the three demands, C-11 and C-14, sentence by sentence, each with the theorems that carry it; what is proved stands in the files that
+-- THE PAGE OF THEOREMS: the three demands, C-11, C-13 and C-14, sentence by sentence, each with the theorems that carry it; what is proved stands in the files that
 -- they cite. A file is a list of bytes. Every call is proved to answer, for all bytes and numbers, by definitions that are named here, in its `ensures`
 -- (crates/host/src/lib.rt); `judged` is the judge's reply, and `Proper sets bytes` says from a list of sets alone that a text is a proper writing of it.
 use mathlib.Core.Path.{_≡_}
@@ -15,11 +15,13 @@ use Rattle.exact.specs.Exact.{magnitudeOf}
 use Rattle.exact.specs.Bits.{bitsOf}
 use Rattle.layout.specs.Layout.{numbersOf}
 use Rattle.line.specs.declared.Refusal.{Refusal}
+use Rattle.field.specs.Item.{Item}
 use Rattle.record_table.specs.TypedSets.{headerLines}
 use Rattle.judge.specs.declared.Reply.{Reply}
 use Rattle.judge.specs.Judge.{judged, reply, replyAt, atLine}
-use Rattle.parts.specs.Parts.{Part, partsOf, datasetOf, pastOf}
+use Rattle.parts.specs.Parts.{Part, partsOf, datasetOf, pastOf, lineOf, lastLine}
 use Rattle.parts.specs.Function.{countOf, dataStart, firstByte, pastByte}
+use Rattle.parts.specs.Padding.{paddingIn, paddingOf}
 use Rattle.reader.specs.Reader.{said, refused, shownOf, storedNumber, valueOf, valueWith}
 use Rattle.values.specs.Values.{allValues, allReply, allPlaces}
 use Rattle.rewriter.specs.Rewriter.{headText, rewrittenFile, rewriteReply, rewriteOut}
@@ -29,7 +31,7 @@ use Rattle.stream.specs.declared.Stream.{Stream}
 use Rattle.stream.specs.declared.Answer.the-variants.{SoFar, Refused}
 use Rattle.stream.specs.Stream.{seen, Stepped, answerOf, paper, endReply, closed, freshRecord}
 use Rattle.stream_c.specs.Lent.{isShort, streamOf, startReply, startNumbers, startLine, endOf, endNumbers, Untouched, Burst, same}
-use Rattle.lister.specs.Lister.{rowsOf, listReply, listRows}
+use Rattle.lister.specs.Lister.{rowNumbers, rowsOf, listReply, listRows}
 use Rattle.host.specs.Packed.{InWord, word, numberIn}
 use Rattle.host.specs.Answer.{numberAnswer, valueAnswer, replyFor, bytesAfter}
 use Rattle.theory.specs.Sets.{Set}
@@ -39,6 +41,7 @@ use Rattle.parts_laws.specs.Holds.{AtPlaces}
 use Rattle.parts_laws.specs.Text.{linesOf}
 use Rattle.parts_laws.specs.Declared.{declared, setCase}
 use Rattle.parts_laws.specs.Stored.{storedCount, storedItem}
+use Rattle.parts_laws.specs.Field.{Spelled}
 use Rattle.rewriter_laws.specs.Form.{InForm, KeepsSpellings}
 use Rattle.writer_laws.specs.Reply.{Coefficients}
 use Rattle.writer_laws.specs.HeaderRefused.{twelfthFault}
@@ -148,6 +151,9 @@ module _ {header : List ℕ} {xs ss : List ℤ} (l : LaidOut header xs ss) where
   pub writer-accepted : (judged (writtenText header xs ss) .number ≡ 0) × (rewrittenFile (writtenText header xs ss) ≡ writtenText header xs ss)
   writer-accepted = WriterLaws.writer-accepted l
 
+  pub writer-unpadded : map paddingOf (partsOf (writtenText header xs ss)) ≡ 0 ∷ []
+  writer-unpadded = WriterLaws.writer-unpadded l
+
   pub writer-read : (j : ℕ) → j < length xs → ReadAs (writtenText header xs ss) j (getD xs j (pos 0)) (getD ss j (pos 0))
   writer-read = WriterLaws.writer-read l
 
@@ -165,8 +171,8 @@ proper-unique = JudgeLaws.proper-unique
 
 module _ {sets : List Set} {bytes : List ℕ} (p : Proper sets bytes) where
   -- "The lister's number of sets, dataset numbers and, for a 58, declared counts are that list's, in order.", and where each set stands
-  pub lister-answers : (rows : List ℕ) → 6 * length sets ≤ length rows
-      → (listReply bytes (length rows) ≡ reply 0 (length sets)) × (listRows bytes rows ≡ rowsOf (partsOf bytes) ++ drop (6 * length sets) rows)
+  pub lister-answers : (rows : List ℕ) → rowNumbers * length sets ≤ length rows
+      → (listReply bytes (length rows) ≡ reply 0 (length sets)) × (listRows bytes rows ≡ rowsOf (partsOf bytes) ++ drop (rowNumbers * length sets) rows)
   lister-answers = ListerLaws.lister-answers p
 
   pub lister-numbers : (map datasetOf (partsOf bytes) ≡ map (λ (s : Set). s .number) sets) × (map countOf (partsOf bytes) ≡ map declared sets)
@@ -179,9 +185,12 @@ module _ {sets : List Set} {bytes : List ℕ} (p : Proper sets bytes) where
   set-stands = ListerLaws.set-stands p
 
   module _ {k : ℕ} {s : Set} {q : Part} (a : SetAt sets bytes k s q) where
-    pub lister-row : (rows : List ℕ) → 6 * length sets ≤ length rows
-        → take 6 (drop (6 * k) (listRows bytes rows)) ≡ suc (q .lines) ∷ s .number ∷ declared s ∷ q .bytes ∷ pastOf q ∷ dataStart q ∷ []
+    pub lister-row : (rows : List ℕ) → rowNumbers * length sets ≤ length rows
+        → take rowNumbers (drop (rowNumbers * k) (listRows bytes rows)) ≡ suc (q .lines) ∷ s .number ∷ declared s ∷ q .bytes ∷ pastOf q ∷ dataStart q ∷ paddingOf q ∷ []
     lister-row = ListerLaws.lister-row p a
+
+    pub lister-other : (s .number ≡ 58 → ⊥) → paddingOf q ≡ 0
+    lister-other = ColumnsLaws.padding-other p a
 
     pub lister-bytes : take (pastOf q - q .bytes) (drop (q .bytes) bytes) ≡ Ends.joined (linesOf q) []
     lister-bytes = ListerLaws.lister-bytes p a
@@ -208,11 +217,15 @@ module _ {sets : List Set} {bytes : List ℕ} (p : Proper sets bytes) where
     all-refused-one = ValuesLaws.all-refused-one p a
 
   -- "What the rewriter gives is again a proper writing of that list, the one in document 01's rewritten form that keeps the file's spellings."
-  pub rewriter-keeps : Proper sets (rewrittenFile bytes) × (InForm sets (rewrittenFile bytes) × KeepsSpellings bytes (rewrittenFile bytes))
+  pub rewriter-keeps : Proper sets (rewrittenFile bytes) × (InForm sets (rewrittenFile bytes) × KeepsSpellings sets bytes (rewrittenFile bytes))
   rewriter-keeps = RewriterLaws.rewriter-keeps p
 
-  pub rewriter-only : (new : List ℕ) → InForm sets new → KeepsSpellings bytes new → new ≡ rewrittenFile bytes
+  pub rewriter-only : (new : List ℕ) → InForm sets new → KeepsSpellings sets bytes new → new ≡ rewrittenFile bytes
   rewriter-only = RewriterLaws.rewriter-only p
+
+  -- padding is "dropped by the rewriter"
+  pub rewriter-unpadded : map paddingOf (partsOf (rewrittenFile bytes)) ≡ map (λ (s : Set). 0) sets
+  rewriter-unpadded = RewriterLaws.rewriter-unpadded p
 
   pub rewriter-again : rewrittenFile (rewrittenFile bytes) ≡ rewrittenFile bytes
   rewriter-again = RewriterLaws.rewriter-again p
@@ -239,6 +252,14 @@ module _ {sets : List Set} {bytes : List ℕ} (p : Proper sets bytes) where
     -- "Every non-blank byte of the data lines, their ends aside, belongs to exactly one of these values" or (02, C-13) "to padding"
     pub bytes-of-values : (x : ℕ) → DataByte bytes q x → Belongs s q x
     bytes-of-values = ColumnsLaws.bytes-of-values p a
+
+    -- 02, C-13: "the seventh number, which counts the text's padding": the fields of the full line past the counted ones where a byte of them is no
+    -- blank, 0 otherwise (`paddingIn`); each of them is one of the "well-formed reals". `cases` Padded has two files of one list with different ones.
+    pub padding-counted : paddingOf q ≡ paddingIn (setCase s) (storedCount s) (lineOf q (lastLine q))
+    padding-counted = ColumnsLaws.padding-counted p a
+
+    pub padding-real : (j : ℕ) → storedCount s ≤ j → j < storedCount s + paddingOf q → (i : Item) × Spelled i (ownBytes bytes q j)
+    padding-real = ColumnsLaws.padding-real p a
 
     -- "No number shown of a value comes from columns other than its own, whatever the others hold."
     pub number-by-bytes : (j : ℕ) → j < storedCount s → storedNumber bytes (suc k) j ≡ shownOf (firstByte q j) (pastByte q j) (realOf (ownBytes bytes q j))

@@ -1,12 +1,15 @@
 -- What the writer lays out, and what judge, rewriter and reader say of it.
 use mathlib.Core.Path.{_≡_, refl}
-use mathlib.Core.List.{List}
+use mathlib.Core.List.{List, [], _∷_, map}
 use Prim.Native.Nat.{ℕ, _<_, _≤_}
 use lib.IntN.{ℤ, pos}
 use lib.ListN.{length, getD}
 use Rattle.judge.specs.Judge.{judged}
 use Rattle.header.specs.Header.{headerOf}
+use Rattle.parts.specs.Parts.{partsOf}
+use Rattle.parts.specs.Padding.{paddingOf}
 use Rattle.rewriter.specs.Rewriter.{rewrittenFile}
+use Rattle.rewriter_laws.specs.RewritingLaws.{form-unpadded}
 use Rattle.writer.specs.Writer.{writeReply, writeOut}
 use Rattle.writer_laws.specs.DataLines.{lentFile}
 use Rattle.writer_laws.specs.HeaderRunLaws.{header-passed}
@@ -39,6 +42,10 @@ module _ (header : List ℕ) (xs ss : List ℤ) where
 module _ {header : List ℕ} {xs ss : List ℤ} (l : LaidOut header xs ss) where
   pub writer-accepted : (judged (writtenText header xs ss) .number ≡ 0) × (rewrittenFile (writtenText header xs ss) ≡ writtenText header xs ss)
   writer-accepted = (accepted-zero (l .proper), l .again)
+
+  -- it has no padding
+  pub writer-unpadded : map paddingOf (partsOf (writtenText header xs ss)) ≡ 0 ∷ []
+  writer-unpadded = form-unpadded (l .proper) (l .form)
 
   pub writer-read : (j : ℕ) → j < length xs → ReadAs (writtenText header xs ss) j (getD xs j (pos 0)) (getD ss j (pos 0))
   writer-read j h =
