@@ -41,6 +41,7 @@ use Rattle.judge.specs.declared.Reply.{Reply}
 use Rattle.judge.specs.Judge.{lineStep, judged}
 use Rattle.parts.specs.Parts as P
 use Rattle.parts.specs.Function as F
+use Rattle.parts.specs.Padding.{lastField, countedPast, remainder, paddingIn, paddingOf}
 use Rattle.lister.specs.Lister.{entry, rowsOf, listReply, listRows}
 use Rattle.reader.specs.Reader as Reader
 use Rattle.reader.specs.Reader.{Said, Shown}
@@ -91,7 +92,7 @@ unfolding computed-parts F.partCase F.countOf F.storedOf F.dataLine F.firstByte 
 computed-number file set index = Reader.storedNumber file set index
 
 unfoldable pub computed-list : List ℕ → ℕ → Reply
-unfolding computed-number F.dataStart P.pastOf P.throughOf entry rowsOf listReply listRows
+unfolding computed-number F.dataStart P.pastOf P.throughOf lastField countedPast remainder paddingIn paddingOf entry rowsOf listReply listRows
 computed-list file places = listReply file places
 
 unfoldable pub computed-exact : Bool → ℕ → Bool → ℕ → Exact
@@ -103,7 +104,7 @@ unfolding computed-number computed-exact F.dataStart Reader.readOf Reader.reads 
 computed-values file set places = allReply file set places
 
 unfoldable pub computed-rewrite : List ℕ → List ℕ
-unfolding computed-number P.pastOf P.throughOf W.digitOrBlank W.plainIn W.plainNumber W.keptOf W.linesText W.headText W.setText W.rewrittenSet W.rewritten
+unfolding computed-number P.pastOf P.throughOf lastField countedPast W.digitOrBlank W.plainIn W.plainNumber W.keptOf W.linesText W.headText W.cutLast W.unpadded W.setText W.rewrittenSet W.rewritten
 computed-rewrite file = W.rewrittenFile file
 
 unfoldable pub computed-data : ℕ → ℕ → List ℤ → List ℤ → List ℕ

@@ -22,12 +22,34 @@ infixr 5 _◂_
 abbrev _◂_ : ℕ → List ℕ → List ℕ
 a ◂ l = L._∷_ a l
 
--- its rows, in fourteen places of which the last two are kept
-pub example-listed : (listReply example 14 ≡ reply 0 2)
-    × (listRows example (0 ◂ 0 ◂ 0 ◂ 0 ◂ 0 ◂ 0 ◂ 0 ◂ 0 ◂ 0 ◂ 0 ◂ 0 ◂ 0 ◂ 8 ◂ 9 ◂ L.[])
-    ≡ 1 ◂ 164 ◂ 0 ◂ 0 ◂ 164 ◂ 0 ◂ 7 ◂ 58 ◂ 7 ◂ 164 ◂ 672 ◂ 572 ◂ 8 ◂ 9 ◂ L.[])
+-- its rows, in sixteen places of which the last two are kept; thirteen are too few
+pub example-listed : (listReply example 16 ≡ reply 0 2)
+    × ((listRows example (replicate 14 0 ++ (8 ◂ 9 ◂ L.[])) ≡ 1 ◂ 164 ◂ 0 ◂ 0 ◂ 164 ◂ 0 ◂ 0 ◂ 7 ◂ 58 ◂ 7 ◂ 164 ◂ 672 ◂ 572 ◂ 0 ◂ 8 ◂ 9 ◂ L.[])
+    × (listReply example 13 ≡ reply 17 0))
 unfolding computed-list
-example-listed = (refl, refl)
+example-listed = (refl, (refl, refl))
+
+-- its 58 alone, with its last data line (02, C-13) bare and full
+abbrev lastLine : String → List ℕ
+lastLine l =
+    measured "         2         7         1  0.00000E+00  1.00000E-03  0.00000E+00"
+    ("  1.00000E-01 -2.00000E-01  3.00000E-01 -4.00000E-01  5.00000E-01 -6.00000E-01" ⊕ l ⊕ closing)
+
+abbrev bare : List ℕ
+bare = lastLine "  7.00000E-01"
+
+abbrev full : List ℕ
+full = lastLine "  7.00000E-01 -2.00000E-01  3.00000E-01 -4.00000E-01  5.00000E-01 1.00000E+999"
+
+-- the seventh number is the padding numbers; both are rewritten to the same bytes, so their list is one (`theorems` Theorems, `one-list`)
+pub padded-pair : (listRows bare (replicate 7 0) ≡ 1 ◂ 58 ◂ 7 ◂ 0 ◂ 508 ◂ 408 ◂ 0 ◂ L.[])
+    × (listRows full (replicate 7 0) ≡ 1 ◂ 58 ◂ 7 ◂ 0 ◂ 573 ◂ 408 ◂ 5 ◂ L.[])
+unfolding computed-list
+padded-pair = (refl, refl)
+
+pub padded-rewritten : (W.rewrittenFile bare ≡ bare) × (W.rewrittenFile full ≡ bare)
+unfolding computed-rewrite
+padded-rewritten = (refl, refl)
 
 -- its 58's values in eight places, of which the last is kept: 0.1, -0.2, 0.3, -0.4, 0.5, -0.6 and 0.7; six places are too few; set 1 is no 58, and
 -- there is no set 0 or 3

@@ -12,7 +12,11 @@ use Rattle.rewriter_laws.specs.RewritingLaws.{rewritten-proper, rewritten-form,
 use Rattle.theory.specs.Sets.{Set}
 use Rattle.theory.specs.Proper.{Proper}
 use Rattle.theorems.specs.Answers.{Filled}
-use Rattle.theorems.specs.JudgeLaws.{proper-accepted}
+use Rattle.theorems.specs.JudgeLaws.{proper-accepted, proper-unique}
+
+-- files that are rewritten to the same bytes have one list
+pub one-list : {a b : List Set} {x y : List ℕ} → Proper a x → Proper b y → rewrittenFile x ≡ rewrittenFile y → a ≡ b
+one-list p q e = proper-unique (rewritten-proper p) (rw (← e) at (rewritten-proper q))
 
 module _ {sets : List Set} {bytes : List ℕ} (p : Proper sets bytes) where
   pub rewriter-keeps : Proper sets (rewrittenFile bytes) × (InForm sets (rewrittenFile bytes) × KeepsSpellings sets bytes (rewrittenFile bytes))

@@ -254,7 +254,7 @@ module _ {sets : List Set} {bytes : List ℕ} (p : Proper sets bytes) where
     bytes-of-values = ColumnsLaws.bytes-of-values p a
 
     -- 02, C-13: "the seventh number, which counts the text's padding": the fields of the full line past the counted ones where a byte of them is no
-    -- blank, 0 otherwise (`paddingIn`); each of them is one of the "well-formed reals". `cases` Padded has two files of one list with different ones.
+    -- blank, 0 otherwise (`paddingIn`); each of them is one of the "well-formed reals". `cases` Examples has two files of one list with different ones.
     pub padding-counted : paddingOf q ≡ paddingIn (setCase s) (storedCount s) (lineOf q (lastLine q))
     padding-counted = ColumnsLaws.padding-counted p a
 
@@ -267,6 +267,11 @@ module _ {sets : List Set} {bytes : List ℕ} (p : Proper sets bytes) where
 
     pub value-by-bytes : (i : ℕ) → i < declared s → valueOf bytes (suc k) i ≡ valueWith (λ (j : ℕ). realOf (ownBytes bytes q j)) (setCase s) i
     value-by-bytes = ReaderLaws.value-by-bytes p a
+
+-- "the seventh number .. is neither of the list nor among the numbers shown": files that the rewriter gives the same bytes for, as it does where they
+-- differ in padding alone, have one list
+pub one-list : {a b : List Set} {x y : List ℕ} → Proper a x → Proper b y → rewrittenFile x ≡ rewrittenFile y → a ≡ b
+one-list = RewriterLaws.one-list
 
 -- so of two 58s, of one file or of two
 module _ {sets sets′ : List Set} {bytes bytes′ : List ℕ} (p : Proper sets bytes) (p′ : Proper sets′ bytes′) {k k′ : ℕ} {s s′ : Set} {q q′ : Part}
