@@ -1,6 +1,7 @@
 -- THE PAGE OF THEOREMS: the three demands, C-11 and C-14, sentence by sentence, each with the theorems that carry it; what is proved stands in the files that
--- they cite. A file is a list of bytes. Every call is proved to answer, for all bytes and numbers, by definitions that are named here, in its `ensures`
--- (crates/host/src/lib.rt); `judged` is the judge's reply, and `Proper sets bytes` says from a list of sets alone that a text is a proper writing of it.
+-- they cite. A file is a list of bytes. Every call is proved to answer, for all bytes and numbers, by definitions that are named here, in its `ensures`: C
+-- gets `word` of a reply, a stored number or a value by `replyFor`, a burst by `Burst word` (crates/host/src/lib.rt); for C-11 also crates/stream_mut/src/lib.rt.
+-- `judged` is the judge's reply, and `Proper sets bytes` says from a list of sets alone that a text is a proper writing of it.
 use mathlib.Core.Path.{_≡_}
 use mathlib.Core.Bool.{true, false}
 use mathlib.Core.List.{List, [], _∷_, _++_, map}
@@ -30,8 +31,8 @@ use Rattle.stream.specs.declared.Answer.the-variants.{SoFar, Refused}
 use Rattle.stream.specs.Stream.{seen, Stepped, answerOf, paper, endReply, closed, freshRecord}
 use Rattle.stream_c.specs.Lent.{isShort, streamOf, startReply, startNumbers, startLine, endOf, endNumbers, Untouched, Burst, same}
 use Rattle.lister.specs.Lister.{rowsOf, listReply, listRows}
-use Rattle.host.specs.Packed.{InWord, word, numberIn}
-use Rattle.host.specs.Answer.{numberAnswer, valueAnswer, replyFor, bytesAfter}
+use Rattle.host.specs.Packed.{InWord, word, numberIn, Carries}
+use Rattle.host.specs.Answer.{numberBytes, valueBytes, numberAnswer, valueAnswer, replyFor, bytesAfter}
 use Rattle.theory.specs.Sets.{Set}
 use Rattle.theory.specs.Proper.{Proper}
 use Rattle.line_laws.specs.Ends as Ends
@@ -53,6 +54,7 @@ use Rattle.theorems.specs.Columns.{Columns, DataByte, OfOneValue}
 use Rattle.theorems.specs.Alone.{aloneIn, setsAlone, together, Alone}
 use Rattle.theorems.specs.LaidOut.{writtenText, LaidOut, ReadAs}
 use Rattle.exact.specs.ExactLaws as ExactLaws
+use Rattle.host.specs.PackedLaws as PackedLaws
 use Rattle.writer_laws.specs.HeaderRefusedLaws as HeaderRefusedLaws
 use Rattle.walk_laws.specs.FaultColumnLaws as FaultColumnLaws
 use Rattle.walk_laws.specs.FileFaultLaws as FileFaultLaws
@@ -322,7 +324,10 @@ refusal-column = FaultColumnLaws.file-column
 pub refusal-too-long : (bytes : List ℕ) → 16777216 < length bytes → judged bytes ≡ reply 1 0
 refusal-too-long = FileFaultLaws.too-long-judged
 
--- the word that carries the judge's reply to a host loses nothing of it (`InWord`)
+-- the word that carries a reply to C gives its number, column and place back; a file's reply is within its bounds (`InWord`)
+pub word-carries : (r : Reply) → InWord r → Carries (word r) r
+word-carries = PackedLaws.word-carries
+
 pub reply-bounds : (bytes : List ℕ) → InWord (judged bytes)
 reply-bounds = TableLaws.judged-bounds
 
