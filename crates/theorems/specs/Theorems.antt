@@ -52,7 +52,7 @@ use Rattle.theorems.specs.Stands.{SetAt, At58}
 use Rattle.theorems.specs.Answers.{Answered, NoSuch, AsJudged, InTurn, Filled, valueSaid, allSaid, ownBytes}
 use Rattle.theorems.specs.Columns.{Columns, DataByte, OfOneValue}
 use Rattle.theorems.specs.Alone.{aloneIn, setsAlone, together, Alone}
-use Rattle.theorems.specs.LaidOut.{writtenText, LaidOut, ReadAs}
+use Rattle.theorems.specs.LaidOut.{writtenText, Writable, LaidOut, ReadAs}
 use Rattle.exact.specs.ExactLaws as ExactLaws
 use Rattle.host.specs.PackedLaws as PackedLaws
 use Rattle.writer_laws.specs.HeaderRefusedLaws as HeaderRefusedLaws
@@ -141,6 +141,12 @@ rounded-once c k h g = (ExactLaws.magnitudeOf-times c k h g, ExactLaws.magnitude
 -- coefficients that an i64 can have,
 pub writer-lays : (header : List ℕ) (xs ss : List ℤ) (room : ℕ) → Coefficients xs → writeReply header xs ss room .number ≡ 0 → LaidOut header xs ss
 writer-lays = WriterLaws.writer-lays
+
+-- and the other way about: where header and numbers can be laid out it answers the length, or 20 for lack of room
+pub writer-writes : (header : List ℕ) (xs ss : List ℤ) (room : ℕ) → Writable header xs ss
+    → (length (writtenText header xs ss) ≤ room → writeReply header xs ss room ≡ reply 0 (length (writtenText header xs ss)))
+    × (room < length (writtenText header xs ss) → writeReply header xs ss room ≡ reply 20 0)
+writer-writes = WriterLaws.writer-writes
 
 pub writer-answers : (header : List ℕ) (xs ss : List ℤ) (out : List ℕ) → writeReply header xs ss (length out) .number ≡ 0
     → (length (writtenText header xs ss) ≤ length out) × Filled (writtenText header xs ss) (writeReply header xs ss (length out)) out (writeOut header xs ss out)
