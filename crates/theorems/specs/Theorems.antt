@@ -47,7 +47,7 @@ use Rattle.walk_laws.specs.Fault.{InLine}
 use Rattle.walk_laws.specs.FileFault.{FileFault, Judged}
 use Rattle.stream_laws.specs.Streaming.{burstAnswer, joined, Bursts}
 use Rattle.stream_laws.specs.Calls.{Calls}
-use Rattle.theorems.specs.Table.{InTable, Replied, CallsInTable}
+use Rattle.theorems.specs.Table.{InTable, Replied, CallsInTable, BurstInTable}
 use Rattle.theorems.specs.Stands.{SetAt, At58}
 use Rattle.theorems.specs.Answers.{Answered, NoSuch, AsJudged, InTurn, Filled, valueSaid, allSaid, ownBytes}
 use Rattle.theorems.specs.Columns.{Columns, DataByte, OfOneValue}
@@ -87,6 +87,10 @@ calls-table = TableCallsLaws.calls-table
 pub writer-table : (header : List ℕ) (xs ss : List ℤ) (room : ℕ) → Replied (writeReply header xs ss room)
 writer-table = TableCallsLaws.writer-table
 
+-- of bursts, 127, 1 or the refusal of a finished line; 20 for a record that is too short and 23 after the end are in `Burst`
+pub burst-table : (bytes : List ℕ) → BurstInTable (length (cut bytes .lines)) (paper (burstAnswer bytes))
+burst-table = ArrivalLaws.burst-table
+
 -- a set by its number from 1, a stored number or a value by its index from 0
 module _ {sets : List Set} {bytes : List ℕ} (p : Proper sets bytes) where
   pub reader-no-set : (k i : ℕ) → (k ≡ 0) ⊎ (length sets < k) → NoSuch bytes k i
@@ -125,6 +129,9 @@ start-kept = ArrivalLaws.start-kept
 
 pub burst-kept : {ns bs b ns′ bs′ : List ℕ} {r : Reply} → Burst same ns bs b ns′ bs′ r → (r .number ≡ 20) ⊎ (r .number ≡ 23) → Untouched ns bs ns′ bs′
 burst-kept = ArrivalLaws.burst-kept
+
+pub burst-kept-word : {ns bs b ns′ bs′ : List ℕ} {w : ℕ} → Burst word ns bs b ns′ bs′ w → (numberIn w ≡ 20) ⊎ (numberIn w ≡ 23) → Untouched ns bs ns′ bs′
+burst-kept-word = ArrivalLaws.burst-kept-word
 
 pub end-kept : (ns bs : List ℕ) → endOf ns bs .number ≡ 20 → endNumbers ns bs ≡ ns
 end-kept = ArrivalLaws.end-kept
@@ -284,11 +291,11 @@ burst-too-long = ArrivalLaws.burst-too-long
 pub lines-after : (bytes : List ℕ) (n : ℕ) → burstAnswer bytes ≡ SoFar n → n ≡ length (cut bytes .lines)
 lines-after = StreamingLaws.lines-after
 
--- "A fresh record starts a new file; one grown otherwise is safe, its answers unpromised."
+-- "A fresh record starts a new file; one grown otherwise is safe, its answers unpromised.": safe, since no call of `stream_mut` or host has a `requires`
 pub start-fresh : (ns bs : List ℕ) → isShort ns bs ≡ false → streamOf (startNumbers ns bs) (startLine ns bs) ≡ freshRecord
 start-fresh = CallsLaws.start-fresh
 
--- "Demand 3 reads for the end answer, and demand 1's untouched buffers don't cover the record, but for 23."
+-- "Demand 3 reads for the end answer, and demand 1's untouched buffers don't cover the record, but for 23.": 23 by `burst-kept`, `after-end` and `calls-late`
 pub arrived-proper : {r : Stream} {bursts : List (List ℕ)} → Bursts freshRecord bursts r → (n : ℕ) → endReply (seen r) ≡ reply 0 n
     → (sets : List Set) × Proper sets (joined bursts)
 arrived-proper = ArrivalLaws.arrived-proper
