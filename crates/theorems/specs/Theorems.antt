@@ -21,7 +21,7 @@ use Rattle.judge.specs.declared.Reply.{Reply}
 use Rattle.judge.specs.Judge.{judged, reply, replyAt, atLine}
 use Rattle.parts.specs.Parts.{Part, partsOf, datasetOf, pastOf}
 use Rattle.parts.specs.Function.{countOf, dataStart, firstByte, pastByte}
-use Rattle.reader.specs.Reader.{said, refused, shownOf, storedNumber, valueOf, valueWith}
+use Rattle.reader.specs.Reader.{Shown, said, refused, shownOf, storedNumber, valueKind, valueOf, valueWith}
 use Rattle.values.specs.Values.{allValues, allReply, allPlaces}
 use Rattle.rewriter.specs.Rewriter.{headText, rewrittenFile, rewriteReply, rewriteOut}
 use Rattle.header.specs.Header.{headerOf}
@@ -49,7 +49,8 @@ use Rattle.stream_laws.specs.Streaming.{burstAnswer, joined, Bursts}
 use Rattle.stream_laws.specs.Calls.{Calls}
 use Rattle.theorems.specs.Table.{InTable, Replied, CallsInTable, BurstInTable}
 use Rattle.theorems.specs.Stands.{SetAt, At58}
-use Rattle.theorems.specs.Answers.{Answered, NoSuch, AsJudged, InTurn, Filled, valueSaid, allSaid, ownBytes}
+use Rattle.theorems.specs.Answers.{Answered, NoSuch, AsJudged, InTurn, Filled, FilledBy, valueSaid, allSaid, ownBytes}
+use Rattle.theorems.specs.Rounded.{OnceOr21}
 use Rattle.theorems.specs.Columns.{Columns, DataByte, OfOneValue}
 use Rattle.theorems.specs.Alone.{aloneIn, setsAlone, together, Alone}
 use Rattle.theorems.specs.LaidOut.{writtenText, Writable, LaidOut, ReadAs}
@@ -66,6 +67,8 @@ use Rattle.theorems.specs.JudgeLaws as JudgeLaws
 use Rattle.theorems.specs.ListerLaws as ListerLaws
 use Rattle.theorems.specs.ColumnsLaws as ColumnsLaws
 use Rattle.theorems.specs.ReaderLaws as ReaderLaws
+use Rattle.theorems.specs.LentLaws as LentLaws
+use Rattle.theorems.specs.RoundedLaws as RoundedLaws
 use Rattle.theorems.specs.ValuesLaws as ValuesLaws
 use Rattle.theorems.specs.RewriterLaws as RewriterLaws
 use Rattle.theorems.specs.AloneLaws as AloneLaws
@@ -103,6 +106,24 @@ module _ {sets : List Set} {bytes : List ℕ} (p : Proper sets bytes) where
       → (storedCount s ≤ i → storedNumber bytes (suc k) i ≡ refused 18 0) × (declared s ≤ i → valueOf bytes (suc k) i ≡ refused 18 0)
   reader-past = ReaderLaws.reader-past p
 
+  -- 17 and 20, where an answer has less room than it takes; 1 is `refusal-too-long` below
+  pub lister-short : (room : ℕ) → room < 6 * length sets → listReply bytes room ≡ reply 17 0
+  lister-short = ListerLaws.lister-short p
+
+  pub rewriter-short : (room : ℕ) → room < length (rewrittenFile bytes) → rewriteReply bytes room ≡ reply 20 0
+  rewriter-short = RewriterLaws.rewriter-short p
+
+pub number-short : (bytes : List ℕ) (k j : ℕ) (x : Shown) → storedNumber bytes k j ≡ said 0 0 (x ∷ []) → (room : ℕ) → room < 20
+    → replyFor (numberAnswer (storedNumber bytes k j)) room ≡ word (reply 20 0)
+number-short = LentLaws.number-short
+
+pub value-short : (bytes : List ℕ) (k i n : ℕ) (xs : List Float) → valueOf bytes k i ≡ said 0 n xs → (room : ℕ) → room < 8 * length xs
+    → replyFor (valueAnswer (valueOf bytes k i)) room ≡ word (reply 20 0)
+value-short = LentLaws.value-short
+
+pub all-short : (bytes : List ℕ) (k n room : ℕ) (xs : List Float) → allValues bytes k ≡ said 0 n xs → room < length xs → allReply bytes k room ≡ reply 20 0
+all-short = ValuesLaws.all-short
+
 -- "A refused call alters no byte of a buffer lent to it."
 pub lister-kept : (bytes rows : List ℕ) → 0 < listReply bytes (length rows) .number → listRows bytes rows ≡ rows
 lister-kept = KeptLaws.lister-kept
@@ -139,7 +160,7 @@ end-kept = ArrivalLaws.end-kept
 -- "No caller has to check first.": no call has a `requires`.
 
 -- DEMAND 2. "Records, columns and numbers mean what the published dataset descriptions and document 01 say.": the definitions under `Proper`.
--- "A number read is the decimal number in its columns, exactly, or rounded once where 01 says so.": `reader-numbers`, `value-by-bytes` below, and
+-- "A number read is the decimal number in its columns, exactly, or rounded once where 01 says so.": `reader-numbers`, `value-by-bytes`, `value-rounded` below, and
 pub rounded-once : (c k : ℕ) → c ≤ 9007199254740992 → k ≤ 22
     → (magnitudeOf c false k ≡ round binary64 false (c * 10 ^ k) 1) × (magnitudeOf c true k ≡ round binary64 false c (10 ^ k))
 rounded-once c k h g = (ExactLaws.magnitudeOf-times c k h g, ExactLaws.magnitudeOf-divided c k h g)
@@ -209,6 +230,10 @@ module _ {sets : List Set} {bytes : List ℕ} (p : Proper sets bytes) where
     pub reader-values : (i : ℕ) → i < declared s → valueOf bytes (suc k) i ≡ valueSaid s i
     reader-values = ReaderLaws.reader-values p a
 
+    -- each f64 of a value is its item rounded once, with its sign; 21 exactly where an item is outside the exact path
+    pub value-rounded : (i : ℕ) → i < declared s → OnceOr21 s (i * numbersOf (setCase s)) (numbersOf (setCase s)) (valueKind (setCase s)) (valueOf bytes (suc k) i)
+    value-rounded = RoundedLaws.value-rounded p a
+
     pub all-of-list : allValues bytes (suc k) ≡ allSaid s
     all-of-list = ValuesLaws.all-of-list p a
 
@@ -272,6 +297,16 @@ module _ {sets sets′ : List Set} {bytes bytes′ : List ℕ} (p : Proper sets 
       → ((r : ℕ) → r < numbersOf (setCase s) → ownBytes bytes q (i * numbersOf (setCase s) + r) ≡ ownBytes bytes′ q′ (i′ * numbersOf (setCase s) + r))
       → valueOf bytes (suc k) i ≡ valueOf bytes′ (suc k′) i′
   own-bytes-decide = ReaderLaws.own-bytes-decide p p′ a a′
+
+-- the bytes that C is given of an answer, which `reader-numbers` and `reader-values` say by the list: of a stored number 20, of a value the bit patterns of its
+-- f64, the lowest byte first
+pub number-answers : (bytes : List ℕ) (k j : ℕ) (x : Shown) → storedNumber bytes k j ≡ said 0 0 (x ∷ []) → (out : List ℕ) → 20 ≤ length out
+    → FilledBy (numberBytes x) 20 (replyFor (numberAnswer (storedNumber bytes k j)) (length out)) out (bytesAfter (numberAnswer (storedNumber bytes k j)) out)
+number-answers = LentLaws.number-answers
+
+pub value-answers : (bytes : List ℕ) (k i n : ℕ) (xs : List Float) → valueOf bytes k i ≡ said 0 n xs → (out : List ℕ) → 8 * length xs ≤ length out
+    → FilledBy (valueBytes xs) n (replyFor (valueAnswer (valueOf bytes k i)) (length out)) out (bytesAfter (valueAnswer (valueOf bytes k i)) out)
+value-answers = LentLaws.value-answers
 
 -- C-11. "The collector sends a capture in bursts. The receiving program, in Rattle, lends one standing record, which each burst brings up to date in place, then asks for
 -- the end." (`Bursts`)
