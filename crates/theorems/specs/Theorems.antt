@@ -326,6 +326,14 @@ burst-too-long = ArrivalLaws.burst-too-long
 pub lines-after : (bytes : List ℕ) (n : ℕ) → burstAnswer bytes ≡ SoFar n → n ≡ length (cut bytes .lines)
 lines-after = StreamingLaws.lines-after
 
+-- a refusal once told is that of every file that begins so; where it is "so far", none of the finished lines is refused
+pub told-stays : (a b : List ℕ) (r : Reply) → burstAnswer a ≡ Refused r → length (a ++ b) ≤ 16777216 → judged (a ++ b) ≡ r
+told-stays = StreamingLaws.told-stays
+
+pub so-far-beyond : (bytes : List ℕ) (n : ℕ) → burstAnswer bytes ≡ SoFar n
+    → (judged bytes ≡ reply 0 n) ⊎ ((judged bytes ≡ reply 16 0) ⊎ (judged bytes .place ≡ n + 1))
+so-far-beyond = StreamingLaws.so-far-beyond
+
 -- "A fresh record starts a new file; one grown otherwise is safe, its answers unpromised.": safe, since no call of `stream_mut` or host has a `requires`
 pub start-fresh : (ns bs : List ℕ) → isShort ns bs ≡ false → streamOf (startNumbers ns bs) (startLine ns bs) ≡ freshRecord
 start-fresh = CallsLaws.start-fresh
