@@ -34,14 +34,17 @@ pub data BurstInTable (lines : ℕ) : Reply → Type 0 where
   too-long : BurstInTable lines (reply 1 0)
   line : (r : Reply) → OfLine lines r → BurstInTable lines r
 
--- a number that names no line
+-- a refusal that names no line
 abbrev pub OtherNumber : ℕ → Type 0
-OtherNumber n = (n ≤ 1) ⊎ ((16 ≤ n) × (n ≤ 23))
+OtherNumber n = (n ≡ 1) ⊎ ((16 ≤ n) × (n ≤ 23))
 
 -- any call's reply. "Every refusal of a line now carries the column too .. Any other reply of number and place carries 0."
 pub data Replied : Reply → Type 0 where
   line : (n p c : ℕ) → LineNumber n → 1 ≤ p → 1 ≤ c → Replied (replyAt n p c)
-  other : (n p : ℕ) → OtherNumber n → Replied (reply n p)
+  -- no refusal, with the answer; 19 with "its index"; any other, with 0
+  answered : (p : ℕ) → Replied (reply 0 p)
+  unfit : (p : ℕ) → Replied (reply 19 p)
+  other : (n : ℕ) → OtherNumber n → Replied (reply n 0)
 
 -- what the calls on a file answer, for any question and any room
 pub record CallsInTable (bytes : List ℕ) (k i room : ℕ) : Type 0 where

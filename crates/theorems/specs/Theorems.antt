@@ -366,13 +366,14 @@ module _ {A : Type 0} {form : Reply → A} (ns bs : List ℕ) (s : isShort ns bs
 
 -- C-14. "Every refusal of a line now carries the column too: of the first such byte for 2 and 13, the field's first column for 10, 11, 12, 14, 24 and 25,
 -- otherwise 1.", "For 14 it is the earliest offending field.", "24, integer field blank, and 25, real field blank, in the places of 10 and 12, which keep the
--- rest": a reply that names a line is the refusal of the earliest bad line, and `Fault` says from that line what is wrong there, and at which column
+-- rest": a reply that names a line is the refusal of the earliest bad line, and `walk_laws` Fault says from that line what is wrong there, and at which column
 pub refusal-sound : (bytes : List ℕ) → length bytes ≤ 16777216 → Judged bytes (judged bytes)
 refusal-sound = FileFaultLaws.judged-fault
 
 pub refusal-complete : (bytes : List ℕ) {k : ℕ} {f : Refusal} → length bytes ≤ 16777216 → FileFault bytes k f → judged bytes ≡ atLine k f
 refusal-complete = FileFaultLaws.fault-judged
 
+-- it is from 1, at most 80 but for 2, for 2 at most the file's bytes, and 1 for 3 to 9 and 15
 pub refusal-column : {bytes : List ℕ} {k : ℕ} {f : Refusal} → FileFault bytes k f → InLine bytes f
 refusal-column = FaultColumnLaws.file-column
 
@@ -390,7 +391,7 @@ reply-bounds = TableLaws.judged-bounds
 pub reply-word : (a b : List ℕ) → word (judged a) ≡ word (judged b) → judged a ≡ judged b
 reply-word = TableLaws.judged-word
 
--- the writer's header is refused as the file that it opens, two lines up; past eleven lines, for its twelfth
+-- the writer's header is refused as the file that it opens, two lines up, where that is no longer than a file may be; past eleven lines, for its twelfth
 module _ (header : List ℕ) (h : 0 < headerOf header .reply .number) where
   pub header-judged : (length (cut header .lines) ≤ headerLines) ⊎ (headerOf header .reply .place ≤ headerLines) → length (headText 58 ++ header) ≤ 16777216
       → judged (headText 58 ++ header) ≡ replyAt (headerOf header .reply .number) (headerOf header .reply .place + 2) (headerOf header .reply .column)
