@@ -175,7 +175,8 @@ uint64_t uff_write(const uint8_t *header, size_t header_len, const int64_t *coef
  * laid out starts a new file.
  *
  * Of a line that is still open the record keeps its first 80 bytes, its last one, its length and, in
- * numbers[12], the column of its first byte that is not allowed, or 0. Once a line is refused
+ * numbers[12], the column of its first byte that is not allowed (a CR that came last among them,
+ * until its LF comes), or 0. Once a line is refused
  * numbers[12] is the refusal's column. No caller need read it: the replies have it.
  *
  * uff_start lays out such a record. The answer is 0. Refused with 20 where a buffer is shorter.

@@ -2,6 +2,7 @@
 -- most 2^25 − 1 and the place is taken modulo 2^32, so that the word is defined for every reply; numbers are at most 25, or 127, and places are
 -- lines of a file or a header, sets, indices of stored numbers, lengths of an accepted text, a value's kind, the 20 bytes of a stored number, or
 -- how many f64 a 58 stores.
+use mathlib.Core.Path.{_≡_}
 use Prim.Native.Nat.{ℕ, _+_, _*_, _/_, _%_, _≤_, _<_}
 use lib.Dec.{ltb}
 use Rattle.laws.specs.Choice.{pick}
@@ -25,6 +26,17 @@ pub record InWord (r : Reply) : Type 0 where
 abbrev pub packed : ℕ → ℕ → ℕ
 packed number place = word (reply number place)
 
--- the number that a word carries, as a caller takes it
+-- the number, the column and the place that a word carries, as the header's UFF_NUMBER, UFF_COLUMN and UFF_PLACE take them
 abbrev pub numberIn : ℕ → ℕ
 numberIn w = w / 144115188075855872
+
+abbrev pub columnIn : ℕ → ℕ
+columnIn w = w / 4294967296 % 33554432
+
+abbrev pub placeIn : ℕ → ℕ
+placeIn w = w % 4294967296
+
+pub record Carries (w : ℕ) (r : Reply) : Type 0 where
+  pub number : numberIn w ≡ r .number
+  pub column : columnIn w ≡ r .column
+  pub place : placeIn w ≡ r .place

@@ -1,14 +1,14 @@
 -- A column fits its 25 bits, and the word loses nothing of a reply that fits it.
 use mathlib.Core.Path.{_≡_, refl, sym, _∙_}
 use mathlib.Core.Bool.{Bool, true, false}
-use Prim.Native.Nat.{ℕ, _+_, _*_, _%_, _≤_}
+use Prim.Native.Nat.{ℕ, _+_, _*_, _%_, _≤_, _<_}
 use native.Mathlib.Omega.{arith}
 use borrow.Author.Tests.{le-ltb, ltb-false}
 use lib.Dec.{ltb}
 use Rattle.laws.specs.Choice.{pick}
 use Rattle.judge.specs.declared.Reply.{Reply}
 use Rattle.judge.specs.Judge.{replyAt}
-use Rattle.host.specs.Packed.{columnBits, word, InWord}
+use Rattle.host.specs.Packed.{columnBits, word, InWord, numberIn, Carries}
 
 pub columnBits-most : (c : ℕ) → columnBits c ≤ 33554431
 unfolding columnBits
@@ -24,6 +24,20 @@ word-whole r w =
     let n : r .number % 128 ≡ r .number = omega (arith, w .number) in
     let p : r .place % 4294967296 ≡ r .place = omega (arith, w .place) in
     rw (n, p, le-ltb 33554431 (r .column) (w .column)) refl
+
+pub word-carries : (r : Reply) → InWord r → Carries (word r) r
+word-carries r w =
+    let e = word-whole r w in
+    record {
+      number = rw e (omega (arith, w .column, w .place));
+      column = rw e (omega (arith, w .column, w .place));
+      place = rw e (omega (arith, w .place));
+    }
+
+-- the number, whatever column and place are
+pub word-number : (r : Reply) → r .number < 128 → numberIn (word r) ≡ r .number
+unfolding word
+word-number r h = omega (arith, h, columnBits-most (r .column))
 
 same-reply : {n m p q c d : ℕ} → n ≡ m → p ≡ q → c ≡ d → replyAt n p c ≡ replyAt m q d
 same-reply a b e = rw (a, b, e) refl

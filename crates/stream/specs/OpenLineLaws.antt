@@ -4,20 +4,26 @@ use mathlib.Core.Bool.{Bool, true, false, _&&_}
 use mathlib.Core.List.{List, [], _∷_, _++_, append-nil}
 use mathlib.Core.Logic.{inl, ⊎-elim}
 use Prim.Native.Nat.{ℕ, zero, suc, _+_, _-_, _≤_, _<_}
+use native.Mathlib.Numerals.{add-one}
 use native.Mathlib.Omega.{arith}
-use borrow.Author.Tests.{ltb-true, ltb-false, lt-ltb, le-ltb, le-leb, lt-leb, eqb-true, eqb-false, ne-eqb}
+use borrow.Author.Tests.{ltb-true, ltb-false, lt-ltb, le-ltb, le-leb, lt-leb, eqb-true, eqb-false, eq-eqb, ne-eqb}
 use lib.Dec.{leb, ltb, eqb}
-use lib.ListN.{length, getD, take, length-append}
-use lib.Seq.{take-suc, take-all, take-take, take-append-le, length-take-le, getD-at, getD-append-add}
+use lib.ListN.{length, getD, take, set, length-append, length-take}
+use lib.Seq.{take-suc, take-suc-set, take-all, take-take, take-append-le, length-take-le, getD-at, getD-append-add}
 use Rattle.laws.specs.Choice.{pick}
 use Rattle.laws.specs.ChoiceLaws.{below-or-not}
-use Rattle.line.specs.Line.{refusal, passed, isAllowed, withoutReturn, columns, firstBad, lineFault}
-use Rattle.line.specs.LineLaws.{columns-crlf, columns-lf, columns-take, columns-allowed, lineFault-sound}
+use Rattle.laws.specs.Cut.{lineLen}
+use Rattle.line.specs.Line.{refusal, passed, Allowed, none, more, isAllowed, withoutReturn, columns, firstBad, lineFault}
+use Rattle.line.specs.LineLaws.{columns-crlf, columns-lf, columns-take, columns-within, columns-allowed, lineFault-sound}
 use Rattle.line.specs.declared.Refusal.{Refusal}
 use Rattle.walk.specs.declared.State.{State}
-use Rattle.walk.specs.declared.Outcome.the-variants.{Refused}
+use Rattle.walk.specs.declared.Outcome.{Outcome}
+use Rattle.walk.specs.declared.Outcome.the-variants.{Next, Refused}
 use Rattle.judge.specs.Judge.{Run, going, refused, atLine, lineStep, onOutcome, runStep, runEnd}
+use Rattle.judge.specs.declared.Lines.{Lines}
+use Rattle.judge.specs.Lines.{runOf, LinesJudged}
 use Rattle.judge.specs.JudgeLaws.{lineStep-own}
+use Rattle.judge.specs.LinesLaws.{one-run}
 use Rattle.judge.specs.Refusal.{LineNumber}
 use Rattle.judge.specs.RefusalLaws.{no-fault, line-number}
 use Rattle.stream.specs.Stream.{OpenLine, openOf, longer, columnsOf, faultOf, openFault, openOutcome, lineEnd, lineIn, openEnd}
@@ -265,3 +271,51 @@ module _ (s : State) (p : List ℕ) (h k n : ℕ) (e : n ≡ columnsOf true (get
   held-passed g =
       let m : n ≤ h = omega (arith, columnsOf-most true (getD p 80 0) h) in
       rw (held-fault, le-ltb 0 (f .number) g, ← e, take-take n h (take 80 p) m, take-take n 80 p (held-short g)) refl
+
+-- allowed bytes have no LF among them
+allowed-open : {cs : List ℕ} → Allowed cs → length cs ≤ lineLen cs
+unfolding lineLen
+allowed-open none = omega arith
+allowed-open (more {b} l u a) = rw (ne-eqb b 10 (λ e. omega arith)) (omega (arith, allowed-open a))
+
+-- the outcome that a run of one line comes from
+abbrev outcomeOf : Run → Outcome
+outcomeOf (going s n) = Next s
+outcomeOf (refused r) = Refused (refusal (r .number) (r .column))
+
+outcome-back : (n : ℕ) (o : Outcome) → outcomeOf (onOutcome n o) ≡ o
+outcome-back n (Next s) = refl
+outcome-back n (Refused f) = refl
+
+-- the first n bytes as a line, by their m columns: refused by itself, or as the columns are with an LF of their own
+pub ended-most : (p : List ℕ) (n m : ℕ) → m ≡ length (columns true (take n p)) → m ≤ n
+ended-most p n m e = omega (arith, columns-within true (take n p), length-take n p)
+
+module _ (s : State) (p : List ℕ) (n m : ℕ) (e : m ≡ length (columns true (take n p))) (f : Refusal) (q : f ≡ lineFault true (take m p)) where
+  ended-columns : take m (take n p) ≡ take m p
+  ended-columns = take-take m n p (ended-most p n m e)
+
+  pub ended-own : 0 < f .number → Refused f ≡ lineStep s (take n p)
+  ended-own g = lineStep-own s (take n p) m e f (rw ended-columns q) g
+
+  module _ (g : f .number ≤ 0) (room : m < length p) (r : Lines) (j : LinesJudged s 0 (take (m + 1) (set p m 10)) 0 r) where
+    fine : Allowed (take m p)
+    fine = lineFault-sound true (take m p) (no-fault (take m p) (omega (arith, ap (λ (x : Refusal). x .number) q))) .2
+
+    same-step : lineStep s (take m p) ≡ lineStep s (take n p)
+    unfolding lineStep
+    same-step =
+        let c : columns true (take n p) ≡ take m p = columns-take true (take n p) ∙ rw (← e) ended-columns in
+        rw (c, columns-allowed fine) refl
+
+    one-line : LinesJudged s 0 (take m p ++ (10 ∷ [])) 0 r
+    one-line = rw (add-one, take-suc-set p m 10 room) at j
+
+    outcome : outcomeOf (runOf (r .state) (r .lines) (r .number) (r .column)) ≡ lineStep s (take n p)
+    outcome = ap outcomeOf (one-run s 0 (take m p) (allowed-open fine) r one-line) ∙ outcome-back 0 (lineStep s (take m p)) ∙ same-step
+
+    pub ended-refused : 0 < r .number → Refused (refusal (r .number) (r .column)) ≡ lineStep s (take n p)
+    ended-refused z = rw (ne-eqb (r .number) 0 (λ y. omega arith)) at outcome
+
+    pub ended-next : r .number ≤ 0 → Next (r .state) ≡ lineStep s (take n p)
+    ended-next z = rw (eq-eqb (r .number) 0 (omega arith)) at outcome

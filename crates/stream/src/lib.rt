@@ -1,10 +1,11 @@
 // A file judged while it arrives: one standing record, brought up to date by each burst.
 ghost use mathlib.Core.Path.{_≡_};
 ghost use Prim.Native.Nat.{_+_, _-_, _≤_, min};
-ghost use lib.ListN.{length, drop};
+ghost use lib.ListN.{length, take, drop};
 ghost use lib.Dec.{ltb};
 ghost use Rattle.laws.specs.Choice.{pick};
 ghost use Rattle.line.specs.Line.{firstBad};
+ghost use Rattle.judge.specs.Judge.{lineStep};
 ghost use Rattle.stream.specs.Stream.{lineIn, columnsOf, faultOf, openOutcome, isStrange, isPast, seen, Stepped, answerOf, endReply, closed};
 ghost use Rattle.stream.specs.Stream.{freshRecord, Running, Pushed, atTotal, judgedOn, arrivedOn, linesOn, leftOn};
 use judge::Reply;
@@ -138,6 +139,30 @@ fn open_fault(columns: usize, bad: usize, ended: bool) -> Refusal
     }
 }
 
+// The step of the first `n` bytes as a line that has its LF: judged by the loop over lines, with an LF laid after the columns.
+fn ended_outcome(state: State, line: &[u8; 81], n: usize) -> Outcome
+    requires { ⌜ n ≤ 80 ⌝ }
+    ensures { λ r. ⌜ r ≡ lineStep state (take n (now (line .entry))) ⌝ }
+{
+    let bytes: &[u8] = line;
+    let m = line::columns_len(&bytes[..n], true);
+    let fault = line::line_fault(&bytes[..m], true);
+    if 0 < fault.number {
+        return Outcome::Refused(fault);
+    }
+    let mut ended = *line;
+    ended[m] = 10;
+    let judged = judge::judge_lines(state, 0, &ended[..m + 1], 0);
+    let next = judged.state;
+    if 0 < judged.number {
+        return Outcome::Refused(Refusal {
+            number: judged.number,
+            column: judged.column,
+        });
+    }
+    Outcome::Next(next)
+}
+
 // The step of the open line when its LF comes.
 fn open_outcome(state: State, line: &[u8; 81], held: usize, bad: usize) -> Outcome
     ensures { λ r. ⌜ r ≡ openOutcome state (lineIn (now (line .entry)) held bad) ⌝ }
@@ -147,8 +172,7 @@ fn open_outcome(state: State, line: &[u8; 81], held: usize, bad: usize) -> Outco
     if 0 < fault.number {
         return Outcome::Refused(fault);
     }
-    let bytes: &[u8] = line;
-    judge::line_step(state, &bytes[..n])
+    ended_outcome(state, line, n)
 }
 
 // Whether a refusal's number is neither 0 nor one that a line can have, 2 to 15, 24 and 25.

@@ -5,22 +5,24 @@
 use mathlib.Core.Path.{_≡_, refl, sym, ap, _∙_}
 use mathlib.Core.Bool.{Bool, true, false}
 use mathlib.Core.List.{List, [], _∷_, _++_, append-nil, append-assoc}
-use mathlib.Core.Logic.{⊎-elim}
+use mathlib.Core.Logic.{_⊎_, inl, inr, ⊎-elim}
 use Prim.{tt}
 use Prim.Native.Nat.{ℕ, _+_, _≤_, _<_}
 use native.Mathlib.Omega.{arith}
 use borrow.Author.Tests.{lt-ltb, le-ltb}
-use lib.Dec.{ltb}
+use lib.Dec.{ltb, eqb}
 use lib.ListN.{length, length-append}
 use Rattle.laws.specs.Choice.{pick}
 use Rattle.laws.specs.ChoiceLaws.{below-or-not}
 use Rattle.laws.specs.Cut.{cut, over, judge}
 use Rattle.laws.specs.CutLaws.{cut-append, over-append}
+use Rattle.walk.specs.declared.Place.{Place}
+use Rattle.walk.specs.declared.Place.the-variants.{Outside, Number, Plain, Typed}
 use Rattle.walk.specs.declared.Outcome.{Outcome}
 use Rattle.walk.specs.declared.Outcome.the-variants as Outcomes
 use Rattle.walk.specs.Step.{start}
 use Rattle.judge.specs.declared.Reply.{Reply}
-use Rattle.judge.specs.Judge.{Run, going, refused, reply, lineStep, onOutcome, runStep, runEnd, judged}
+use Rattle.judge.specs.Judge.{Run, going, refused, reply, lineStep, onOutcome, runStep, atEnd, runEnd, judged}
 use Rattle.judge.specs.JudgeLaws.{over-refused}
 use Rattle.stream.specs.declared.Stream.{Stream}
 use Rattle.stream.specs.declared.Answer.the-variants.{SoFar, Refused}
@@ -153,6 +155,30 @@ told-stays a b f h l =
     let t : runAnswer (finished a) ≡ Refused f = rw (le-ltb 16777216 (length a) m) at h in
     let e : finished a ≡ refused f = run-told (finished a) f t in
     rw (le-ltb 16777216 (length (a ++ b)) l, cut-append a b, over-append runStep (going start 0) (cut a .lines) (cut (cut a .rest ++ b) .lines), e, over-refused f (cut (cut a .rest ++ b) .lines)) refl
+
+-- Where it is "so far", no finished line is refused: a file that ends here is refused, if at all, on the line after them, or has no set.
+abbrev Beyond : ℕ → Reply → Type 0
+Beyond n r = (r ≡ reply 0 n) ⊎ ((r ≡ reply 16 0) ⊎ (r .place ≡ n + 1))
+
+end-beyond : (p : Place) (sets n : ℕ) → Beyond n (atEnd p sets n)
+end-beyond Outside sets n = go (eqb sets 0)
+  where
+    go : (t : Bool) → Beyond n (pick t (reply 16 0) (reply 0 n))
+    go true = inr (inl refl)
+    go false = inl refl
+end-beyond Number sets n = inr (inr refl)
+end-beyond Plain sets n = inr (inr refl)
+end-beyond (Typed d) sets n = inr (inr refl)
+
+pub so-far-beyond : (a : List ℕ) (n : ℕ) → burstAnswer a ≡ SoFar n → (judged a ≡ reply 0 n) ⊎ ((judged a ≡ reply 16 0) ⊎ (judged a .place ≡ n + 1))
+unfolding judged judge finished
+so-far-beyond a n h = go (ltb 16777216 (length a)) (finished a) (cut a .rest) h
+  where
+    go : (t : Bool) (r : Run) (l : List ℕ) → pick t (Refused (reply 1 0)) (runAnswer r) ≡ SoFar n → Beyond n (pick t (reply 1 0) (runEnd r l))
+    go true r l h = let z : n ≡ n + 1 = cc in absurd (omega arith)
+    go false (going s m) [] h = let e : m ≡ n = cc in rw e (end-beyond (s .place) (s .sets) n)
+    go false (going s m) (b ∷ bs) h = let e : m ≡ n = cc in rw e (inr (inr refl))
+    go false (refused p) l h = let z : n ≡ n + 1 = cc in absurd (omega arith)
 
 -- asking for the end again changes nothing
 pub closed-again : (r : Stream) → closed (closed r) ≡ closed r

@@ -21,6 +21,7 @@ use Rattle.lister.specs.Lister.{listReply}
 use Rattle.reader.specs.Reader.{Said, said, refusedBy, refused, shown, reads, whole, valueKind, valueWith, storedNumber, valueOf}
 use Rattle.values.specs.Values.{allValues}
 use Rattle.rewriter.specs.Rewriter.{rewriteReply}
+use Rattle.host.specs.Packed.{word}
 use Rattle.theory.specs.Sets.{Set}
 use Rattle.parts_laws.specs.Declared.{declared, setCase}
 use Rattle.parts_laws.specs.Stored.{storedCount, storedItem}
@@ -78,4 +79,9 @@ pub record AsJudged (bytes : List ℕ) (k i room : ℕ) : Type 0 where
 -- a call that fills a buffer answers "the length, past which it keeps its contents": this much was laid into what stood there before
 pub record Filled (text : List ℕ) (r : Reply) (before after : List ℕ) : Type 0 where
   pub answer : r ≡ reply 0 (length text)
+  pub laid : after ≡ text ++ drop (length text) before
+
+-- the same of a stored number or a value that C asks for, whose word has this place
+pub record FilledBy (text : List ℕ) (place w : ℕ) (before after : List ℕ) : Type 0 where
+  pub answer : w ≡ word (reply 0 place)
   pub laid : after ≡ text ++ drop (length text) before

@@ -1,6 +1,7 @@
 -- What the writer lays out from a header and numbers.
 use mathlib.Core.Path.{_≡_}
 use mathlib.Core.List.{List, [], _∷_}
+use mathlib.Core.Bool.{true}
 use Prim.Native.Nat.{ℕ, _<_}
 use lib.IntN.{ℤ, pos, natAbs}
 use lib.ListN.{length, getD}
@@ -15,7 +16,7 @@ use Rattle.decimal.specs.Decimal.{SameNumber}
 use Rattle.reader.specs.Reader.{said, shown, storedNumber}
 use Rattle.rewriter.specs.Rewriter.{rewrittenFile}
 use Rattle.rewriter_laws.specs.Form.{InForm}
-use Rattle.writer.specs.Writer.{writtenSet}
+use Rattle.writer.specs.Writer.{fitsAt, writtenSet}
 use Rattle.writer_laws.specs.DataLines.{lentFile}
 use Rattle.writer_laws.specs.Back.{Back}
 use Rattle.theory.specs.Sets.{Set}
@@ -26,6 +27,13 @@ use Rattle.parts_laws.specs.Stored.{storedCount, storedItem}
 -- the text that the writer lays out, in the header's case
 abbrev pub writtenText : List ℕ → List ℤ → List ℤ → List ℕ
 writtenText header xs ss = writtenSet header (headerOf header .case) xs ss
+
+-- what the writer can lay out: the header passes, coefficients and scales are as many as the numbers it calls for, and each number fits its field
+pub record Writable (header : List ℕ) (xs ss : List ℤ) : Type 0 where
+  pub passes : headerOf header .reply .number ≡ 0
+  pub coefficients : length xs ≡ headerOf header .stored
+  pub scales : length ss ≡ headerOf header .stored
+  pub fit : (j : ℕ) → j < length xs → fitsAt (headerOf header .case) j (getD xs j (pos 0)) (getD ss j (pos 0)) ≡ true
 
 -- the text is a proper writing of one 58, in rewritten form. The items of its first eleven lines are written in the header's lines, which are eleven, each
 -- with its LF; the file with those lines as they are lent is a proper writing of the same set, and the text is what that file is rewritten to. The

@@ -22,6 +22,9 @@ pub mod Columns
 pub mod ColumnsLaws
 pub mod AnswersLaws
 pub mod ReaderLaws
+pub mod LentLaws
+pub mod Rounded
+pub mod RoundedLaws
 pub mod ValuesLaws
 pub mod RewriterLaws
 pub mod Alone

@@ -1,9 +1,9 @@
 -- Where the sets of a list stand in a file, and what the lister says of them.
 use mathlib.Core.Path.{_≡_, refl, sym, ap, subst, _∙_}
 use mathlib.Core.List.{List, [], _∷_, _++_, map}
-use Prim.Native.Nat.{ℕ, zero, suc, _+_, _*_, _-_, _≤_}
+use Prim.Native.Nat.{ℕ, zero, suc, _+_, _*_, _-_, _<_, _≤_}
 use native.Mathlib.Omega.{arith}
-use borrow.Author.Tests.{le-ltb}
+use borrow.Author.Tests.{lt-ltb, le-ltb}
 use lib.ListN.{length, take, drop, drop-of-length-le}
 use lib.Seq.{drop-drop}
 use Rattle.laws.specs.Cut.{cut}
@@ -64,6 +64,10 @@ module _ {sets : List Set} {bytes : List ℕ} (p : Proper sets bytes) where
   lister-answers rows h =
       let room = le-ltb (length rows) (rowNumbers * length sets) h in
       (rw (proper-accepted p, parts-many, room) refl, rw (proper-accepted p, parts-many, room) refl)
+
+  pub lister-short : (room : ℕ) → room < rowNumbers * length sets → listReply bytes room ≡ reply 17 0
+  unfolding listReply
+  lister-short room h = rw (proper-accepted p, parts-many, lt-ltb room (rowNumbers * length sets) h) refl
 
   pub lister-numbers : (map datasetOf (partsOf bytes) ≡ map (λ (s : Set). s .number) sets) × (map countOf (partsOf bytes) ≡ map declared sets)
   lister-numbers =

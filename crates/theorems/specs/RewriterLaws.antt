@@ -1,9 +1,10 @@
 -- What the rewriter answers of a proper writing.
 use mathlib.Core.Path.{_≡_, refl}
 use mathlib.Core.List.{List, map}
-use Prim.Native.Nat.{ℕ, _≤_}
-use borrow.Author.Tests.{le-ltb}
+use Prim.Native.Nat.{ℕ, _<_, _≤_}
+use borrow.Author.Tests.{lt-ltb, le-ltb}
 use lib.ListN.{length}
+use Rattle.judge.specs.Judge.{reply}
 use Rattle.parts.specs.Parts.{partsOf}
 use Rattle.parts.specs.Padding.{paddingOf}
 use Rattle.rewriter.specs.Rewriter.{rewrittenFile, rewriteReply, rewriteOut}
@@ -36,3 +37,7 @@ module _ {sets : List Set} {bytes : List ℕ} (p : Proper sets bytes) where
   rewriter-answers out h =
       let room = le-ltb (length out) (length (rewrittenFile bytes)) h in
       record { answer = rw (proper-accepted p, room) refl; laid = rw (proper-accepted p, room) refl }
+
+  pub rewriter-short : (room : ℕ) → room < length (rewrittenFile bytes) → rewriteReply bytes room ≡ reply 20 0
+  unfolding rewriteReply
+  rewriter-short room h = rw (proper-accepted p, lt-ltb room (length (rewrittenFile bytes)) h) refl

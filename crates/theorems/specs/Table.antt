@@ -20,14 +20,31 @@ pub data InTable (lines : ℕ) : Reply → Type 0 where
   -- 2 to 15, 24 and 25: a line, which can be one past the last, and one of its 80 columns, or for 2 any
   line : (n p c : ℕ) → LineNumber n → 1 ≤ p → p ≤ lines + 1 → 1 ≤ c → ((n ≡ 2 → ⊥) → c ≤ 80) → c ≤ 16777216 → InTable lines (replyAt n p c)
 
--- a number that names no line
+-- the refusal of one of so many lines, in one of its 80 columns, or for 2 any
+pub record OfLine (lines : ℕ) (r : Reply) : Type 0 where
+  pub number : LineNumber (r .number)
+  pub from : 1 ≤ r .place
+  pub last : r .place ≤ lines
+  pub column : 1 ≤ r .column
+  pub eighty : (r .number ≡ 2 → ⊥) → r .column ≤ 80
+
+-- a burst's answers after bytes with so many finished lines: 127 "so far", 1, or the refusal of one of them; 20 and 23 are of the record lent (`Burst`)
+pub data BurstInTable (lines : ℕ) : Reply → Type 0 where
+  so-far : BurstInTable lines (reply 127 lines)
+  too-long : BurstInTable lines (reply 1 0)
+  line : (r : Reply) → OfLine lines r → BurstInTable lines r
+
+-- a refusal that names no line
 abbrev pub OtherNumber : ℕ → Type 0
-OtherNumber n = (n ≤ 1) ⊎ ((16 ≤ n) × (n ≤ 23))
+OtherNumber n = (n ≡ 1) ⊎ ((16 ≤ n) × (n ≤ 23))
 
 -- any call's reply. "Every refusal of a line now carries the column too .. Any other reply of number and place carries 0."
 pub data Replied : Reply → Type 0 where
   line : (n p c : ℕ) → LineNumber n → 1 ≤ p → 1 ≤ c → Replied (replyAt n p c)
-  other : (n p : ℕ) → OtherNumber n → Replied (reply n p)
+  -- no refusal, with the answer; 19 with "its index"; any other, with 0
+  answered : (p : ℕ) → Replied (reply 0 p)
+  unfit : (p : ℕ) → Replied (reply 19 p)
+  other : (n : ℕ) → OtherNumber n → Replied (reply n 0)
 
 -- what the calls on a file answer, for any question and any room
 pub record CallsInTable (bytes : List ℕ) (k i room : ℕ) : Type 0 where

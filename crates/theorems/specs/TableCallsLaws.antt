@@ -48,7 +48,8 @@ use Rattle.writer_laws.specs.HeaderRefusedLaws.{refused-place}
 use Rattle.walk_laws.specs.FaultLaws.{refused-fault}
 use Rattle.walk_laws.specs.FaultColumnLaws.{own-column, fault-column}
 use Rattle.walk_laws.specs.FileFaultLaws.{unended-some}
-use Rattle.theorems.specs.Table.{InTable, Replied, line, other, CallsInTable}
+use Rattle.theorems.specs.Table as Table
+use Rattle.theorems.specs.Table.{InTable, Replied, line, answered, other, CallsInTable}
 use Rattle.theorems.specs.TableLaws.{own-number, judge-table}
 
 -- what holds of both holds of the one chosen
@@ -60,20 +61,17 @@ of-either P false a b p q = q
 abbrev Own : ℕ → Type 0
 Own n = (16 ≤ n) × (n ≤ 23)
 
--- an answer that is no refusal, and a refusal of the calls' own
-none : (p : ℕ) → Replied (reply 0 p)
-none p = other 0 p (inl (omega arith))
-
-own : (n p : ℕ) → Own n → Replied (reply n p)
-own n p h = other n p (inr h)
+-- a refusal of the calls' own
+own : (n : ℕ) → Own n → Replied (reply n 0)
+own n h = other n (inr h)
 
 judged-replied : (bytes : List ℕ) → Replied (judged bytes)
 judged-replied bytes = by (judge-table bytes)
   where
     by : {lines : ℕ} {r : Reply} → InTable lines r → Replied r
-    by {lines} InTable.accepted = none lines
-    by InTable.too-long = other 1 0 (inl (omega arith))
-    by InTable.no-set = own 16 0 (omega arith, omega arith)
+    by {lines} InTable.accepted = answered lines
+    by InTable.too-long = other 1 (inl refl)
+    by InTable.no-set = own 16 (omega arith, omega arith)
     by (InTable.line n p c w from last one eighty most) = line n p c w from one
 
 -- the judge's reply, otherwise another refusal where the room is too short, otherwise 0
@@ -81,7 +79,7 @@ in-room : (bytes : List ℕ) (short : Bool) (n place : ℕ) → Own n
     → Replied (pick (ltb 0 (judged bytes .number)) (judged bytes) (pick short (reply n 0) (reply 0 place)))
 in-room bytes short n place h =
     of-either Replied (ltb 0 (judged bytes .number)) (judged bytes) (pick short (reply n 0) (reply 0 place)) (judged-replied bytes)
-    (of-either Replied short (reply n 0) (reply 0 place) (own n 0 h) (none place))
+    (of-either Replied short (reply n 0) (reply 0 place) (own n h) (answered place))
 
 -- the reader's refusals: the judge's, 18 and 21
 abbrev RepliedSaid : {A : Type 0} → Said A → Type 0
@@ -94,15 +92,15 @@ replied-after : {A : Type 0} (bytes : List ℕ) (s : Said A) → RepliedSaid s �
 replied-after bytes s h = of-either RepliedSaid (ltb 0 (judged bytes .number)) (refusedBy (judged bytes)) s (judged-replied bytes) h
 
 replied-asked : {A : Type 0} (t : Bool) (s : Said A) → RepliedSaid s → RepliedSaid (pick t s (Reader.refused 18 0))
-replied-asked t s h = of-either RepliedSaid t s (Reader.refused 18 0) h (own 18 0 no-such)
+replied-asked t s h = of-either RepliedSaid t s (Reader.refused 18 0) h (own 18 no-such)
 
 replied-shown : (a e : ℕ) (x : Real) → RepliedSaid (shownOf a e x)
-replied-shown a e (real.Value n) = none 0
-replied-shown a e real.Blank = own 18 0 no-such
-replied-shown a e real.Malformed = own 18 0 no-such
+replied-shown a e (real.Value n) = answered 0
+replied-shown a e real.Blank = own 18 no-such
+replied-shown a e real.Malformed = own 18 no-such
 
 replied-number : (bytes : List ℕ) (ps : List Part) (j : ℕ) → RepliedSaid (numberFrom bytes ps j)
-replied-number bytes [] j = own 18 0 no-such
+replied-number bytes [] j = own 18 no-such
 replied-number bytes (p ∷ ps) j =
     replied-asked (ltb j (storedOf p)) (shownOf (firstByte p j) (pastByte p j) (realIn bytes p j)) (replied-shown (firstByte p j) (pastByte p j) (realIn bytes p j))
 
@@ -132,19 +130,19 @@ own-reads g j (suc k) = more (own-read (g j)) (own-reads g (suc j) k)
 
 replied-whole : (place : ℕ) (xs : List Float) (rs : List Read) → AllOwn rs → RepliedSaid (whole place xs rs)
 unfolding whole
-replied-whole place xs [] h = none place
+replied-whole place xs [] h = answered place
 replied-whole place xs (read.Value x ∷ rs) (more a h) = replied-whole place (xs ++ (x ∷ [])) rs h
-replied-whole place xs (read.Refused n ∷ rs) (more a h) = own n 0 a
+replied-whole place xs (read.Refused n ∷ rs) (more a h) = own n a
 
 replied-value : (bytes : List ℕ) (ps : List Part) (i : ℕ) → RepliedSaid (valueFrom bytes ps i)
 unfolding valueWith
-replied-value bytes [] i = own 18 0 no-such
+replied-value bytes [] i = own 18 no-such
 replied-value bytes (p ∷ ps) i =
     let c : ℕ = partCase p in
     replied-asked (ltb i (valuesIn p)) (valueWith (realIn bytes p) c i) (replied-whole (valueKind c) [] _ (own-reads (realIn bytes p) (i * numbersOf c) (numbersOf c)))
 
 replied-all : (bytes : List ℕ) (ps : List Part) → RepliedSaid (allFrom bytes ps)
-replied-all bytes [] = own 18 0 no-such
+replied-all bytes [] = own 18 no-such
 replied-all bytes (p ∷ ps) =
     replied-asked (ltb 0 (valuesIn p)) (whole (storedOf p) [] (reads (realIn bytes p) 0 (storedOf p))) (replied-whole (storedOf p) [] _ (own-reads (realIn bytes p) 0 (storedOf p)))
 
@@ -152,7 +150,7 @@ replied-places : (s : Said Float) (places : ℕ) → RepliedSaid s → Replied (
 replied-places s places h =
     let room : Bool = ltb places (length (s .shown)) in
     of-either Replied (ltb 0 (s .reply .number)) (s .reply) (pick room (reply 20 0) (reply 0 (s .reply .place))) h
-    (of-either Replied room (reply 20 0) (reply 0 (s .reply .place)) (own 20 0 (omega arith, omega arith)) (none (s .reply .place)))
+    (of-either Replied room (reply 20 0) (reply 0 (s .reply .place)) (own 20 (omega arith, omega arith)) (answered (s .reply .place)))
 
 pub calls-table : (bytes : List ℕ) (k i room : ℕ) → CallsInTable bytes k i room
 unfolding listReply storedNumber valueOf allReply allValues rewriteReply
@@ -208,7 +206,7 @@ leaves-replied : (p : Place) → IfLined (leaves p)
 leaves-replied Outside h = absurd (omega arith)
 leaves-replied Number h = absurd (omega arith)
 leaves-replied Plain h = absurd (omega arith)
-leaves-replied (Typed d) h = none 0
+leaves-replied (Typed d) h = answered 0
 
 header-end-replied : (r : Run) (rest : List ℕ) → RepliedRun r → IfLined (headerEnd r rest)
 header-end-replied (going s n) [] h =
@@ -233,9 +231,9 @@ laid-replied header c stored xs ss room =
     let lay : Reply = pick (ltb room size) (reply 20 0) (reply 0 size) in
     let fit : Reply = pick (ltb unfit (length xs)) (reply 19 unfit) lay in
     of-either Replied (eqb (length xs) stored && eqb (length ss) stored) fit (reply 22 0)
-    (of-either Replied (ltb unfit (length xs)) (reply 19 unfit) lay (own 19 unfit (omega arith, omega arith))
-    (of-either Replied (ltb room size) (reply 20 0) (reply 0 size) (own 20 0 (omega arith, omega arith)) (none size)))
-    (own 22 0 (omega arith, omega arith))
+    (of-either Replied (ltb unfit (length xs)) (reply 19 unfit) lay (Table.unfit unfit)
+    (of-either Replied (ltb room size) (reply 20 0) (reply 0 size) (own 20 (omega arith, omega arith)) (answered size)))
+    (own 22 (omega arith, omega arith))
 
 pub writer-table : (header : List ℕ) (xs ss : List ℤ) (room : ℕ) → Replied (writeReply header xs ss room)
 unfolding writeReply

@@ -1,6 +1,7 @@
 -- THE PAGE OF THEOREMS: the three demands, C-11, C-13 and C-14, sentence by sentence, each with the theorems that carry it; what is proved stands in the files that
--- they cite. A file is a list of bytes. Every call is proved to answer, for all bytes and numbers, by definitions that are named here, in its `ensures`
--- (crates/host/src/lib.rt); `judged` is the judge's reply, and `Proper sets bytes` says from a list of sets alone that a text is a proper writing of it.
+-- they cite. A file is a list of bytes. Every call is proved to answer, for all bytes and numbers, by definitions that are named here, in its `ensures`: C
+-- gets `word` of a reply, a stored number or a value by `replyFor`, a burst by `Burst word` (crates/host/src/lib.rt); for C-11 also crates/stream_mut/src/lib.rt.
+-- `judged` is the judge's reply, and `Proper sets bytes` says from a list of sets alone that a text is a proper writing of it.
 use mathlib.Core.Path.{_≡_}
 use mathlib.Core.Bool.{true, false}
 use mathlib.Core.List.{List, [], _∷_, _++_, map}
@@ -22,7 +23,7 @@ use Rattle.judge.specs.Judge.{judged, reply, replyAt, atLine}
 use Rattle.parts.specs.Parts.{Part, partsOf, datasetOf, pastOf, lineOf, lastLine}
 use Rattle.parts.specs.Function.{countOf, dataStart, firstByte, pastByte}
 use Rattle.parts.specs.Padding.{paddingIn, paddingOf}
-use Rattle.reader.specs.Reader.{said, refused, shownOf, storedNumber, valueOf, valueWith}
+use Rattle.reader.specs.Reader.{Shown, said, refused, shownOf, storedNumber, valueKind, valueOf, valueWith}
 use Rattle.values.specs.Values.{allValues, allReply, allPlaces}
 use Rattle.rewriter.specs.Rewriter.{headText, rewrittenFile, rewriteReply, rewriteOut}
 use Rattle.header.specs.Header.{headerOf}
@@ -32,8 +33,8 @@ use Rattle.stream.specs.declared.Answer.the-variants.{SoFar, Refused}
 use Rattle.stream.specs.Stream.{seen, Stepped, answerOf, paper, endReply, closed, freshRecord}
 use Rattle.stream_c.specs.Lent.{isShort, streamOf, startReply, startNumbers, startLine, endOf, endNumbers, Untouched, Burst, same}
 use Rattle.lister.specs.Lister.{rowNumbers, rowsOf, listReply, listRows}
-use Rattle.host.specs.Packed.{InWord, word, numberIn}
-use Rattle.host.specs.Answer.{numberAnswer, valueAnswer, replyFor, bytesAfter}
+use Rattle.host.specs.Packed.{InWord, word, numberIn, Carries}
+use Rattle.host.specs.Answer.{numberBytes, valueBytes, numberAnswer, valueAnswer, replyFor, bytesAfter}
 use Rattle.theory.specs.Sets.{Set}
 use Rattle.theory.specs.Proper.{Proper}
 use Rattle.line_laws.specs.Ends as Ends
@@ -49,13 +50,15 @@ use Rattle.walk_laws.specs.Fault.{InLine}
 use Rattle.walk_laws.specs.FileFault.{FileFault, Judged}
 use Rattle.stream_laws.specs.Streaming.{burstAnswer, joined, Bursts}
 use Rattle.stream_laws.specs.Calls.{Calls}
-use Rattle.theorems.specs.Table.{InTable, Replied, CallsInTable}
+use Rattle.theorems.specs.Table.{InTable, Replied, CallsInTable, BurstInTable}
 use Rattle.theorems.specs.Stands.{SetAt, At58}
-use Rattle.theorems.specs.Answers.{Answered, NoSuch, AsJudged, InTurn, Filled, valueSaid, allSaid, ownBytes}
+use Rattle.theorems.specs.Answers.{Answered, NoSuch, AsJudged, InTurn, Filled, FilledBy, valueSaid, allSaid, ownBytes}
+use Rattle.theorems.specs.Rounded.{OnceOr21}
 use Rattle.theorems.specs.Columns.{Columns, DataByte, Belongs}
 use Rattle.theorems.specs.Alone.{aloneIn, setsAlone, together, Alone}
-use Rattle.theorems.specs.LaidOut.{writtenText, LaidOut, ReadAs}
+use Rattle.theorems.specs.LaidOut.{writtenText, Writable, LaidOut, ReadAs}
 use Rattle.exact.specs.ExactLaws as ExactLaws
+use Rattle.host.specs.PackedLaws as PackedLaws
 use Rattle.writer_laws.specs.HeaderRefusedLaws as HeaderRefusedLaws
 use Rattle.walk_laws.specs.FaultColumnLaws as FaultColumnLaws
 use Rattle.walk_laws.specs.FileFaultLaws as FileFaultLaws
@@ -67,6 +70,8 @@ use Rattle.theorems.specs.JudgeLaws as JudgeLaws
 use Rattle.theorems.specs.ListerLaws as ListerLaws
 use Rattle.theorems.specs.ColumnsLaws as ColumnsLaws
 use Rattle.theorems.specs.ReaderLaws as ReaderLaws
+use Rattle.theorems.specs.LentLaws as LentLaws
+use Rattle.theorems.specs.RoundedLaws as RoundedLaws
 use Rattle.theorems.specs.ValuesLaws as ValuesLaws
 use Rattle.theorems.specs.RewriterLaws as RewriterLaws
 use Rattle.theorems.specs.AloneLaws as AloneLaws
@@ -88,6 +93,10 @@ calls-table = TableCallsLaws.calls-table
 pub writer-table : (header : List ℕ) (xs ss : List ℤ) (room : ℕ) → Replied (writeReply header xs ss room)
 writer-table = TableCallsLaws.writer-table
 
+-- of bursts, 127, 1 or the refusal of a finished line; 20 for a record that is too short and 23 after the end are in `Burst`
+pub burst-table : (bytes : List ℕ) → BurstInTable (length (cut bytes .lines)) (paper (burstAnswer bytes))
+burst-table = ArrivalLaws.burst-table
+
 -- a set by its number from 1, a stored number or a value by its index from 0
 module _ {sets : List Set} {bytes : List ℕ} (p : Proper sets bytes) where
   pub reader-no-set : (k i : ℕ) → (k ≡ 0) ⊎ (length sets < k) → NoSuch bytes k i
@@ -99,6 +108,24 @@ module _ {sets : List Set} {bytes : List ℕ} (p : Proper sets bytes) where
   pub reader-past : {k : ℕ} {s : Set} {q : Part} → At58 sets bytes k s q → (i : ℕ)
       → (storedCount s ≤ i → storedNumber bytes (suc k) i ≡ refused 18 0) × (declared s ≤ i → valueOf bytes (suc k) i ≡ refused 18 0)
   reader-past = ReaderLaws.reader-past p
+
+  -- 17 and 20, where an answer has less room than it takes; 1 is `refusal-too-long` below
+  pub lister-short : (room : ℕ) → room < rowNumbers * length sets → listReply bytes room ≡ reply 17 0
+  lister-short = ListerLaws.lister-short p
+
+  pub rewriter-short : (room : ℕ) → room < length (rewrittenFile bytes) → rewriteReply bytes room ≡ reply 20 0
+  rewriter-short = RewriterLaws.rewriter-short p
+
+pub number-short : (bytes : List ℕ) (k j : ℕ) (x : Shown) → storedNumber bytes k j ≡ said 0 0 (x ∷ []) → (room : ℕ) → room < 20
+    → replyFor (numberAnswer (storedNumber bytes k j)) room ≡ word (reply 20 0)
+number-short = LentLaws.number-short
+
+pub value-short : (bytes : List ℕ) (k i n : ℕ) (xs : List Float) → valueOf bytes k i ≡ said 0 n xs → (room : ℕ) → room < 8 * length xs
+    → replyFor (valueAnswer (valueOf bytes k i)) room ≡ word (reply 20 0)
+value-short = LentLaws.value-short
+
+pub all-short : (bytes : List ℕ) (k n room : ℕ) (xs : List Float) → allValues bytes k ≡ said 0 n xs → room < length xs → allReply bytes k room ≡ reply 20 0
+all-short = ValuesLaws.all-short
 
 -- "A refused call alters no byte of a buffer lent to it."
 pub lister-kept : (bytes rows : List ℕ) → 0 < listReply bytes (length rows) .number → listRows bytes rows ≡ rows
@@ -127,13 +154,16 @@ start-kept = ArrivalLaws.start-kept
 pub burst-kept : {ns bs b ns′ bs′ : List ℕ} {r : Reply} → Burst same ns bs b ns′ bs′ r → (r .number ≡ 20) ⊎ (r .number ≡ 23) → Untouched ns bs ns′ bs′
 burst-kept = ArrivalLaws.burst-kept
 
+pub burst-kept-word : {ns bs b ns′ bs′ : List ℕ} {w : ℕ} → Burst word ns bs b ns′ bs′ w → (numberIn w ≡ 20) ⊎ (numberIn w ≡ 23) → Untouched ns bs ns′ bs′
+burst-kept-word = ArrivalLaws.burst-kept-word
+
 pub end-kept : (ns bs : List ℕ) → endOf ns bs .number ≡ 20 → endNumbers ns bs ≡ ns
 end-kept = ArrivalLaws.end-kept
 
 -- "No caller has to check first.": no call has a `requires`.
 
 -- DEMAND 2. "Records, columns and numbers mean what the published dataset descriptions and document 01 say.": the definitions under `Proper`.
--- "A number read is the decimal number in its columns, exactly, or rounded once where 01 says so.": `reader-numbers`, `value-by-bytes` below, and
+-- "A number read is the decimal number in its columns, exactly, or rounded once where 01 says so.": `reader-numbers`, `value-by-bytes`, `value-rounded` below, and
 pub rounded-once : (c k : ℕ) → c ≤ 9007199254740992 → k ≤ 22
     → (magnitudeOf c false k ≡ round binary64 false (c * 10 ^ k) 1) × (magnitudeOf c true k ≡ round binary64 false c (10 ^ k))
 rounded-once c k h g = (ExactLaws.magnitudeOf-times c k h g, ExactLaws.magnitudeOf-divided c k h g)
@@ -142,6 +172,12 @@ rounded-once c k h g = (ExactLaws.magnitudeOf-times c k h g, ExactLaws.magnitude
 -- coefficients that an i64 can have,
 pub writer-lays : (header : List ℕ) (xs ss : List ℤ) (room : ℕ) → Coefficients xs → writeReply header xs ss room .number ≡ 0 → LaidOut header xs ss
 writer-lays = WriterLaws.writer-lays
+
+-- and the other way about: where header and numbers can be laid out it answers the length, or 20 for lack of room
+pub writer-writes : (header : List ℕ) (xs ss : List ℤ) (room : ℕ) → Writable header xs ss
+    → (length (writtenText header xs ss) ≤ room → writeReply header xs ss room ≡ reply 0 (length (writtenText header xs ss)))
+    × (room < length (writtenText header xs ss) → writeReply header xs ss room ≡ reply 20 0)
+writer-writes = WriterLaws.writer-writes
 
 pub writer-answers : (header : List ℕ) (xs ss : List ℤ) (out : List ℕ) → writeReply header xs ss (length out) .number ≡ 0
     → (length (writtenText header xs ss) ≤ length out) × Filled (writtenText header xs ss) (writeReply header xs ss (length out)) out (writeOut header xs ss out)
@@ -202,6 +238,10 @@ module _ {sets : List Set} {bytes : List ℕ} (p : Proper sets bytes) where
 
     pub reader-values : (i : ℕ) → i < declared s → valueOf bytes (suc k) i ≡ valueSaid s i
     reader-values = ReaderLaws.reader-values p a
+
+    -- each f64 of a value is its item rounded once, with its sign; 21 exactly where an item is outside the exact path
+    pub value-rounded : (i : ℕ) → i < declared s → OnceOr21 s (i * numbersOf (setCase s)) (numbersOf (setCase s)) (valueKind (setCase s)) (valueOf bytes (suc k) i)
+    value-rounded = RoundedLaws.value-rounded p a
 
     pub all-of-list : allValues bytes (suc k) ≡ allSaid s
     all-of-list = ValuesLaws.all-of-list p a
@@ -284,6 +324,16 @@ module _ {sets sets′ : List Set} {bytes bytes′ : List ℕ} (p : Proper sets 
       → valueOf bytes (suc k) i ≡ valueOf bytes′ (suc k′) i′
   own-bytes-decide = ReaderLaws.own-bytes-decide p p′ a a′
 
+-- the bytes that C is given of an answer, which `reader-numbers` and `reader-values` say by the list: of a stored number 20, of a value the bit patterns of its
+-- f64, the lowest byte first
+pub number-answers : (bytes : List ℕ) (k j : ℕ) (x : Shown) → storedNumber bytes k j ≡ said 0 0 (x ∷ []) → (out : List ℕ) → 20 ≤ length out
+    → FilledBy (numberBytes x) 20 (replyFor (numberAnswer (storedNumber bytes k j)) (length out)) out (bytesAfter (numberAnswer (storedNumber bytes k j)) out)
+number-answers = LentLaws.number-answers
+
+pub value-answers : (bytes : List ℕ) (k i n : ℕ) (xs : List Float) → valueOf bytes k i ≡ said 0 n xs → (out : List ℕ) → 8 * length xs ≤ length out
+    → FilledBy (valueBytes xs) n (replyFor (valueAnswer (valueOf bytes k i)) (length out)) out (bytesAfter (valueAnswer (valueOf bytes k i)) out)
+value-answers = LentLaws.value-answers
+
 -- C-11. "The collector sends a capture in bursts. The receiving program, in Rattle, lends one standing record, which each burst brings up to date in place, then asks for
 -- the end." (`Bursts`)
 -- "However it is cut, bursts of no bytes too, the end answer is the whole file's, asked again too."
@@ -302,11 +352,19 @@ burst-too-long = ArrivalLaws.burst-too-long
 pub lines-after : (bytes : List ℕ) (n : ℕ) → burstAnswer bytes ≡ SoFar n → n ≡ length (cut bytes .lines)
 lines-after = StreamingLaws.lines-after
 
--- "A fresh record starts a new file; one grown otherwise is safe, its answers unpromised."
+-- a refusal once told is that of every file that begins so; where it is "so far", none of the finished lines is refused
+pub told-stays : (a b : List ℕ) (r : Reply) → burstAnswer a ≡ Refused r → length (a ++ b) ≤ 16777216 → judged (a ++ b) ≡ r
+told-stays = StreamingLaws.told-stays
+
+pub so-far-beyond : (bytes : List ℕ) (n : ℕ) → burstAnswer bytes ≡ SoFar n
+    → (judged bytes ≡ reply 0 n) ⊎ ((judged bytes ≡ reply 16 0) ⊎ (judged bytes .place ≡ n + 1))
+so-far-beyond = StreamingLaws.so-far-beyond
+
+-- "A fresh record starts a new file; one grown otherwise is safe, its answers unpromised.": safe, since no call of `stream_mut` or host has a `requires`
 pub start-fresh : (ns bs : List ℕ) → isShort ns bs ≡ false → streamOf (startNumbers ns bs) (startLine ns bs) ≡ freshRecord
 start-fresh = CallsLaws.start-fresh
 
--- "Demand 3 reads for the end answer, and demand 1's untouched buffers don't cover the record, but for 23."
+-- "Demand 3 reads for the end answer, and demand 1's untouched buffers don't cover the record, but for 23.": 23 by `burst-kept`, `after-end` and `calls-late`
 pub arrived-proper : {r : Stream} {bursts : List (List ℕ)} → Bursts freshRecord bursts r → (n : ℕ) → endReply (seen r) ≡ reply 0 n
     → (sets : List Set) × Proper sets (joined bursts)
 arrived-proper = ArrivalLaws.arrived-proper
@@ -334,13 +392,14 @@ module _ {A : Type 0} {form : Reply → A} (ns bs : List ℕ) (s : isShort ns bs
 
 -- C-14. "Every refusal of a line now carries the column too: of the first such byte for 2 and 13, the field's first column for 10, 11, 12, 14, 24 and 25,
 -- otherwise 1.", "For 14 it is the earliest offending field.", "24, integer field blank, and 25, real field blank, in the places of 10 and 12, which keep the
--- rest": a reply that names a line is the refusal of the earliest bad line, and `Fault` says from that line what is wrong there, and at which column
+-- rest": a reply that names a line is the refusal of the earliest bad line, and `walk_laws` Fault says from that line what is wrong there, and at which column
 pub refusal-sound : (bytes : List ℕ) → length bytes ≤ 16777216 → Judged bytes (judged bytes)
 refusal-sound = FileFaultLaws.judged-fault
 
 pub refusal-complete : (bytes : List ℕ) {k : ℕ} {f : Refusal} → length bytes ≤ 16777216 → FileFault bytes k f → judged bytes ≡ atLine k f
 refusal-complete = FileFaultLaws.fault-judged
 
+-- it is from 1, at most 80 but for 2, for 2 at most the file's bytes, and 1 for 3 to 9 and 15
 pub refusal-column : {bytes : List ℕ} {k : ℕ} {f : Refusal} → FileFault bytes k f → InLine bytes f
 refusal-column = FaultColumnLaws.file-column
 
@@ -348,14 +407,17 @@ refusal-column = FaultColumnLaws.file-column
 pub refusal-too-long : (bytes : List ℕ) → 16777216 < length bytes → judged bytes ≡ reply 1 0
 refusal-too-long = FileFaultLaws.too-long-judged
 
--- the word that carries the judge's reply to a host loses nothing of it (`InWord`)
+-- the word that carries a reply to C gives its number, column and place back; a file's reply is within its bounds (`InWord`)
+pub word-carries : (r : Reply) → InWord r → Carries (word r) r
+word-carries = PackedLaws.word-carries
+
 pub reply-bounds : (bytes : List ℕ) → InWord (judged bytes)
 reply-bounds = TableLaws.judged-bounds
 
 pub reply-word : (a b : List ℕ) → word (judged a) ≡ word (judged b) → judged a ≡ judged b
 reply-word = TableLaws.judged-word
 
--- the writer's header is refused as the file that it opens, two lines up; past eleven lines, for its twelfth
+-- the writer's header is refused as the file that it opens, two lines up, where that is no longer than a file may be; past eleven lines, for its twelfth
 module _ (header : List ℕ) (h : 0 < headerOf header .reply .number) where
   pub header-judged : (length (cut header .lines) ≤ headerLines) ⊎ (headerOf header .reply .place ≤ headerLines) → length (headText 58 ++ header) ≤ 16777216
       → judged (headText 58 ++ header) ≡ replyAt (headerOf header .reply .number) (headerOf header .reply .place + 2) (headerOf header .reply .column)

@@ -3,12 +3,13 @@ use mathlib.Core.Path.{_≡_, refl, sym, _∙_}
 use mathlib.Core.List.{List, map}
 use Prim.Native.Nat.{ℕ, suc, _*_, _<_, _≤_}
 use native.Mathlib.Omega.{arith}
-use borrow.Author.Tests.{le-ltb}
+use borrow.Author.Tests.{lt-ltb, le-ltb}
 use lib.Ieee.{Float}
 use lib.ListN.{length, length-map}
 use Rattle.exact.specs.Bits.{bitsOf}
 use Rattle.layout.specs.Layout.{numbersOf}
 use Rattle.parts.specs.Parts.{Part}
+use Rattle.judge.specs.Judge.{reply}
 use Rattle.reader.specs.Reader.{said, refused, setsFrom, valueOf}
 use Rattle.reader.specs.ReaderLaws.{start-most}
 use Rattle.values.specs.Values.{allValues, allReply, allPlaces}
@@ -32,6 +33,10 @@ laid-out bytes k n xs out e l h =
     let room = le-ltb (length out) n h in
     let many : length (map bitsOf xs) ≡ n = length-map xs bitsOf ∙ l in
     record { answer = rw (e, l, room, many) refl; laid = rw (e, l, room, many) refl }
+
+pub all-short : (bytes : List ℕ) (k n room : ℕ) (xs : List Float) → allValues bytes k ≡ said 0 n xs → room < length xs → allReply bytes k room ≡ reply 20 0
+unfolding allReply
+all-short bytes k n room xs e h = rw (e, lt-ltb room (length xs) h) refl
 
 module _ {sets : List Set} {bytes : List ℕ} (p : Proper sets bytes) {k : ℕ} {s : Set} {q : Part} (a : At58 sets bytes k s q) where
   pub all-of-list : allValues bytes (suc k) ≡ allSaid s

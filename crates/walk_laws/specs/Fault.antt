@@ -1,5 +1,5 @@
 -- Why a line of a file is refused, and where (01, "What comes back"; 02, C-14: "Every refusal of a line now carries the column too"). Said from
--- the state that the lines before it lead to and from the line's bytes: nothing here runs the check.
+-- the state that the lines before it lead to, which says the row due, and from the line's bytes: no field is checked here.
 use mathlib.Core.Path.{_≡_}
 use mathlib.Core.Bool.{true, false}
 use mathlib.Core.List.{List}
