@@ -146,6 +146,22 @@ uint64_t uff_values(const uint8_t *file, size_t file_len, uint32_t set, double *
 uint64_t uff_rewrite(const uint8_t *file, size_t file_len, uint8_t *out, size_t out_len);
 
 /*
+ * A set alone. The bytes of an accepted file from a row's fourth number to its fifth are themselves an
+ * accepted file, of that set only: every call above answers of its set 1 as of that set in the whole
+ * file, with bytes counted from the row's fourth number and lines from its first. Every call judges all
+ * that it is given; so a host that wants every set lists the file once and then gives each set's own
+ * bytes, all of them together one pass more:
+ *
+ *     uint64_t sets = uff_list(file, file_len, rows, UFF_SETS * UFF_ROW_NUMBERS);
+ *     if (UFF_NUMBER(sets) == UFF_ACCEPTED)
+ *         for (uint32_t k = 0; k < UFF_PLACE(sets); k++) {
+ *             const uint32_t *row = rows + k * UFF_ROW_NUMBERS;
+ *             uint64_t reply = uff_values(file + row[3], row[4] - row[3], 1, out, UFF_DOUBLES);
+ *             ...
+ *         }
+ */
+
+/*
  * The writer: one whole set 58 from its eleven header lines and its stored numbers, each a coefficient
  * and a scale. The answer is its length. Refused as the header's lines are, counted from 1, then with
  * 22, 19 (the place is the number's index), 20.

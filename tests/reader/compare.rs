@@ -7,6 +7,7 @@
 //! against the answers typed by hand, and against what must hold of its answers whatever the file is.
 //! Each call has a file of its own.
 
+mod alone;
 #[path = "../common/mod.rs"]
 mod common;
 #[path = "../judge/edges.rs"]
@@ -61,14 +62,16 @@ fn main() {
         println!("the plain side alone, {} files", run.files);
         return;
     }
+    alone::check_one_pass();
     let compared = |call: Call| run.tally(call).compared;
     println!(
-        "compared {} files, {} lists, {} numbers, {} values, {} rewritten, {} all values",
+        "compared {} files, {} lists, {} numbers, {} values, {} rewritten, {} all values, {} sets alone",
         run.files,
         compared(Call::List),
         compared(Call::Number),
         compared(Call::Value),
         compared(Call::Rewrite),
-        compared(Call::Values)
+        compared(Call::Values),
+        run.sets_alone[0]
     );
 }

@@ -32,6 +32,8 @@ const LEAST_OF_A_KIND: u32 = 1_000;
 /// All values of a set are there only where every number is in the exact path.
 const LEAST_OF_ALL_VALUES: u32 = 5_000;
 const LEAST_AT_ONCE: u32 = 1_000;
+/// So many sets must be asked alone, and so many numbers and values of them shown.
+const LEAST_ALONE: u32 = 10_000;
 /// So many numbers and values that are answered must have an exponent without a letter.
 const LEAST_WITHOUT_LETTER: u32 = 1_000;
 
@@ -56,6 +58,9 @@ pub fn check_outcomes(run: &Run) {
         let [same, refused] = run.at_once;
         println!("all values as one by one: {same} sets; 21 as one of them: {refused} sets");
         seldom |= same.min(refused) < LEAST_AT_ONCE;
+        let [sets, shown] = run.sets_alone;
+        println!("sets alone: {sets}, with {shown} numbers and values shown");
+        seldom |= sets.min(shown) < LEAST_ALONE;
     }
     if seldom {
         println!("some outcome came too seldom");

@@ -57,6 +57,8 @@ pub struct Run {
     pub without_letter: [u32; 2],
     /// Sets whose values at once and one by one were held against each other: accepted, 21.
     pub at_once: [u32; 2],
+    /// Sets that were asked alone, and how many of their numbers and values were shown.
+    pub sets_alone: [u32; 2],
 }
 
 impl Run {
@@ -69,6 +71,7 @@ impl Run {
             kinds: [0; 5],
             without_letter: [0; 2],
             at_once: [0; 2],
+            sets_alone: [0; 2],
         }
     }
 
@@ -174,6 +177,9 @@ impl Run {
         }
         for (set, row) in (1..).zip(&rows) {
             self.take_set(subject, set, row, every);
+        }
+        if !self.alone && rows.len() > 1 {
+            self.take_alone(subject);
         }
     }
 

@@ -12,7 +12,7 @@ use Rattle.lister.specs.Lister.{listReply, listRows}
 use Rattle.reader.specs.Reader as Reader
 use Rattle.values.specs.Values.{allReply, allPlaces}
 use Rattle.rewriter.specs.Rewriter as W
-use Rattle.judge.specs.Judge.{reply}
+use Rattle.judge.specs.Judge.{reply, replyAt}
 use Rattle.header.specs.Header.{answer, headerOf}
 use Rattle.writer.specs.Writer.{dataText, writtenSet, writeReply, writeOut}
 use Rattle.cases.specs.Files.{none, _⊕_, closing, axes, measured, example}
@@ -87,7 +87,7 @@ pub example-written : (headerOf header ≡ answer 0 0 0 7)
     × ((writeReply header coefficients (drop 1 scales) 508 ≡ reply 22 0)
     × ((writeReply header (L._∷_ (pos 1) (L._∷_ (pos 1000001) (drop 2 coefficients))) scales 0 ≡ reply 19 1)
     × ((writeReply header (L._∷_ (pos 1000001) L.[]) scales 0 ≡ reply 22 0)
-    × (writeReply (headed "         3") L.[] scales 0 ≡ reply 11 7)))))))
+    × (writeReply (headed "         3") L.[] scales 0 ≡ replyAt 11 7 1)))))))
 unfolding computed-write
 example-written = (refl, (refl, (refl, (refl, (refl, (refl, (refl, refl)))))))
 

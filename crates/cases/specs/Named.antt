@@ -6,7 +6,7 @@ use mathlib.Core.List.{List}
 use Prim.Native.Nat.{ℕ, zero, suc}
 use lib.IntN.{ℤ, pos, negsuc, natAbs}
 use Rattle.real.specs.Real.{belowZero}
-use Rattle.judge.specs.Judge.{judged}
+use Rattle.judge.specs.Judge.{judged, replyAt}
 use Rattle.reader.specs.Reader.{Said, said, refusedBy, Shown, shown, storedNumber}
 use Rattle.cases.specs.Files.{none, _⊕_, closing, plain, function, measured}
 use Rattle.cases.specs.Computed.{computed-number}
@@ -38,6 +38,10 @@ accepted n = said 0 n L.[]
 abbrev refused : ℕ → ℕ → Said Shown
 refused n p = said n p L.[]
 
+-- refused at a line and a column
+abbrev refusedAt : ℕ → ℕ → ℕ → Said Shown
+refusedAt n p c = refusedBy (replyAt n p c)
+
 -- first and past byte, sign, coefficient, scale
 abbrev shows : ℕ → ℕ → Bool → ℕ → ℤ → Said Shown
 shows a e n c s = said 0 0 (L._∷_ (shown a e n c (belowZero s) (natAbs s)) L.[])
@@ -51,23 +55,23 @@ cases =
     -- "80 columns pass"
     (case (judges (plain "xxxxxxxxxxxxxxxxxxxxxxxxxxxxxxxxxxxxxxxxxxxxxxxxxxxxxxxxxxxxxxxxxxxxxxxxxxxxxxxx")) (accepted 4)) ⊞
     -- "81 give 3"
-    (case (judges (plain "xxxxxxxxxxxxxxxxxxxxxxxxxxxxxxxxxxxxxxxxxxxxxxxxxxxxxxxxxxxxxxxxxxxxxxxxxxxxxxxxx")) (refused 3 3)) ⊞
+    (case (judges (plain "xxxxxxxxxxxxxxxxxxxxxxxxxxxxxxxxxxxxxxxxxxxxxxxxxxxxxxxxxxxxxxxxxxxxxxxxxxxxxxxxx")) (refusedAt 3 3 1)) ⊞
     -- "Empty file 16"
     (case (judges none) (refused 16 0)) ⊞
     -- "Function type 28 passes"
     (case (judges (function "   28         1    0         0 NONE               7   3 NONE               0   0" "         2         1         1  0.00000E+00  1.00000E-03  0.00000E+00" ("  1.00000E-01" ⊕ closing))) (accepted 15)) ⊞
     -- "29 is 11"
-    (case (judges (function "   29         1    0         0 NONE               7   3 NONE               0   0" "         2         1         1  0.00000E+00  1.00000E-03  0.00000E+00" ("  1.00000E-01" ⊕ closing))) (refused 11 8)) ⊞
+    (case (judges (function "   29         1    0         0 NONE               7   3 NONE               0   0" "         2         1         1  0.00000E+00  1.00000E-03  0.00000E+00" ("  1.00000E-01" ⊕ closing))) (refusedAt 11 8 1)) ⊞
     -- "Direction -6 passes"
     (case (judges (function "    1         1    0         0 NONE               7  -6 NONE               0   0" "         2         1         1  0.00000E+00  1.00000E-03  0.00000E+00" ("  1.00000E-01" ⊕ closing))) (accepted 15)) ⊞
     -- "-7 is 11"
-    (case (judges (function "    1         1    0         0 NONE               7  -7 NONE               0   0" "         2         1         1  0.00000E+00  1.00000E-03  0.00000E+00" ("  1.00000E-01" ⊕ closing))) (refused 11 8)) ⊞
+    (case (judges (function "    1         1    0         0 NONE               7  -7 NONE               0   0" "         2         1         1  0.00000E+00  1.00000E-03  0.00000E+00" ("  1.00000E-01" ⊕ closing))) (refusedAt 11 8 52)) ⊞
     -- "`2147483647` passes in I10"
     (case (judges (function "    12147483647    0         0 NONE               7   3 NONE               0   0" "         2         1         1  0.00000E+00  1.00000E-03  0.00000E+00" ("  1.00000E-01" ⊕ closing))) (accepted 15)) ⊞
     -- "`2147483648` is 11"
-    (case (judges (function "    12147483648    0         0 NONE               7   3 NONE               0   0" "         2         1         1  0.00000E+00  1.00000E-03  0.00000E+00" ("  1.00000E-01" ⊕ closing))) (refused 11 8)) ⊞
-    -- "Thirteen blanks in a due real field are 12"
-    (case (judges (measured "         2         1         1  0.00000E+00  1.00000E-03  0.00000E+00" ("             " ⊕ closing))) (refused 12 14)) ⊞
+    (case (judges (function "    12147483648    0         0 NONE               7   3 NONE               0   0" "         2         1         1  0.00000E+00  1.00000E-03  0.00000E+00" ("  1.00000E-01" ⊕ closing))) (refusedAt 11 8 6)) ⊞
+    -- "Thirteen blanks in a due real field are 12"; 02, C-14: "01's thirteen blanks become 25"
+    (case (judges (measured "         2         1         1  0.00000E+00  1.00000E-03  0.00000E+00" ("             " ⊕ closing))) (refusedAt 25 14 1)) ⊞
     -- "`1.00000E-01` is 100000 × 10^-6"
     (case (asks (measured "         2         1         1  0.00000E+00  1.00000E-03  0.00000E+00" ("  1.00000E-01" ⊕ closing)) 1 0) (shows 408 421 false 100000 (negsuc 5))) ⊞
     -- "`-.5E+00` is -5 × 10^-1"
@@ -77,15 +81,15 @@ cases =
     -- "A count of 7 in case 1 takes two lines"
     (case (judges (measured "         2         7         1  0.00000E+00  1.00000E-03  0.00000E+00" ("  1.00000E-01  1.00000E-01  1.00000E-01  1.00000E-01  1.00000E-01  1.00000E-01" ⊕ "  1.00000E-01" ⊕ closing))) (accepted 16)) ⊞
     -- one line is not enough
-    (case (judges (measured "         2         7         1  0.00000E+00  1.00000E-03  0.00000E+00" ("  1.00000E-01  1.00000E-01  1.00000E-01  1.00000E-01  1.00000E-01  1.00000E-01" ⊕ closing))) (refused 7 15)) ⊞
+    (case (judges (measured "         2         7         1  0.00000E+00  1.00000E-03  0.00000E+00" ("  1.00000E-01  1.00000E-01  1.00000E-01  1.00000E-01  1.00000E-01  1.00000E-01" ⊕ closing))) (refusedAt 7 15 1)) ⊞
     -- three are too many
-    (case (judges (measured "         2         7         1  0.00000E+00  1.00000E-03  0.00000E+00" ("  1.00000E-01  1.00000E-01  1.00000E-01  1.00000E-01  1.00000E-01  1.00000E-01" ⊕ "  1.00000E-01" ⊕ "  1.00000E-01" ⊕ closing))) (refused 8 16)) ⊞
+    (case (judges (measured "         2         7         1  0.00000E+00  1.00000E-03  0.00000E+00" ("  1.00000E-01  1.00000E-01  1.00000E-01  1.00000E-01  1.00000E-01  1.00000E-01" ⊕ "  1.00000E-01" ⊕ "  1.00000E-01" ⊕ closing))) (refusedAt 8 16 1)) ⊞
     -- "in case 8 seven"
     (case (judges (measured "         6         7         0  0.00000E+00  0.00000E+00  0.00000E+00" (valuesOfEight 7))) (accepted 21)) ⊞
     -- six lines are not enough
-    (case (judges (measured "         6         7         0  0.00000E+00  0.00000E+00  0.00000E+00" (valuesOfEight 6))) (refused 7 20)) ⊞
+    (case (judges (measured "         6         7         0  0.00000E+00  0.00000E+00  0.00000E+00" (valuesOfEight 6))) (refusedAt 7 20 1)) ⊞
     -- eight are too many
-    (case (judges (measured "         6         7         0  0.00000E+00  0.00000E+00  0.00000E+00" (valuesOfEight 8))) (refused 8 21)) ⊞
+    (case (judges (measured "         6         7         0  0.00000E+00  0.00000E+00  0.00000E+00" (valuesOfEight 8))) (refusedAt 8 21 1)) ⊞
     L.[]
 
 -- the reply to each question is the one that document 01 names

@@ -98,7 +98,7 @@ isZeroInteger-value true (suc v) = sym (ne-eqb (suc v) 0 (λ e. omega arith))
 isZeroInteger-value false v = refl
 
 -- the number of an integer field, by what it holds and the test that decides
-pub integerNumber-blank : (r : Rule) (may t : Bool) {i : Integer} → i ≡ Blank → may ≡ t → integerNumber r may i ≡ pick t 0 10
+pub integerNumber-blank : (r : Rule) (may t : Bool) {i : Integer} → i ≡ Blank → may ≡ t → integerNumber r may i ≡ pick t 0 24
 integerNumber-blank r may t e m = rw (e, m) refl
 
 pub integerNumber-value : (k : ℕ) (may t : Bool) (n : Bool) (v : ℕ) {i : Integer} → i ≡ Value n v → allowedOf k n v ≡ t → integerNumber (ruleOf (formOf k)) may i ≡ pick t 0 11

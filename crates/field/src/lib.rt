@@ -36,7 +36,7 @@ pub fn integer_number(form: u8, may: bool, field: &[u8]) -> u8
             if may {
                 return 0;
             }
-            10
+            24
         }
         Integer::Malformed => 10,
         Integer::OutOfRange => 11,
@@ -54,7 +54,7 @@ pub fn real_number(field: &[u8]) -> u8
     ensures { λ r. ⌜ r ≡ realNumber (realOf (now (field .entry))) ⌝ }
 {
     match real_field(field) {
-        Real::Blank => 12,
+        Real::Blank => 25,
         Real::Malformed => 12,
         Real::Value(_) => 0,
     }

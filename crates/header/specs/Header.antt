@@ -3,13 +3,14 @@
 use mathlib.Core.Bool.{true, false}
 use mathlib.Core.List.{List, [], _∷_}
 use mathlib.Core.Path.{_≡_}
-use Prim.Native.Nat.{ℕ, zero, suc, _+_, _≤_, _<_}
+use Prim.Native.Nat.{ℕ, zero, suc, _≤_, _<_}
 use lib.Dec.{ltb}
 use lib.ListN.{length, take}
 use Rattle.laws.specs.Choice.{pick}
 use Rattle.laws.specs.Cut as Cut
 use Rattle.laws.specs.Cut.{cut}
-use Rattle.line.specs.Line.{columns, lineFault}
+use Rattle.line.specs.Line.{refusal, columns, lineFault}
+use Rattle.line.specs.declared.Refusal.{Refusal}
 use Rattle.record_table.specs.TypedSets.{headerLines, kind58}
 use Rattle.walk.specs.declared.Place.{Place}
 use Rattle.walk.specs.declared.Place.the-variants.{Outside, Number, Plain, Typed}
@@ -17,33 +18,36 @@ use Rattle.walk.specs.declared.State.{State}
 use Rattle.walk.specs.Due.{opening}
 use Rattle.walk.specs.Step.{state}
 use Rattle.judge.specs.declared.Reply.{Reply}
-use Rattle.judge.specs.Judge.{lineStep, Run, going, refused, onOutcome, reply, replyAt}
+use Rattle.judge.specs.Judge.{lineStep, Run, going, refused, onOutcome, reply, atLine}
 use Rattle.header.specs.declared.Header.{Header}
 
 -- a reply, and where its number is 0 the case of the 58 and how many numbers it stores
 abbrev pub answerWith : Reply → ℕ → ℕ → Header
-answerWith r c s = record { number = r .number; place = r .place; column = r .column; case = c; stored = s }
+answerWith r c s = record { reply = r; case = c; stored = s }
 
 -- a number and a place, no column
 abbrev pub answer : ℕ → ℕ → ℕ → ℕ → Header
 answer n p c s = answerWith (reply n p) c s
 
--- the reply of an answer
-abbrev pub replyOf : Header → Reply
-replyOf h = replyAt (h .number) (h .place) (h .column)
+-- refused at line n + 1
+abbrev pub refusedAt : ℕ → Refusal → Header
+refusedAt n f = answerWith (atLine n f) 0 0
 
 -- a 58 opens, before its line 1
 abbrev pub opened : State
 opened = state (Typed (opening kind58)) 1
 
--- the number of a line past the eleventh: its own refusal's, otherwise 8
-abbrev pub pastNumber : ℕ → ℕ
-pastNumber zero = 8
-pastNumber (suc m) = suc m
+-- the refusal of a line past the eleventh: its own, otherwise 8
+abbrev pub pastFault : Refusal → Refusal
+pastFault f = own (f .number)
+  where
+    own : ℕ → Refusal
+    own zero = refusal 8 1
+    own (suc m) = f
 
 -- one line more
 abbrev pub headerStep : Run → List ℕ → Run
-headerStep (going s n) l = pick (ltb n headerLines) (onOutcome n (lineStep s l)) (refused (reply (pastNumber (lineFault true (columns true l) .number)) (n + 1)))
+headerStep (going s n) l = pick (ltb n headerLines) (onOutcome n (lineStep s l)) (refused (atLine n (pastFault (lineFault true (columns true l)))))
 headerStep (refused r) l = refused r
 
 -- what eleven lines leave due: the numbers of the data lines. No other place is left (`writer_laws`: `refused-place`)
@@ -55,8 +59,8 @@ leaves (Typed d) = answer 0 0 (d .case) (d .left)
 
 -- at the end, with the bytes after the last LF
 abbrev pub headerEnd : Run → List ℕ → Header
-headerEnd (going s n) [] = pick (ltb n headerLines) (answer 7 (n + 1) 0 0) (leaves (s .place))
-headerEnd (going s n) (b ∷ bs) = answer (lineFault false (b ∷ bs) .number) (n + 1) 0 0
+headerEnd (going s n) [] = pick (ltb n headerLines) (refusedAt n (refusal 7 1)) (leaves (s .place))
+headerEnd (going s n) (b ∷ bs) = refusedAt n (lineFault false (b ∷ bs))
 headerEnd (refused r) rest = answerWith r 0 0
 
 unfoldable pub headerOf : List ℕ → Header

@@ -14,7 +14,7 @@ use Rattle.laws.specs.Choice.{pick}
 use Rattle.laws.specs.ChoiceLaws.{below-or-not}
 use Rattle.laws.specs.Cut.{text, onto, lineLen, cut, over, judge}
 use Rattle.laws.specs.CutLaws.{cut-append, cut-open, over-append, judge-at}
-use Rattle.line.specs.Line.{columns, lineFault}
+use Rattle.line.specs.Line.{refusal, columns, lineFault}
 use Rattle.line.specs.LineLaws.{columns-take}
 use Rattle.line.specs.declared.Refusal.{Refusal}
 use Rattle.record_table.specs.TypedSets.{headerLines}
@@ -24,33 +24,33 @@ use Rattle.walk.specs.declared.Outcome.{Outcome}
 use Rattle.walk.specs.declared.Outcome.the-variants.{Next, Refused}
 use Rattle.judge.specs.declared.Reply.{Reply}
 use Rattle.judge.specs.declared.Lines.{Lines}
-use Rattle.judge.specs.Judge.{lineStep, Run, going, refused, onOutcome, reply, runStep}
+use Rattle.judge.specs.Judge.{lineStep, Run, going, refused, onOutcome, replyAt, atLine, runStep}
 use Rattle.judge.specs.JudgeLaws as Judge
 use Rattle.judge.specs.Lines.{runOf, LinesJudged}
-use Rattle.header.specs.Header.{answer, answerWith, opened, pastNumber, headerStep, leaves, headerEnd, headerOf, FirstEleven}
+use Rattle.header.specs.Header.{answerWith, refusedAt, opened, pastFault, headerStep, leaves, headerEnd, headerOf, FirstEleven}
 
 -- a line past the eleventh
 module _ (l : List ℕ) (n : ℕ) (e : n ≡ length (columns true l)) (f : Refusal) (q : f ≡ lineFault true (take n l)) where
-  own : f .number ≡ lineFault true (columns true l) .number
-  own = ap (λ (x : Refusal). x .number) q ∙ ap (λ (x : List ℕ). lineFault true x .number) (rw e (sym (columns-take true l)))
+  own : f ≡ lineFault true (columns true l)
+  own = q ∙ ap (lineFault true) (rw e (sym (columns-take true l)))
 
-  past-own : (m : ℕ) → 0 < m → m ≡ pastNumber m
-  past-own zero p = absurd (omega arith)
-  past-own (suc m) p = refl
+  pub past-fault : 0 < f .number → f ≡ pastFault (lineFault true (columns true l))
+  past-fault p = go (f .number) refl p ∙ ap pastFault own
+    where
+      go : (m : ℕ) → f .number ≡ m → 0 < m → f ≡ pastFault f
+      go zero z p = absurd (omega arith)
+      go (suc m) z p = rw z refl
 
-  pub past-fault : 0 < f .number → f .number ≡ pastNumber (lineFault true (columns true l) .number)
-  past-fault p = past-own (f .number) p ∙ ap pastNumber own
-
-  pub past-eight : f .number ≤ 0 → 8 ≡ pastNumber (lineFault true (columns true l) .number)
-  past-eight p = let z : lineFault true (columns true l) .number ≡ 0 = sym own ∙ omega arith in rw z refl
+  pub past-eight : f .number ≤ 0 → refusal 8 1 ≡ pastFault (lineFault true (columns true l))
+  past-eight p = let z : f .number ≡ 0 = omega arith in sym (rw z refl) ∙ ap pastFault own
 
 -- the end of a header
 module _ (s : State) (n : ℕ) where
-  pub end-rest : (rest : List ℕ) → 0 < length rest → answer (lineFault false rest .number) (n + 1) 0 0 ≡ headerEnd (going s n) rest
+  pub end-rest : (rest : List ℕ) → 0 < length rest → refusedAt n (lineFault false rest) ≡ headerEnd (going s n) rest
   end-rest [] p = absurd (omega arith)
   end-rest (b ∷ bs) p = refl
 
-  pub end-few : (rest : List ℕ) → length rest ≤ 0 → n < headerLines → answer 7 (n + 1) 0 0 ≡ headerEnd (going s n) rest
+  pub end-few : (rest : List ℕ) → length rest ≤ 0 → n < headerLines → refusedAt n (refusal 7 1) ≡ headerEnd (going s n) rest
   end-few [] h l = rw (lt-ltb n headerLines l) refl
   end-few (b ∷ bs) h l = absurd (omega arith)
 
@@ -73,9 +73,9 @@ module _ (s : State) (n : ℕ) (l : List ℕ) (at e : ℕ) (a : at ≤ length l)
   turn : judge headerStep headerEnd (going s n) (drop at l) ≡ judge headerStep headerEnd (headerStep (going s n) (take (e - at) (drop at l))) (drop (e + 1) l)
   turn = judge-at headerStep headerEnd (going s n) l at e a q h
 
-  pub header-past : (m : ℕ) → m ≡ pastNumber (lineFault true (columns true (take (e - at) (drop at l))) .number) → headerLines ≤ n
-      → answer m (n + 1) 0 0 ≡ judge headerStep headerEnd (going s n) (drop at l)
-  header-past m u p = sym (turn ∙ rw (le-ltb n headerLines p, ← u) (judge-refused (reply m (n + 1)) (drop (e + 1) l)))
+  pub header-past : (f : Refusal) → f ≡ pastFault (lineFault true (columns true (take (e - at) (drop at l)))) → headerLines ≤ n
+      → refusedAt n f ≡ judge headerStep headerEnd (going s n) (drop at l)
+  header-past f u p = sym (turn ∙ rw (le-ltb n headerLines p, ← u) (judge-refused (atLine n f) (drop (e + 1) l)))
 
 -- the first line with its LF
 cut-first : (d : List ℕ) → lineLen d < length d → cut (take (suc (lineLen d)) d) ≡ text (take (lineLen d) d ∷ []) []
@@ -124,7 +124,7 @@ over-same s n (l ∷ ls) h = rw (lt-ltb n headerLines (omega arith)) (go (lineSt
     go : (o : Outcome) → ((t : State) → over headerStep (going t (n + 1)) ls ≡ over runStep (going t (n + 1)) ls)
         → over headerStep (onOutcome n o) ls ≡ over runStep (onOutcome n o) ls
     go (Next t) ih = ih t
-    go (Refused f) ih = over-refused (reply (f .number) (n + 1)) ls ∙ sym (Judge.over-refused (reply (f .number) (n + 1)) ls)
+    go (Refused f) ih = over-refused (atLine n f) ls ∙ sym (Judge.over-refused (atLine n f) ls)
 
 -- a run that goes on counts the lines
 over-count : (s : State) (n : ℕ) (ls : List (List ℕ)) (t : State) (m : ℕ) → going t m ≡ over runStep (going s n) ls → m ≡ n + length ls
@@ -136,7 +136,7 @@ over-count s n (l ∷ ls) t m e = go (lineStep s l) (λ t′ e′. over-count t�
         → going t m ≡ over runStep (onOutcome n o) ls → m ≡ n + suc (length ls)
     go (Next t′) ih e′ = omega (arith, ih t′ e′)
     go (Refused f) ih e′ =
-        let u : going t m ≡ refused (reply (f .number) (n + 1)) = e′ ∙ Judge.over-refused (reply (f .number) (n + 1)) ls in
+        let u : going t m ≡ refused (atLine n f) = e′ ∙ Judge.over-refused (atLine n f) ls in
         let z : _≡_ {A = ℕ} 0 1 = cc in
         absurd (omega arith)
 
@@ -158,7 +158,7 @@ judge-append x a d = rw (cut-append a d, over-append headerStep x (cut a .lines)
 
 -- the first eleven lines judged, and what is left of the header
 module _ (b : List ℕ) (k : ℕ) (f : FirstEleven b k) (r : Lines) (j : LinesJudged opened 0 (take k b) 0 r) where
-  whole : (x : Run) → runOf (r .state) (r .lines) (r .number) ≡ x → headerOf b ≡ judge headerStep headerEnd x (cut (take k b) .rest ++ drop k b)
+  whole : (x : Run) → runOf (r .state) (r .lines) (r .number) (r .column) ≡ x → headerOf b ≡ judge headerStep headerEnd x (cut (take k b) .rest ++ drop k b)
   unfolding headerOf
   whole x u =
       ap (judge headerStep headerEnd (going opened 0)) (sym (take-append-drop k b)) ∙
@@ -168,8 +168,8 @@ module _ (b : List ℕ) (k : ℕ) (f : FirstEleven b k) (r : Lines) (j : LinesJu
   pub refused-most : 0 < r .number → r .lines < length b
   refused-most z = omega (arith, j .fewer z, length-take-le k b (f .within), f .within)
 
-  pub header-refused : 0 < r .number → answer (r .number) (r .lines + 1) 0 0 ≡ headerOf b
-  header-refused z = sym (whole (refused (reply (r .number) (r .lines + 1))) (rw (ne-eqb (r .number) 0 (λ y. omega arith)) refl) ∙ judge-refused _ _)
+  pub header-refused : 0 < r .number → answerWith (replyAt (r .number) (r .lines + 1) (r .column)) 0 0 ≡ headerOf b
+  header-refused z = sym (whole (refused (replyAt (r .number) (r .lines + 1) (r .column))) (rw (ne-eqb (r .number) 0 (λ y. omega arith)) refl) ∙ judge-refused _ _)
 
   module _ (z : r .number ≤ 0) where
     none : r .number ≡ 0

@@ -2,48 +2,49 @@
 ghost use mathlib.Core.Path.{_≡_};
 ghost use mathlib.Core.Bool.{true};
 ghost use Prim.Native.Nat.{_≤_};
-ghost use Rattle.judge.specs.Judge.{going};
+ghost use Rattle.judge.specs.Judge.{going, replyAt};
 ghost use Rattle.line.specs.Line.{columns, lineFault};
 ghost use Rattle.record_table.specs.TypedSets.{headerLines};
-ghost use Rattle.header.specs.Header.{answer, pastNumber, headerEnd, headerOf, FirstEleven};
+ghost use Rattle.header.specs.Header.{answerWith, pastFault, headerEnd, headerOf, FirstEleven};
+use judge::Reply;
+use line::Refusal;
 use record_table::HEADER_LINES;
 use record_table::KIND_58;
 use walk::Due;
 use walk::Place;
 use walk::State;
 
-// Document 01's number and place; where the number is 0, the case of the 58 from 0, and how many numbers it stores. The column is 0.
+// The reply; where its number is 0, the case of the 58 from 0, and how many numbers it stores.
 pub struct Header {
-    pub number: u8,
-    pub place: usize,
-    pub column: usize,
+    pub reply: Reply,
     pub case: usize,
     pub stored: usize,
 }
 
 // A header refused at a line.
-fn refuse(number: u8, place: usize) -> Header
-    ensures { λ r. ⌜ r ≡ answer number place 0 0 ⌝ }
+fn refuse(number: u8, place: usize, column: usize) -> Header
+    ensures { λ r. ⌜ r ≡ answerWith (replyAt number place column) 0 0 ⌝ }
 {
     Header {
-        number,
-        place,
-        column: 0,
+        reply: judge::reply_at(number, place, column),
         case: 0,
         stored: 0,
     }
 }
 
 // The refusal of a line past the eleventh: its own, otherwise 8.
-fn past_fault(line: &[u8]) -> u8
-    ensures { λ r. ⌜ r ≡ pastNumber (lineFault true (columns true (now (line .entry))) .number) ⌝ }
+fn past_fault(line: &[u8]) -> Refusal
+    ensures { λ r. ⌜ r ≡ pastFault (lineFault true (columns true (now (line .entry)))) ⌝ }
 {
     let n = line::columns_len(line, true);
     let fault = line::line_fault(&line[..n], true);
     if 0 < fault.number {
-        return fault.number;
+        return fault;
     }
-    8
+    Refusal {
+        number: 8,
+        column: 1,
+    }
 }
 
 // The end of a header that was not refused before, with the bytes after its last LF.
@@ -53,20 +54,18 @@ fn finish(s: State, lines: usize, rest: &[u8]) -> Header
 {
     if 0 < rest.len() {
         let fault = line::line_fault(rest, false);
-        return refuse(fault.number, lines + 1);
+        return refuse(fault.number, lines + 1, fault.column);
     }
     if lines < HEADER_LINES {
-        return refuse(7, lines + 1);
+        return refuse(7, lines + 1, 1);
     }
     let place = s.place;
     match place {
-        Place::Outside => refuse(7, 0),
-        Place::Number => refuse(7, 0),
-        Place::Plain => refuse(7, 0),
+        Place::Outside => refuse(7, 0, 0),
+        Place::Number => refuse(7, 0, 0),
+        Place::Plain => refuse(7, 0, 0),
         Place::Typed(d) => Header {
-            number: 0,
-            place: 0,
-            column: 0,
+            reply: judge::bare_reply(0, 0),
             case: d.case,
             stored: d.left,
         },
@@ -107,12 +106,13 @@ pub fn judge_header(header: &[u8]) -> Header
     let past = past_eleven(header);
     let read = judge::judge_lines(opened, 0, &header[..past], 0);
     if 0 < read.number {
-        return refuse(read.number, read.lines + 1);
+        return refuse(read.number, read.lines + 1, read.column);
     }
     let at = read.at;
     let end = line::find_end(header, at);
     if end < header.len() {
-        return refuse(past_fault(&header[at..end]), read.lines + 1);
+        let fault = past_fault(&header[at..end]);
+        return refuse(fault.number, read.lines + 1, fault.column);
     }
     finish(read.state, read.lines, &header[at..])
 }

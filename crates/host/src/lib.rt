@@ -45,11 +45,7 @@ fn pack(r: Reply) -> u64
 fn bare(number: u8, place: usize) -> u64
     ensures { λ r. ⌜ r ≡ packed number place ⌝ }
 {
-    pack(Reply {
-        number,
-        place,
-        column: 0,
-    })
+    pack(judge::bare_reply(number, place))
 }
 
 // Document 01's judge: the number and the place; for an accepted file 0 and the number of its lines.

@@ -2,7 +2,7 @@
 use mathlib.Core.Path.{_≡_, refl, sym, _∙_}
 use mathlib.Core.Bool.{true, false}
 use mathlib.Core.List.{List, [], _∷_}
-use Prim.Native.Nat.{ℕ, zero, suc, _+_, _≤_, _<_}
+use Prim.Native.Nat.{ℕ, zero, suc, _≤_, _<_}
 use native.Mathlib.Omega.{arith}
 use mathlib.Core.Logic.{⊎-elim}
 use borrow.Author.Tests.{ne-eqb, lt-ltb}
@@ -18,7 +18,7 @@ use Rattle.walk.specs.declared.State.{State}
 use Rattle.walk.specs.declared.Outcome.the-variants.{Refused}
 use Rattle.walk.specs.Step.{stepOf}
 use Rattle.judge.specs.declared.Reply.{Reply}
-use Rattle.judge.specs.Judge.{reply, lineOutcome, lineStep, going, refused, runStep, atEnd, runEnd, judged}
+use Rattle.judge.specs.Judge.{reply, atLine, lineOutcome, lineStep, going, refused, runStep, atEnd, runEnd, judged}
 
 own-first : (s : State) (f : Refusal) (cs : List ℕ) → 0 < f .number → lineOutcome s f cs ≡ Refused f
 own-first s f cs p = go (f .number) refl p
@@ -46,7 +46,7 @@ module _ (s : State) (l : List ℕ) (n : ℕ) (e : n ≡ length (columns true l)
 
 -- the end of a file, by whether bytes stand after its last LF
 module _ (s : State) (n : ℕ) where
-  pub runEnd-rest : (rest : List ℕ) → 0 < length rest → reply (lineFault false rest .number) (n + 1) ≡ runEnd (going s n) rest
+  pub runEnd-rest : (rest : List ℕ) → 0 < length rest → atLine n (lineFault false rest) ≡ runEnd (going s n) rest
   runEnd-rest [] p = absurd (omega arith)
   runEnd-rest (b ∷ bs) p = refl
 

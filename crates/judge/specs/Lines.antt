@@ -8,15 +8,15 @@ use Rattle.laws.specs.Choice.{pick}
 use Rattle.laws.specs.Cut.{cut, over}
 use Rattle.walk.specs.declared.State.{State}
 use Rattle.judge.specs.declared.Lines.{Lines}
-use Rattle.judge.specs.Judge.{Run, going, refused, reply, runStep}
+use Rattle.judge.specs.Judge.{Run, going, refused, replyAt, runStep}
 
 -- a run, from the fields of a record
-abbrev pub runOf : State → ℕ → ℕ → Run
-runOf s n k = pick (eqb k 0) (going s n) (refused (reply k (n + 1)))
+abbrev pub runOf : State → ℕ → ℕ → ℕ → Run
+runOf s n k c = pick (eqb k 0) (going s n) (refused (replyAt k (n + 1) c))
 
 -- the finished lines of the bytes from a place on, after n others
 pub record LinesJudged (s : State) (n : ℕ) (b : List ℕ) (at : ℕ) (r : Lines) : Type 0 where
-  pub run : runOf (r .state) (r .lines) (r .number) ≡ over runStep (going s n) (cut (drop at b) .lines)
+  pub run : runOf (r .state) (r .lines) (r .number) (r .column) ≡ over runStep (going s n) (cut (drop at b) .lines)
   pub rest : r .number ≡ 0 → drop (r .at) b ≡ cut (drop at b) .rest
   pub within : r .at ≤ length b
   pub few : r .lines ≤ n + (length b - at)

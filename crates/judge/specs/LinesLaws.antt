@@ -19,7 +19,7 @@ use Rattle.walk.specs.declared.Outcome.{Outcome}
 use Rattle.walk.specs.declared.Outcome.the-variants.{Next, Refused}
 use Rattle.judge.specs.declared.Reply.{Reply}
 use Rattle.judge.specs.declared.Lines.{Lines}
-use Rattle.judge.specs.Judge.{reply, lineStep, Run, going, refused, onOutcome, runStep, runEnd}
+use Rattle.judge.specs.Judge.{replyAt, atLine, lineStep, Run, going, refused, onOutcome, runStep, runEnd}
 use Rattle.judge.specs.Lines.{runOf, LinesJudged}
 use Rattle.judge.specs.JudgeLaws.{over-refused}
 use Rattle.judge.specs.Refusal.{LineNumber}
@@ -45,8 +45,8 @@ module _ (b : List ℕ) (from e : ℕ) (a : from ≤ length b) (q : e ≡ from +
       pub lines-next : (t : State) → o ≡ Next t → over runStep (going t (n + 1)) (cut (drop (e + 1) b) .lines) ≡ over runStep (going s n) (cut (drop from b) .lines)
       lines-next t u = sym (turn (Next t) u)
 
-      lines-stop : (f : Refusal) → o ≡ Refused f → refused (reply (f .number) (n + 1)) ≡ over runStep (going s n) (cut (drop from b) .lines)
-      lines-stop f u = sym (turn (Refused f) u ∙ over-refused (reply (f .number) (n + 1)) (cut (drop (e + 1) b) .lines))
+      lines-stop : (f : Refusal) → o ≡ Refused f → refused (atLine n f) ≡ over runStep (going s n) (cut (drop from b) .lines)
+      lines-stop f u = sym (turn (Refused f) u ∙ over-refused (atLine n f) (cut (drop (e + 1) b) .lines))
 
   cut-last : length b ≤ e → cut (drop from b) ≡ text [] (drop from b)
   cut-last h = cut-open (drop from b) (simp length-drop (omega arith))
@@ -54,7 +54,7 @@ module _ (b : List ℕ) (from e : ℕ) (a : from ≤ length b) (q : e ≡ from +
   module _ (s₀ : State) (n₀ at : ℕ) (w : at ≤ length b) (s : State) (n : ℕ) (few : n + at ≤ n₀ + from)
       (run : over runStep (going s n) (cut (drop from b) .lines) ≡ over runStep (going s₀ n₀) (cut (drop at b) .lines)) where
     pub judged-to-stop : e < length b → (o : Outcome) → o ≡ lineStep s (take (e - from) (drop from b)) → (f : Refusal) → o ≡ Refused f
-        → LinesJudged s₀ n₀ b at (record { state = s; lines = n; number = f .number; at = from })
+        → LinesJudged s₀ n₀ b at (record { state = s; lines = n; number = f .number; column = f .column; at = from })
     judged-to-stop h o p f u =
         let z : 0 < f .number = refusal-sure s (take (e - from) (drop from b)) f (sym p ∙ u) in
         record {
@@ -65,7 +65,7 @@ module _ (b : List ℕ) (from e : ℕ) (a : from ≤ length b) (q : e ≡ from +
           fewer = λ y. omega arith;
         }
 
-    pub judged-to-end : length b ≤ e → cut (drop from b) .rest ≡ cut (drop at b) .rest → LinesJudged s₀ n₀ b at (record { state = s; lines = n; number = 0; at = from })
+    pub judged-to-end : length b ≤ e → cut (drop from b) .rest ≡ cut (drop at b) .rest → LinesJudged s₀ n₀ b at (record { state = s; lines = n; number = 0; column = 0; at = from })
     unfolding over
     judged-to-end h rest =
         record {
@@ -78,10 +78,10 @@ module _ (b : List ℕ) (from e : ℕ) (a : from ≤ length b) (q : e ≡ from +
 
 -- the whole of the bytes, from their finished lines judged
 module _ (s : State) (n : ℕ) (b : List ℕ) (r : Lines) (j : LinesJudged s n b 0 r) where
-  pub whole-refused : 0 < r .number → reply (r .number) (r .lines + 1) ≡ judge runStep runEnd (going s n) b
+  pub whole-refused : 0 < r .number → replyAt (r .number) (r .lines + 1) (r .column) ≡ judge runStep runEnd (going s n) b
   unfolding judge
   whole-refused z =
-      let e : refused (reply (r .number) (r .lines + 1)) ≡ over runStep (going s n) (cut b .lines) = rw (ne-eqb (r .number) 0 (λ y. omega arith)) at (j .run) in
+      let e : refused (replyAt (r .number) (r .lines + 1) (r .column)) ≡ over runStep (going s n) (cut b .lines) = rw (ne-eqb (r .number) 0 (λ y. omega arith)) at (j .run) in
       ap (λ (x : Run). runEnd x (cut b .rest)) e
 
   pub whole-going : r .number ≤ 0 → runEnd (going (r .state) (r .lines)) (drop (r .at) b) ≡ judge runStep runEnd (going s n) b
@@ -106,14 +106,14 @@ linesOf (going s n) = n
 linesOf (refused r) = r .place
 
 module _ (s : State) (n : ℕ) (l : List ℕ) (q : length l ≤ lineLen l) (r : Lines) (j : LinesJudged s n (l ++ (10 ∷ [])) 0 r) where
-  pub one-run : runOf (r .state) (r .lines) (r .number) ≡ onOutcome n (lineStep s l)
+  pub one-run : runOf (r .state) (r .lines) (r .number) (r .column) ≡ onOutcome n (lineStep s l)
   unfolding over
   one-run = j .run ∙ rw (line-ended l q) refl
 
   pub one-more : r .lines ≤ n + 1
   one-more = go (eqb (r .number) 0) (lineStep s l) one-run
     where
-      go : (t : Bool) (o : Outcome) → pick t (going (r .state) (r .lines)) (refused (reply (r .number) (r .lines + 1))) ≡ onOutcome n o → r .lines ≤ n + 1
+      go : (t : Bool) (o : Outcome) → pick t (going (r .state) (r .lines)) (refused (replyAt (r .number) (r .lines + 1) (r .column))) ≡ onOutcome n o → r .lines ≤ n + 1
       go true (Next t) e = omega (arith, ap linesOf e)
       go true (Refused f) e = omega (arith, ap linesOf e)
       go false (Next t) e = omega (arith, ap linesOf e)
@@ -145,5 +145,5 @@ outcome-number s n l r h = rw (← h) at (outcome-numbered s n l)
 
 pub judged-number : (s : State) (n : ℕ) (b : List ℕ) (at : ℕ) (r : Lines) → LinesJudged s n b at r → 0 < r .number → LineNumber (r .number)
 judged-number s n b at r j z =
-    let e : refused (reply (r .number) (r .lines + 1)) ≡ over runStep (going s n) (cut (drop at b) .lines) = rw (ne-eqb (r .number) 0 (λ y. omega arith)) at (j .run) in
+    let e : refused (replyAt (r .number) (r .lines + 1) (r .column)) ≡ over runStep (going s n) (cut (drop at b) .lines) = rw (ne-eqb (r .number) 0 (λ y. omega arith)) at (j .run) in
     rw (← e) at (run-numbered (cut (drop at b) .lines) (going s n) tt)

@@ -2,6 +2,7 @@
 use mathlib.Core.Path.{_≡_, refl}
 use mathlib.Core.Bool.{Bool, true, false}
 use mathlib.Core.List.{List}
+use mathlib.Core.Logic.{inl, inr}
 use Prim.{tt}
 use Prim.Native.Nat.{ℕ, zero, suc, _+_, _≤_, _<_}
 use native.Mathlib.Omega.{arith}
@@ -68,21 +69,21 @@ module _ (P : Refusal → Type 0) where
         let cs : List ℕ = columns true l in
         rw e at (on-line s (lineFault true cs .number) (lineFault true cs .column) cs (own cs))
 
--- the numbers that a line's refusal can have: 2 to 15
+-- the numbers that a line's refusal can have: 2 to 15, 24 and 25
 own-number : (cs : List ℕ) → 0 < lineFault true cs .number → LineNumber (lineFault true cs .number)
 unfolding lineFault
 own-number cs h = by (ltb 0 (firstBad 1 cs)) (ltb 80 (length cs)) h
   where
     by : (bad long : Bool) → 0 < pick bad (refusal 2 (firstBad 1 cs)) (pick long (refusal 3 1) passed) .number
         → LineNumber (pick bad (refusal 2 (firstBad 1 cs)) (pick long (refusal 3 1) passed) .number)
-    by true long h = (omega arith, omega arith)
-    by false true h = (omega arith, omega arith)
+    by true long h = (omega arith, inl (omega arith))
+    by false true h = (omega arith, inl (omega arith))
     by false false h = absurd (omega arith)
 
 pub line-number : (s : State) (l : List ℕ) (f : Refusal) → lineStep s l ≡ Refused f → LineNumber (f .number)
 line-number =
-    refusal-is (λ (f : Refusal). LineNumber (f .number)) (λ n p q. (omega arith, q))
-    (row-number (λ (n : ℕ). 0 < n → LineNumber n) (λ h. absurd (omega arith)) (λ n p q h. (omega arith, omega arith))) own-number
+    refusal-is (λ (f : Refusal). LineNumber (f .number)) (λ n p q. (omega arith, inl q))
+    (row-number (λ (n : ℕ). 0 < n → LineNumber n) (λ h. absurd (omega arith)) (λ n p q h. (omega arith, inl (omega arith))) (λ n p q h. (omega arith, inr (p, q)))) own-number
 
 -- a refusal has a number
 pub refusal-sure : (s : State) (l : List ℕ) (f : Refusal) → lineStep s l ≡ Refused f → 0 < f .number

@@ -2,26 +2,49 @@
 ghost use mathlib.Core.Path.{_≡_};
 ghost use Prim.Native.Nat.{_+_, _-_, _≤_};
 ghost use lib.ListN.{length};
-ghost use Rattle.judge.specs.Judge.{judged, reply, lineStep, going, runEnd};
+ghost use Rattle.judge.specs.Judge.{judged, reply, replyAt, lineStep, going, runEnd};
 ghost use Rattle.judge.specs.Lines.{LinesJudged};
 use line::Refusal;
 use walk::Outcome;
 use walk::Place;
 use walk::State;
 
-// Document 01's number and place; for an accepted file 0 and the number of its lines. The column is 0.
+// Document 01's number and place; for an accepted file 0 and the number of its lines. The column, from 1, of a line's refusal; any other reply's is 0.
 pub struct Reply {
     pub number: u8,
     pub place: usize,
     pub column: usize,
 }
 
+// A number and a place, no column.
+pub fn bare_reply(number: u8, place: usize) -> Reply
+    ensures { λ r. ⌜ r ≡ reply number place ⌝ }
+{
+    Reply {
+        number,
+        place,
+        column: 0,
+    }
+}
+
+// A number, a place and a column.
+pub fn reply_at(number: u8, place: usize, column: usize) -> Reply
+    ensures { λ r. ⌜ r ≡ replyAt number place column ⌝ }
+{
+    Reply {
+        number,
+        place,
+        column,
+    }
+}
+
 // How far finished lines are judged: while `number` is 0, the state after `lines` of them and the byte where the rest begins; otherwise
-// line `lines` + 1 is refused with that number.
+// line `lines` + 1 is refused with that number, at that column.
 pub struct Lines {
     pub state: State,
     pub lines: usize,
     pub number: u8,
+    pub column: usize,
     pub at: usize,
 }
 
@@ -59,6 +82,7 @@ pub fn judge_lines(state: State, lines: usize, bytes: &[u8], at: usize) -> Lines
                     state: s,
                     lines: n,
                     number: fault.number,
+                    column: fault.column,
                     at: from,
                 };
             }
@@ -71,20 +95,17 @@ pub fn judge_lines(state: State, lines: usize, bytes: &[u8], at: usize) -> Lines
         state: s,
         lines: n,
         number: 0,
+        column: 0,
         at: from,
     }
 }
 
-// A file that ends inside a set: 7, past its lines.
+// A file that ends inside a set: 7, past its lines, in column 1.
 fn ends_inside(lines: usize) -> Reply
     requires { ⌜ lines ≤ 16777216 ⌝ }
-    ensures { λ r. ⌜ r ≡ reply 7 (lines + 1) ⌝ }
+    ensures { λ r. ⌜ r ≡ replyAt 7 (lines + 1) 1 ⌝ }
 {
-    Reply {
-        number: 7,
-        place: lines + 1,
-        column: 0,
-    }
+    reply_at(7, lines + 1, 1)
 }
 
 // The reply at the end of a file that was not refused before, with the bytes after its last LF.
@@ -94,27 +115,15 @@ pub fn finish(s: State, lines: usize, rest: &[u8]) -> Reply
 {
     if 0 < rest.len() {
         let fault = line::line_fault(rest, false);
-        return Reply {
-            number: fault.number,
-            place: lines + 1,
-            column: 0,
-        };
+        return reply_at(fault.number, lines + 1, fault.column);
     }
     let place = s.place;
     match place {
         Place::Outside => {
             if s.sets == 0 {
-                return Reply {
-                    number: 16,
-                    place: 0,
-                    column: 0,
-                };
+                return bare_reply(16, 0);
             }
-            Reply {
-                number: 0,
-                place: lines,
-                column: 0,
-            }
+            bare_reply(0, lines)
         }
         Place::Number => ends_inside(lines),
         Place::Plain => ends_inside(lines),
@@ -127,11 +136,7 @@ pub fn judge(file: &[u8]) -> Reply
     ensures { λ r. ⌜ r ≡ judged (now (file .entry)) ⌝ }
 {
     if 16777216 < file.len() {
-        return Reply {
-            number: 1,
-            place: 0,
-            column: 0,
-        };
+        return bare_reply(1, 0);
     }
     let start = State {
         place: Place::Outside,
@@ -139,11 +144,7 @@ pub fn judge(file: &[u8]) -> Reply
     };
     let read = judge_lines(start, 0, file, 0);
     if 0 < read.number {
-        return Reply {
-            number: read.number,
-            place: read.lines + 1,
-            column: 0,
-        };
+        return reply_at(read.number, read.lines + 1, read.column);
     }
     let at = read.at;
     finish(read.state, read.lines, &file[at..])

@@ -5,3 +5,5 @@ pub mod Short
 pub mod ShortLaws
 pub mod NoDelimiter
 pub mod NoDelimiterLaws
+pub mod Fault
+pub mod FaultLaws

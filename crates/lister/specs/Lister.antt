@@ -3,7 +3,7 @@
 -- Later places keep their contents. It answers the number of sets.").
 use mathlib.Core.List.{List, [], _∷_, _++_}
 use Prim.Native.Nat.{ℕ, suc, _*_, _≤_, _<_}
-use lib.Dec.{ltb}
+use lib.Dec.{ltb, eqb}
 use lib.ListN.{length, drop}
 use Rattle.laws.specs.Choice.{pick}
 use Rattle.judge.specs.declared.Reply.{Reply}
@@ -26,11 +26,10 @@ listReply file places =
     pick (ltb 0 (judged file .number)) (judged file)
     (pick (ltb places (6 * length (partsOf file))) (reply 17 0) (reply 0 (length (partsOf file))))
 
--- the rows afterwards; as they were where it is refused
+-- the rows afterwards: as they were where the reply is a refusal, otherwise those of the sets; "Later places keep their contents"
 unfoldable pub listRows : List ℕ → List ℕ → List ℕ
 listRows file rows =
-    pick (ltb 0 (judged file .number)) rows
-    (pick (ltb (length rows) (6 * length (partsOf file))) rows (rowsOf (partsOf file) ++ drop (6 * length (partsOf file)) rows))
+    pick (eqb (listReply file (length rows) .number) 0) (rowsOf (partsOf file) ++ drop (6 * length (partsOf file)) rows) rows
 
 -- the places of a set are in the file
 pub record Places (file : List ℕ) (e : Extent) : Type 0 where

@@ -11,7 +11,7 @@ use lib.Seq.{take-at, drop-at, drop-drop, length-take-le}
 use borrow.Rule.Slice.PartMut.{putMid}
 use Rattle.laws.specs.Cut.{cut}
 use Rattle.record_table.specs.TypedSets.{headerLines, lineSeven}
-use borrow.Author.Tests.{lt-ltb, le-ltb}
+use borrow.Author.Tests.{lt-ltb, le-ltb, ne-eqb}
 use Rattle.judge.specs.declared.Reply.{Reply}
 use Rattle.judge.specs.Judge.{judged, reply}
 use Rattle.parts.specs.declared.Extent.{Extent}
@@ -154,7 +154,10 @@ Listed file before r after = (r ≡ listReply file (length before)) × (after �
 module _ (file before : List ℕ) (r : Reply) (j : r ≡ judged file) where
   pub list-refused : 0 < r .number → Listed file before r before
   unfolding listReply listRows
-  list-refused h = let l : 0 < judged file .number = rw j at h in (rw (lt-ltb 0 (judged file .number) l) j, rw (lt-ltb 0 (judged file .number) l) refl)
+  list-refused h =
+      let l : 0 < judged file .number = rw j at h in
+      let refused = lt-ltb 0 (judged file .number) l in
+      (rw refused j, rw (refused, ne-eqb (judged file .number) 0 (λ z. omega arith)) refl)
 
   module _ (a : r .number ≤ 0) (k : ℕ) (q : k ≡ length (partsOf file)) where
     accepted : judged file .number ≤ 0

@@ -92,16 +92,8 @@ pub fn list(file: &[u8], rows: &mut [u32]) -> Reply
     }
     let sets = count_sets(file);
     if rows.len() < 6 * sets {
-        return Reply {
-            number: 17,
-            place: 0,
-            column: 0,
-        };
+        return judge::bare_reply(17, 0);
     }
     put_rows(file, rows);
-    Reply {
-        number: 0,
-        place: sets,
-        column: 0,
-    }
+    judge::bare_reply(0, sets)
 }

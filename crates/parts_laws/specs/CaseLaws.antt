@@ -42,31 +42,31 @@ record Keeps (r : Rule) (i : Item) : Type 0 where
   item : i ≡ Item.integer value
   kept : keeps r value ≡ true
 
-integer-stands : (line : List ℕ) (r : Rule) (f : Form) (i : Item) (own : List ℕ) → Stands line f i own → f ≡ integer r never → Keeps r i
-integer-stands line r f i own (a-text t) e = absurd (omega (arith, ap due e))
-integer-stands line r f i own (a-identification t n) e = absurd (omega (arith, ap due e))
-integer-stands line r f i own (an-integer {r = u} {o = o} {n = n} {v = v} s h k) e =
+integer-stands : (r : Rule) (f : Form) (i : Item) (own : List ℕ) → Stands f i own → f ≡ integer r never → Keeps r i
+integer-stands r f i own (a-text t) e = absurd (omega (arith, ap due e))
+integer-stands r f i own (a-identification t n) e = absurd (omega (arith, ap due e))
+integer-stands r f i own (an-integer {r = u} {o = o} {n = n} {v = v} s h k) e =
     let q : u ≡ r = cc in
     record { value = signed n v; item = refl; kept = subst (λ (x : Rule). keeps x (signed n v) ≡ true) q k }
-integer-stands line r f i own (a-blank b o) e = absurd (omega (arith, ap due e))
-integer-stands line r f i own (a-real s) e = absurd (omega (arith, ap due e))
+integer-stands r f i own (a-blank b) e = absurd (omega (arith, ap due e))
+integer-stands r f i own (a-real s) e = absurd (omega (arith, ap due e))
 
 -- the first item, and the others in the columns after it
-record First (line : List ℕ) (r : Rule) (fs : List Field) (is : List Item) : Type 0 where
+record First (r : Rule) (fs : List Field) (is : List Item) : Type 0 where
   first : Item
   others : List Item
   cols : List ℕ
   items : is ≡ first ∷ others
   keeps-rule : Keeps r first
-  after : FieldsIn line fs others cols
+  after : FieldsIn fs others cols
 
-first-item : (line : List ℕ) {gs : List Field} {is : List Item} {cols : List ℕ} (r : Rule) (w : ℕ) (fs : List Field) → FieldsIn line gs is cols
-    → gs ≡ I w r ∷ fs → First line r fs is
-first-item line r w fs (rest b) e = let z : 0 ≡ suc (length fs) = ap length e in absurd (omega arith)
-first-item line r w fs (skipped {w = v} {fs = hs} bl cols l b x) e =
+first-item : {gs : List Field} {is : List Item} {cols : List ℕ} (r : Rule) (w : ℕ) (fs : List Field) → FieldsIn gs is cols
+    → gs ≡ I w r ∷ fs → First r fs is
+first-item r w fs (rest b) e = let z : 0 ≡ suc (length fs) = ap length e in absurd (omega arith)
+first-item r w fs (skipped {w = v} {fs = hs} bl cols l b x) e =
     let q : X v ≡ I w r = cc in
     absurd (omega (arith, ap (λ (f : Field). due (f .form)) q))
-first-item line r w fs (stands {form = f} {w = v} {fs = hs} {i = i} {is = is} own cols l s x) e =
+first-item r w fs (stands {form = f} {w = v} {fs = hs} {i = i} {is = is} own cols l s x) e =
     let q : _≡_ {A = Field} (record { form = f; width = v }) (I w r) = cc in
     let t : hs ≡ fs = cc in
     record {
@@ -74,8 +74,8 @@ first-item line r w fs (stands {form = f} {w = v} {fs = hs} {i = i} {is = is} ow
       others = is;
       cols = cols;
       items = refl;
-      keeps-rule = integer-stands line r f i own s (ap (λ (y : Field). y .form) q);
-      after = subst (λ (y : List Field). FieldsIn line y is cols) t x;
+      keeps-rule = integer-stands r f i own s (ap (λ (y : Field). y .form) q);
+      after = subst (λ (y : List Field). FieldsIn y is cols) t x;
     }
 
 -- an ordinate type and a spacing of those listed name a case
@@ -110,9 +110,9 @@ items-case (negsuc t) b p q = false-not-true p
 pub record-case : (is : List Item) (line : List ℕ) → Written (recordOf dataForm) is line → caseBy is < 8
 unfolding recordOf records caseBy naturalAt
 record-case is line w =
-    let x = first-item line ordinateType 10 _ (w .in-columns) refl in
-    let y = first-item line count 10 _ (x .after) refl in
-    let z = first-item line spacing 10 _ (y .after) refl in
+    let x = first-item ordinateType 10 _ (w .in-columns) refl in
+    let y = first-item count 10 _ (x .after) refl in
+    let z = first-item spacing 10 _ (y .after) refl in
     rw (x .items, y .items, z .items, x .keeps-rule .item, z .keeps-rule .item) (items-case (x .keeps-rule .value) (z .keeps-rule .value) (x .keeps-rule .kept) (z .keeps-rule .kept))
 
 pub case-eight : {s : Set} {css : List (List ℕ)} → SetLines s css → s .number ≡ 58 → setCase s < 8
@@ -129,8 +129,8 @@ item-counted (negsuc v) k = false-not-true k
 pub record-counted : (is : List Item) (line : List ℕ) → Written (recordOf dataForm) is line → (1 ≤ countBy is) × (countBy is ≤ 65536)
 unfolding recordOf records countBy naturalAt
 record-counted is line w =
-    let x = first-item line ordinateType 10 _ (w .in-columns) refl in
-    let y = first-item line count 10 _ (x .after) refl in
+    let x = first-item ordinateType 10 _ (w .in-columns) refl in
+    let y = first-item count 10 _ (x .after) refl in
     rw (x .items, y .items, y .keeps-rule .item) (item-counted (y .keeps-rule .value) (y .keeps-rule .kept))
 
 declared-counted : {s : Set} {css : List (List ℕ)} → SetLines s css → s .number ≡ 58 → (1 ≤ declared s) × (declared s ≤ 65536)

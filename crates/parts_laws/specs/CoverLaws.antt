@@ -1,27 +1,22 @@
 -- Every byte of a data line that is no blank lies in the columns of a stored number.
-use mathlib.Core.Path.{_≡_, refl, sym, ap, _∙_}
+use mathlib.Core.Path.{_≡_, refl, ap, _∙_}
 use mathlib.Core.Logic.{⊎-elim}
-use mathlib.Core.List.{List, [], _∷_, _++_, map}
-use Prim.Native.Nat.{ℕ, zero, suc, _+_, _-_, _<_, _≤_}
+use mathlib.Core.List.{List, [], _∷_, map}
+use Prim.Native.Nat.{ℕ, suc, _-_, _<_, _≤_}
 use native.Mathlib.Omega.{arith}
 use lib.ListN.{length, getD, take, length-take}
-use lib.Seq.{getD-take, getD-append-add}
+use lib.Seq.{getD-take}
 use Rattle.laws.specs.ChoiceLaws.{below-or-not}
-use Rattle.text.specs.Blank.{Blanks, none, one}
 use Rattle.layout.specs.Columns.{fieldStart, fieldPast}
 use Rattle.layout.specs.Layout.{layoutOf}
 use Rattle.field.specs.Item.{Item}
 use Rattle.record_table.specs.Row.{Field, firstFields}
 use Rattle.record_table.specs.Records.{E, dataRow}
 use Rattle.record.specs.Written.{FieldsIn, rest, skipped, stands, Written}
+use Rattle.record_laws.specs.GroupLaws.{blanks-at, getD-later}
 use Rattle.parts_laws.specs.FieldLaws.{not-real}
 use Rattle.parts_laws.specs.StoredLaws.{map-take, fieldStart-take}
 use Rattle.parts_laws.specs.Cover.{Covers}
-
-blanks-at : {l : List ℕ} (a : ℕ) → Blanks l → getD l a 32 ≡ 32
-blanks-at a none = refl
-blanks-at zero (one b) = refl
-blanks-at (suc a) (one b) = blanks-at a b
 
 covers-later : (w : ℕ) (ws : List ℕ) (a : ℕ) → w ≤ a → Covers ws (a - w) → Covers (w ∷ ws) a
 unfolding fieldStart fieldPast
@@ -31,20 +26,17 @@ covers-first : (w : ℕ) (ws : List ℕ) (a : ℕ) → a < w → Covers (w ∷ w
 unfolding fieldStart fieldPast
 covers-first w ws a h = record { field = 0; some = omega arith; from = omega arith; past = omega arith }
 
-getD-later : (own cols : List ℕ) (w a : ℕ) → length own ≡ w → w ≤ a → getD (own ++ cols) a 32 ≡ getD cols (a - w) 32
-getD-later own cols w a l h = let z : length own + (a - w) ≡ a = omega arith in ap (λ (x : ℕ). getD (own ++ cols) x 32) (sym z) ∙ getD-append-add own cols (a - w) 32
-
-covered : (line : List ℕ) {fs : List Field} {is : List Item} {cols : List ℕ} (ws : List ℕ) → FieldsIn line fs is cols → fs ≡ map E ws → (a : ℕ) → (getD cols a 32 ≡ 32 → ⊥) → Covers ws a
-covered line ws (rest b) e a n = absurd (n (blanks-at a b))
-covered line [] (skipped {fs = fs} bl cols l b r) e a n = let z : suc (length fs) ≡ 0 = ap length e in absurd (omega arith)
-covered line (w ∷ ws) (skipped {fs = fs} bl cols l b r) e a n = not-real _ fs (map E ws) w e refl
-covered line [] (stands {fs = fs} own cols l s r) e a n = let z : suc (length fs) ≡ 0 = ap length e in absurd (omega arith)
-covered line (w ∷ ws) (stands {form = form} {w = v} {fs = fs} own cols l s r) e a n =
+covered : {fs : List Field} {is : List Item} {cols : List ℕ} (ws : List ℕ) → FieldsIn fs is cols → fs ≡ map E ws → (a : ℕ) → (getD cols a 32 ≡ 32 → ⊥) → Covers ws a
+covered ws (rest b) e a n = absurd (n (blanks-at a b))
+covered [] (skipped {fs = fs} bl cols l b r) e a n = let z : suc (length fs) ≡ 0 = ap length e in absurd (omega arith)
+covered (w ∷ ws) (skipped {fs = fs} bl cols l b r) e a n = not-real _ fs (map E ws) w e refl
+covered [] (stands {fs = fs} own cols l s r) e a n = let z : suc (length fs) ≡ 0 = ap length e in absurd (omega arith)
+covered (w ∷ ws) (stands {form = form} {w = v} {fs = fs} own cols l s r) e a n =
     let q : record { form = form; width = v } ≡ E w = cc in
     let y : v ≡ w = ap (λ (x : Field). x .width) q in
     let t : fs ≡ map E ws = cc in
     ⊎-elim (covers-first w ws a)
-    (λ (h : w ≤ a). covers-later w ws a h (covered line ws r t (a - w) (λ z. n (getD-later own cols w a (l ∙ y) h ∙ z))))
+    (λ (h : w ≤ a). covers-later w ws a h (covered ws r t (a - w) (λ z. n (getD-later own cols w a (l ∙ y) h ∙ z))))
     (below-or-not a w)
 
 -- of the first m fields of a data line
@@ -53,7 +45,7 @@ pub data-covered : (line : List ℕ) (c m : ℕ) (is : List Item) → Written (f
 unfolding dataRow fieldPast
 data-covered line c m is w a n =
     let ws : List ℕ = layoutOf c .widths in
-    let k : Covers (take m (layoutOf c .widths)) a = covered line (take m (layoutOf c .widths)) (w .in-columns) (map-take m (layoutOf c .widths)) a n in
+    let k : Covers (take m (layoutOf c .widths)) a = covered (take m (layoutOf c .widths)) (w .in-columns) (map-take m (layoutOf c .widths)) a n in
     let b : k .field < m = omega (arith, k .some, length-take m (layoutOf c .widths)) in
     let d : k .field < length (layoutOf c .widths) = omega (arith, k .some, length-take m (layoutOf c .widths)) in
     let s : fieldStart (take m (layoutOf c .widths)) (k .field) ≡ fieldStart (layoutOf c .widths) (k .field) = fieldStart-take m (k .field) (layoutOf c .widths) (omega arith) in

@@ -18,6 +18,7 @@ use Rattle.record_table.specs.TypedSets.{kindOf, isTyped, sequence, typedSets, 
 use Rattle.record_table.specs.Records.{plain, recordOf, dataForm}
 use Rattle.record.specs.Check.{itemsOf}
 use Rattle.record.specs.Written.{Written}
+use Rattle.record_laws.specs.RowGroupLaws.{recordOf-grouped}
 use Rattle.record_laws.specs.LineReadingLaws.{written-complete}
 use Rattle.theory.specs.Sets.{Set}
 use Rattle.theory.specs.Due.{setRows}
@@ -62,7 +63,7 @@ typed-58 = refl
 seventh-items : {s : Set} {css : List (List ℕ)} → SetLines s css → s .number ≡ 58 → itemsOf (recordOf dataForm .fields) 0 (filled (getD css lineSeven [])) ≡ getD (s .lines) lineSeven []
 seventh-items (SetLines.typed {n} {iss} {css} t l) e =
     let w : Written (recordOf dataForm) (getD iss lineSeven []) (filled (getD css lineSeven [])) = seventh iss css (rw e at l) in
-    written-complete (filled (getD css lineSeven [])) (filled-length (getD css lineSeven [])) (recordOf dataForm) (getD iss lineSeven []) w .1
+    written-complete (filled (getD css lineSeven [])) (filled-length (getD css lineSeven [])) (recordOf dataForm) (getD iss lineSeven []) (recordOf-grouped dataForm) w .1
 seventh-items (SetLines.plain {n} t l) e = false-not-true (sym (rw e at t) ∙ typed-58)
 
 module _ {s : Set} {p : Part} (h : Holds s p) (e : s .number ≡ 58) where

@@ -27,27 +27,27 @@ not-real f fs gs w e o =
     let z : other (f .form) ≡ 0 = ap (λ (x : Field). other (x .form)) q in
     absurd (omega arith)
 
-stands-real : (line : List ℕ) (f : Form) (i : Item) (cols : List ℕ) → Stands line f i cols → other f ≡ 0 → Spelled i cols
-stands-real line f i cols (a-text t) z = absurd (omega arith)
-stands-real line f i cols (a-identification t n) z = absurd (omega arith)
-stands-real line f i cols (an-integer s l k) z = absurd (omega arith)
-stands-real line f i cols (a-blank b o) z = absurd (omega arith)
-stands-real line f i cols (a-real {n} {c} {s} r) z = record { minus = n; coefficient = c; scale = s; item = refl; spelling = r }
+stands-real : (f : Form) (i : Item) (cols : List ℕ) → Stands f i cols → other f ≡ 0 → Spelled i cols
+stands-real f i cols (a-text t) z = absurd (omega arith)
+stands-real f i cols (a-identification t n) z = absurd (omega arith)
+stands-real f i cols (an-integer s l k) z = absurd (omega arith)
+stands-real f i cols (a-blank b) z = absurd (omega arith)
+stands-real f i cols (a-real {n} {c} {s} r) z = record { minus = n; coefficient = c; scale = s; item = refl; spelling = r }
 
 -- field k of reals of these widths
-pub field-at : (line : List ℕ) {fs : List Field} {is : List Item} {cols : List ℕ} (ws : List ℕ) (k : ℕ) → FieldsIn line fs is cols → fs ≡ map E ws → k < length ws
+pub field-at : {fs : List Field} {is : List Item} {cols : List ℕ} (ws : List ℕ) (k : ℕ) → FieldsIn fs is cols → fs ≡ map E ws → k < length ws
     → Spelled (getD is k Item.blank) (take (getD ws k 0) (drop (fieldStart ws k) cols))
 unfolding fieldStart
-field-at line [] k f e h = absurd (omega arith)
-field-at line (w ∷ ws) k (rest b) e h = let z : 0 ≡ suc (length (map E ws)) = ap length e in absurd (omega arith)
-field-at line (w ∷ ws) k (skipped {fs = fs} bl cols l b r) e h = not-real _ fs (map E ws) w e refl
-field-at line (w ∷ ws) zero (stands {form = form} {w = v} {fs = fs} {i = i} own cols l s r) e h =
+field-at [] k f e h = absurd (omega arith)
+field-at (w ∷ ws) k (rest b) e h = let z : 0 ≡ suc (length (map E ws)) = ap length e in absurd (omega arith)
+field-at (w ∷ ws) k (skipped {fs = fs} bl cols l b r) e h = not-real _ fs (map E ws) w e refl
+field-at (w ∷ ws) zero (stands {form = form} {w = v} {fs = fs} {i = i} own cols l s r) e h =
     let q : record { form = form; width = v } ≡ E w = cc in
     let z : other form ≡ 0 = ap (λ (x : Field). other (x .form)) q in
     let y : v ≡ w = ap (λ (x : Field). x .width) q in
-    rw (take-at own cols w (l ∙ y)) (stands-real line form i own s z)
-field-at line (w ∷ ws) (suc k) (stands {form = form} {w = v} {fs = fs} {i = i} {is = is} own cols l s r) e h =
+    rw (take-at own cols w (l ∙ y)) (stands-real form i own s z)
+field-at (w ∷ ws) (suc k) (stands {form = form} {w = v} {fs = fs} {i = i} {is = is} own cols l s r) e h =
     let t : fs ≡ map E ws = cc in
     let q : record { form = form; width = v } ≡ E w = cc in
     let y : v ≡ w = ap (λ (x : Field). x .width) q in
-    rw (← (drop-drop (fieldStart ws k) w (own ++ cols)), drop-at own cols w (l ∙ y)) (field-at line ws k r t (omega arith))
+    rw (← (drop-drop (fieldStart ws k) w (own ++ cols)), drop-at own cols w (l ∙ y)) (field-at ws k r t (omega arith))

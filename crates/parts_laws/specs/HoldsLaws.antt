@@ -18,7 +18,8 @@ use Rattle.line_laws.specs.Short.{Short}
 use Rattle.line_laws.specs.ShortLaws.{short-left, short-right}
 use Rattle.parts.specs.Parts.{closes, bytesIn, Part, part, outside, inside, partsFrom, pastOf, throughOf}
 use Rattle.parts.specs.PartsLaws.{bytesIn-append}
-use Rattle.parts_laws.specs.Holds.{columnsOf, AtPlaces, Open, none, more}
+use Rattle.parts_laws.specs.Text.{linesOf}
+use Rattle.parts_laws.specs.Holds.{columnsOf, Holds, AtPlaces, Open, none, more}
 
 line-open : (l : List ℕ) → Inside (columns true l) → closes l ≡ false
 unfolding closes
@@ -137,6 +138,13 @@ first-part n at bs o v own c ls p x y z w e =
     ≡ (at + bytesIn bs) + (suc (length o) + (suc (length v) + bytesIn (own ++ (c ∷ [])))) = rw (bytesIn-append own (c ∷ [])) (omega arith) in
     skip-open n at bs (o ∷ v ∷ (own ++ (c ∷ ls))) x
     ∙ rw (y, e) (close-open (n + length bs) (at + bytesIn bs) o v [] (suc (suc (n + length bs))) (((at + bytesIn bs) + suc (length o)) + suc (length v)) own c ls z w ∙ rw (a, b) refl)
+
+-- the lines of a set are one part
+pub held-part : {s : Set} {p : Part} → Holds s p → partsFrom outside 0 0 (linesOf p) ≡ part 0 0 (p .opening) (p .number) (p .body) (p .closing) ∷ []
+unfolding partsFrom bytesIn
+held-part {p = p} h =
+    first-part 0 0 [] (p .opening) (p .number) (p .body) (p .closing) [] (part 0 0 (p .opening) (p .number) (p .body) (p .closing))
+    none (line-closes (p .opening) (h .opening)) (inside-open (p .body) (set-none (h .lines))) (line-closes (p .closing) (h .closing)) refl
 
 -- only blank lines: no part
 no-part : (n at : ℕ) (ls : List (List ℕ)) → Open ls → partsFrom outside n at ls ≡ []

@@ -91,7 +91,7 @@ unfolding dataRow fieldsOf
 data-field line c m k is w h l =
     let ws : List ℕ = layoutOf c .widths in
     let b : k < length (take m ws) = omega (arith, length-take m ws) in
-    rw (getD-take m ws k 0 h, fieldStart-take m k ws (omega arith)) at (field-at line (take m ws) k (w .in-columns) (map-take m ws) b)
+    rw (getD-take m ws k 0 h, fieldStart-take m k ws (omega arith)) at (field-at (take m ws) k (w .in-columns) (map-take m ws) b)
 
 -- the lists of a 58
 lists-58 : (s : Set) → s .number ≡ 58 → listsOf kind58 (s .lines) ≡ rowsHolding (dataRow (setCase s)) (storedCount s)

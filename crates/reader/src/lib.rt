@@ -156,11 +156,7 @@ pub fn read_in(file: &[u8], first: usize, past: usize) -> Real
 fn no_number() -> NumberAnswer
     ensures { λ r. ⌜ paperNumber r ≡ refused 18 0 ⌝ }
 {
-    NumberAnswer::Refused(Reply {
-        number: 18,
-        place: 0,
-        column: 0,
-    })
+    NumberAnswer::Refused(judge::bare_reply(18, 0))
 }
 
 // A stored number of an accepted file.
@@ -228,11 +224,7 @@ fn read_at(file: &[u8], d: Data, j: usize) -> Read
 fn refuse(number: u8) -> ValueAnswer
     ensures { λ r. ⌜ paper r ≡ refused number 0 ⌝ }
 {
-    ValueAnswer::Refused(Reply {
-        number,
-        place: 0,
-        column: 0,
-    })
+    ValueAnswer::Refused(judge::bare_reply(number, 0))
 }
 
 // A value of one number.

@@ -26,7 +26,7 @@ use Rattle.real.specs.declared.Real.the-variants as R
 use Rattle.codes.specs.Rule.{Rule, keeps}
 use Rattle.codes.specs.Form.{Form, Optional, skip, identification, real, integer, never, within}
 use Rattle.field.specs.Item.{Item}
-use Rattle.field.specs.Field.{columnsOf, blankIn, mayBlank, integerNumber, realNumber, fieldNumber, integerItem, realItem, withItem}
+use Rattle.field.specs.Field.{blankIn, mayBlank, integerNumber, realNumber, fieldNumber, integerItem, realItem, withItem}
 use Rattle.record.specs.Check.{firstNonBlank, strayIn}
 use Rattle.record.specs.Written.{Stands, a-text, a-identification, an-integer, a-blank, a-real}
 
@@ -68,6 +68,26 @@ title-complete may {t} {cols} s n = by (allBlank cols) refl
 integerOf-within : {n : Bool} {v : ℕ} {cols : List ℕ} → IntegerSpelling n v cols → v ≤ limit n → integerOf cols ≡ Value n v
 integerOf-within {n} {v} s h = rw (le-leb v (limit n) h) at (integerOf-complete s)
 
+-- What is read in the columns of a field that passes stands there.
+
+pub identification-sound : (may : Bool) (cols : List ℕ) → fieldNumber identification may cols ≡ 0 → Stands identification (Item.text (trimmed cols)) cols
+unfolding fieldNumber
+identification-sound may cols h = a-identification (trimmed-sound cols) some
+  where
+    some : trimmed cols ≡ [] → ⊥
+    some e =
+        let z : _≡_ {A = ℕ} 9 0 = rw (allBlank-complete (text-blanks (rw e at (trimmed-sound cols)))) at h in
+        omega arith
+
+pub real-sound : (may : Bool) (cols : List ℕ) → fieldNumber real may cols ≡ 0 → Stands real (realItem (realOf cols)) cols
+unfolding fieldNumber
+real-sound may cols h = of (realOf cols) refl h
+  where
+    of : (i : Real) → realOf cols ≡ i → realNumber i ≡ 0 → Stands real (realItem i) cols
+    of R.Blank e n = absurd (omega arith)
+    of R.Malformed e n = absurd (omega arith)
+    of (R.Value v) e n = a-real (realOf-sound cols v e .0)
+
 module _ (line : List ℕ) where
   -- a field's columns pass, none of their bytes is stray, and they put the field's item, if it has one, before the others
   pub record Reads (f : Form) (cols : List ℕ) (is js : List Item) : Type 0 where
@@ -80,46 +100,28 @@ module _ (line : List ℕ) where
   unfolding fieldNumber
   skip-complete is b = record { number = refl; clear = λ k. firstByte-complete k b; items = refl }
 
-  -- an item that stands in a field's columns is read there
-  pub stands-complete : {f : Form} {i : Item} {cols : List ℕ} (is : List Item) → Stands line f i cols → Reads f cols is (i ∷ is)
+  -- an item that stands in a field's columns is read there, a blank one where it may be left blank on this line
+  pub stands-complete : {f : Form} {i : Item} {cols : List ℕ} (is : List Item) → Stands f i cols → (i ≡ Item.blank → mayBlank f line ≡ true)
+      → Reads f cols is (i ∷ is)
   unfolding fieldNumber mayBlank
-  stands-complete is (a-text s) = record { number = refl; clear = λ k. refl; items = rw (trimmed-complete s) refl }
-  stands-complete is (a-identification s n) = record { number = title-complete false s n; clear = λ k. refl; items = rw (trimmed-complete s) refl }
-  stands-complete is (an-integer s h e) =
+  stands-complete is (a-text s) m = record { number = refl; clear = λ k. refl; items = rw (trimmed-complete s) refl }
+  stands-complete is (a-identification s n) m = record { number = title-complete false s n; clear = λ k. refl; items = rw (trimmed-complete s) refl }
+  stands-complete is (an-integer s h e) m =
       record { number = rw (integerOf-within s h, e) refl; clear = λ k. refl; items = rw (integerOf-within s h) refl }
-  stands-complete is (a-blank b o) =
-      record { number = rw (integerOf-blank b, allBlank-complete o) refl; clear = λ k. refl; items = rw (integerOf-blank b) refl }
-  stands-complete is (a-real {s = s} r) =
+  stands-complete is (a-blank b) m =
+      record { number = rw (integerOf-blank b, m refl) refl; clear = λ k. refl; items = rw (integerOf-blank b) refl }
+  stands-complete is (a-real {s = s} r) m =
       record { number = rw (realOf-complete r) refl; clear = λ k. refl; items = rw (realOf-complete r, signed-size s) refl }
 
-  -- what is read in the columns of a field that passes stands there: a identification, a real, an integer
-  pub identification-sound : (cols : List ℕ) → fieldNumber identification (mayBlank identification line) cols ≡ 0 → Stands line identification (Item.text (trimmed cols)) cols
-  unfolding fieldNumber
-  identification-sound cols h = a-identification (trimmed-sound cols) some
-    where
-      some : trimmed cols ≡ [] → ⊥
-      some e =
-          let z : _≡_ {A = ℕ} 9 0 = rw (allBlank-complete (text-blanks (rw e at (trimmed-sound cols)))) at h in
-          omega arith
-
-  pub real-sound : (cols : List ℕ) → fieldNumber real (mayBlank real line) cols ≡ 0 → Stands line real (realItem (realOf cols)) cols
-  unfolding fieldNumber
-  real-sound cols h = of (realOf cols) refl h
-    where
-      of : (i : Real) → realOf cols ≡ i → realNumber i ≡ 0 → Stands line real (realItem i) cols
-      of R.Blank e n = absurd (omega arith)
-      of R.Malformed e n = absurd (omega arith)
-      of (R.Value v) e n = a-real (realOf-sound cols v e .0)
-
+  -- an integer that is read in the columns of a field that passes stands there
   pub integer-sound : (r : Rule) (o : Optional) (cols : List ℕ) → fieldNumber (integer r o) (mayBlank (integer r o) line) cols ≡ 0
-      → Stands line (integer r o) (integerItem (integerOf cols)) cols
+      → Stands (integer r o) (integerItem (integerOf cols)) cols
   unfolding fieldNumber mayBlank
   integer-sound r o cols h = of o (integerOf cols) refl h
     where
-      of : (o : Optional) (i : Integer) → integerOf cols ≡ i → integerNumber r (blankIn o line) i ≡ 0 → Stands line (integer r o) (integerItem i) cols
+      of : (o : Optional) (i : Integer) → integerOf cols ≡ i → integerNumber r (blankIn o line) i ≡ 0 → Stands (integer r o) (integerItem i) cols
       of never Blank e n = absurd (omega arith)
-      of (within a b) Blank e n =
-          a-blank (integerOf-blanks cols e) (allBlank-sound (columnsOf a b line) (pick-passed (allBlank (columnsOf a b line)) 9 n))
+      of (within a b) Blank e n = a-blank (integerOf-blanks cols e)
       of o Malformed e n = absurd (omega arith)
       of o OutOfRange e n = absurd (omega arith)
       of o (Value n v) e p =

@@ -1,3 +1,11 @@
 pub mod FieldReadingLaws
+pub mod Group
+pub mod GroupLaws
 pub mod KeptReadingLaws
 pub mod LineReadingLaws
+pub mod RowGroupLaws
+pub mod Fault
+pub mod FieldFaultLaws
+pub mod StrayLaws
+pub mod BreaksLaws
+pub mod FaultLaws

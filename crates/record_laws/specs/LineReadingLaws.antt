@@ -1,29 +1,29 @@
 -- A line: a row takes it exactly when it is a writing of items by the row, and those are the items that are read in it.
 use mathlib.Core.Path.{_≡_, refl, sym, _∙_}
+use mathlib.Core.Bool.{true}
 use mathlib.Core.List.{List, [], _∷_, _++_, map}
 use Prim.Native.Nat.{ℕ, zero, suc, _+_, _≤_}
 use native.Mathlib.Omega.{arith}
 use lib.ListN.{length, take, drop, length-drop, take-append-drop}
 use lib.Seq.{length-take-le, drop-drop, take-at, drop-at}
+use Rattle.laws.specs.ChoiceLaws.{and-left, and-right}
 use Rattle.laws.specs.CutLaws.{tail-part}
 use Rattle.text.specs.TextLaws.{trimmed-sound}
 use Rattle.line.specs.Line.{passed}
-use Rattle.line.specs.declared.Refusal.{Refusal}
 use Rattle.codes.specs.Form.{Form, skip, text, identification, real, integer}
 use Rattle.layout.specs.Columns.{total}
 use Rattle.field.specs.Item.{Item}
 use Rattle.field.specs.Field.{columnsOf, mayBlank, fieldNumber, withItem}
 use Rattle.record_table.specs.Row.{Field, Row}
 use Rattle.record_laws.specs.KeptReadingLaws.{kept-complete, kept-sound}
-use Rattle.record.specs.Check.{orElse, fieldsFault, orColumn, strayIn, stray, itemsOf, breachFault, conditionFault, strayFault, fieldsRefusal, rowRefusal}
-use Rattle.record.specs.Written.{a-text, FieldsIn, rest, skipped, stands, Written}
+use Rattle.record.specs.Check.{fieldsFault, orColumn, strayIn, stray, itemsOf, breachFault, conditionFault, strayFault, fieldsRefusal, rowRefusal}
+use Rattle.record.specs.CheckLaws.{orElse-passed}
+use Rattle.record.specs.Written.{a-text, FieldsIn, rest, skipped, stands, optionalItems, Written}
+use Rattle.record_laws.specs.Group.{placedForm, placedFrom, Grouped}
+use Rattle.record_laws.specs.GroupLaws.{Leaves, leaves-whole, leaves-later, leaves-may, together-read}
 use Rattle.record_laws.specs.FieldReadingLaws.{firstByte-complete, firstByte-sound, Reads, skip-complete, stands-complete, identification-sound, integer-sound, real-sound}
 
 -- Where a refusal's number is 0, each of its parts passes.
-
-orElse-passed : (n c : ℕ) (f : Refusal) → orElse n c f .number ≡ 0 → (n ≡ 0) × (f .number ≡ 0)
-orElse-passed zero c f h = (refl, h)
-orElse-passed (suc n) c f h = absurd (omega arith)
 
 orColumn-none : (c k : ℕ) → orColumn c k ≡ 0 → (c ≡ 0) × (k ≡ 0)
 orColumn-none zero k h = (refl, h)
@@ -71,39 +71,41 @@ module _ (line : List ℕ) (eighty : length line ≡ 80) where
   }
 
   -- items that stand in the columns from at on are read there
-  fieldsIn-complete : {fs : List Field} {is : List Item} {cols : List ℕ} → FieldsIn line fs is cols → (at : ℕ) → drop at line ≡ cols
-      → ReadsFrom at fs is
-  unfolding fieldsFault stray itemsOf
-  fieldsIn-complete (rest b) at e = record { faultless = refl; clear = firstByte-complete (at + 1) (rw (fields-past at, e) b); items = refl }
-  fieldsIn-complete (skipped {w} {fs} {is} bl cols l b r) at e =
-      readsFrom-field at _ fs bl is is (rw e (take-at bl cols w l)) (skip-complete line is b)
-      (fieldsIn-complete r (at + w) (field-after at w bl cols l e))
-  fieldsIn-complete (stands {form} {w} {fs} {i} {is} own cols l s r) at e =
-      readsFrom-field at _ fs own is (i ∷ is) (rw e (take-at own cols w l)) (stands-complete line is s)
-      (fieldsIn-complete r (at + w) (field-after at w own cols l e))
+  fieldsIn-complete : {fs : List Field} {is : List Item} {cols : List ℕ} (a e : ℕ) → FieldsIn fs is cols → (at : ℕ) → drop at line ≡ cols
+      → placedFrom a e fs at ≡ true → Leaves a e line (optionalItems fs is) → ReadsFrom at fs is
+  unfolding fieldsFault stray itemsOf placedFrom optionalItems
+  fieldsIn-complete a e (rest b) at d g n = record { faultless = refl; clear = firstByte-complete (at + 1) (rw (fields-past at, d) b); items = refl }
+  fieldsIn-complete a e (skipped {w} {fs} {is} bl cols l b r) at d g n =
+      readsFrom-field at _ fs bl is is (rw d (take-at bl cols w l)) (skip-complete line is b)
+      (fieldsIn-complete a e r (at + w) (field-after at w bl cols l d) g n)
+  fieldsIn-complete a e (stands {form} {w} {fs} {i} {is} own cols l s r) at d g n =
+      let o = leaves-may a e line at w is fs s (and-left (placedForm a e at w form) _ g) n in
+      readsFrom-field at _ fs own is (i ∷ is) (rw d (take-at own cols w l)) (stands-complete line is s o)
+      (fieldsIn-complete a e r (at + w) (field-after at w own cols l d) (and-right (placedForm a e at w form) _ g) (leaves-later a e line is fs s n))
 
   -- a writing of items by a row is taken, and those items are read in it
-  pub written-complete : (r : Row) (is : List Item) → Written r is line → (rowRefusal r line ≡ passed) × (itemsOf (r .fields) 0 line ≡ is)
+  pub written-complete : (r : Row) (is : List Item) → Grouped (r .fields) → Written r is line → (rowRefusal r line ≡ passed) × (itemsOf (r .fields) 0 line ≡ is)
   unfolding rowRefusal fieldsRefusal conditionFault
-  written-complete r is w =
-      let t : ReadsFrom 0 (r .fields) is = fieldsIn-complete (w .in-columns) 0 refl in
+  written-complete r is g w =
+      let n = leaves-whole (g .from) (g .past) line (w .in-columns) (g .lie) (w .together) in
+      let t : ReadsFrom 0 (r .fields) is = fieldsIn-complete (g .from) (g .past) (w .in-columns) 0 refl (g .lie) n in
       (rw (t .faultless, t .clear, t .items, kept-complete (w .kept)) refl, t .items)
 
   -- From check to writing.
 
   -- one field more in front, by its form
   fieldsIn-field : (f : Form) (w k : ℕ) (fs : List Field) (is : List Item) (own cols : List ℕ) → length own ≡ w
-      → fieldNumber f (mayBlank f line) own ≡ 0 → strayIn f (k + 1) own ≡ 0 → FieldsIn line fs is cols
-      → FieldsIn line (record { form = f; width = w } ∷ fs) (withItem f own is) (own ++ cols)
+      → fieldNumber f (mayBlank f line) own ≡ 0 → strayIn f (k + 1) own ≡ 0 → FieldsIn fs is cols
+      → FieldsIn (record { form = f; width = w } ∷ fs) (withItem f own is) (own ++ cols)
   fieldsIn-field skip w k fs is own cols l n c r = skipped own cols l (firstByte-sound (k + 1) own (omega arith) c) r
   fieldsIn-field text w k fs is own cols l n c r = stands own cols l (a-text (trimmed-sound own)) r
-  fieldsIn-field identification w k fs is own cols l n c r = stands own cols l (identification-sound line own n) r
-  fieldsIn-field real w k fs is own cols l n c r = stands own cols l (real-sound line own n) r
+  fieldsIn-field identification w k fs is own cols l n c r = stands own cols l (identification-sound (mayBlank identification line) own n) r
+  fieldsIn-field real w k fs is own cols l n c r = stands own cols l (real-sound (mayBlank real line) own n) r
   fieldsIn-field (integer u o) w k fs is own cols l n c r = stands own cols l (integer-sound line u o own n) r
 
   -- what is read from the column at on stands there
   fieldsIn-sound : (fs : List Field) (at : ℕ) → at + total (map (λ (f : Field). f .width) fs) ≤ 80
-      → fieldsFault fs at line .number ≡ 0 → stray fs at line ≡ 0 → FieldsIn line fs (itemsOf fs at line) (drop at line)
+      → fieldsFault fs at line .number ≡ 0 → stray fs at line ≡ 0 → FieldsIn fs (itemsOf fs at line) (drop at line)
   unfolding fieldsFault stray itemsOf total
   fieldsIn-sound [] at h n c = rest (rw (fields-past at) at (firstByte-sound (at + 1) (columnsOf at 80 line) (omega arith) c))
   fieldsIn-sound (f ∷ fs) at h n c =
@@ -114,13 +116,14 @@ module _ (line : List ℕ) (eighty : length line ≡ 80) where
       rw (field-join at (f .width)) at (fieldsIn-field (f .form) (f .width) at fs _ own _ (field-width at (f .width) (omega arith)) (m .0) (d .0) t)
 
   -- a line that is taken is a writing of the items that are read in it
-  pub written-sound : (r : Row) → total (map (λ (f : Field). f .width) (r .fields)) ≤ 80 → rowRefusal r line .number ≡ 0
+  pub written-sound : (r : Row) → total (map (λ (f : Field). f .width) (r .fields)) ≤ 80 → Grouped (r .fields) → rowRefusal r line .number ≡ 0
       → Written r (itemsOf (r .fields) 0 line) line
   unfolding rowRefusal fieldsRefusal conditionFault
-  written-sound r fits h =
+  written-sound r fits g h =
       let c = orElse-passed _ _ _ h in
       let f = orElse-passed _ _ _ (c .0) in
       record {
         in-columns = fieldsIn-sound (r .fields) 0 (omega arith) (f .0) (strayFault-passed _ (f .1));
+        together = together-read (g .from) (g .past) line (r .fields) (g .lie) (f .0);
         kept = kept-sound (r .condition) _ (breachFault-passed (r .fields) _ (c .1));
       }

@@ -151,16 +151,8 @@ pub fn rewrite(file: &[u8], out: &mut [u8]) -> Reply
     }
     let n = rewritten_len(file);
     if out.len() < n {
-        return Reply {
-            number: 20,
-            place: 0,
-            column: 0,
-        };
+        return judge::bare_reply(20, 0);
     }
     put_sets(out, file);
-    Reply {
-        number: 0,
-        place: n,
-        column: 0,
-    }
+    judge::bare_reply(0, n)
 }

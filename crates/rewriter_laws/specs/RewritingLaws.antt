@@ -28,7 +28,7 @@ pass-fair AllPass.none = FairLines.none
 pass-fair (AllPass.more {l} h a) = FairLines.more (fair-passed l h) (pass-fair a)
 
 -- a file's lines have no more bytes than the file
-bytes-most : (file : List ℕ) → bytesIn (cut file .lines) ≤ length file
+pub bytes-most : (file : List ℕ) → bytesIn (cut file .lines) ≤ length file
 bytes-most file = omega (arith, lines-past file 0 (cut file .lines) [] (omega arith) (sym (append-nil (cut file .lines))) .within)
 
 module _ {sets : List Set} {bytes : List ℕ} (p : Proper sets bytes) where

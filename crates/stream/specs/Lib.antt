@@ -1,3 +1,3 @@
 pub mod Stream
-pub mod SqueezeLaws
+pub mod OpenLineLaws
 pub mod StreamLaws

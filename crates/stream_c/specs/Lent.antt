@@ -1,5 +1,5 @@
--- The standing record as plain data, for a host that lends it: 16 numbers, of which the last four are 0, and a line of 96 bytes, of which the last
--- 14 are 0.
+-- The standing record as plain data, for a host that lends it: 16 numbers, of which the last three are 0, and a line of 96 bytes, of which the last
+-- 15 are 0.
 use mathlib.Core.Path.{_≡_}
 use mathlib.Core.Bool.{Bool, true, false, not, _||_}
 use mathlib.Core.List.{List, [], _∷_, _++_}
@@ -48,8 +48,9 @@ streamOf ns bs =
       state = state (placeOf ns) (getD ns 6 0 % 4294967296);
       lines = getD ns 7 0;
       number = byteOf (getD ns 8 0);
+      column = getD ns 12 0;
       total = getD ns 9 0;
-      pending = take 82 bs;
+      pending = take 81 bs;
       held = getD ns 10 0;
       ended = not (eqb (getD ns 11 0) 0);
     }
@@ -66,19 +67,19 @@ countNumbers c = c .state .sets ∷ c .lines ∷ c .number ∷ c .total ∷ c .h
 
 -- those that no record uses
 abbrev pub unusedNumbers : List ℕ
-unusedNumbers = replicate 4 0
+unusedNumbers = replicate 3 0
 
 abbrev pub unusedBytes : List ℕ
-unusedBytes = replicate 14 0
+unusedBytes = replicate 15 0
 
 unfoldable pub numbersOf : Stream → List ℕ
-numbersOf c = (placeNumbers (c .state .place) ++ countNumbers c) ++ unusedNumbers
+numbersOf c = (placeNumbers (c .state .place) ++ countNumbers c) ++ (c .column ∷ unusedNumbers)
 
 -- a record whose parts fit their types, as every program's do
 pub record Fits (c : Stream) : Type 0 where
   pub sets : c .state .sets < 4294967296
   pub number : c .number < 256
-  pub pending : length (c .pending) ≡ 82
+  pub pending : length (c .pending) ≡ 81
 
 -- the buffers with a record laid out at their start
 abbrev pub numbersAfter : Stream → List ℕ → List ℕ

@@ -23,13 +23,13 @@ use Rattle.output.specs.OutputLaws.{placed-then, placed-first}
 use Rattle.stream_c.specs.Lent.{numbersRoom, lineRoom, placeOf, streamOf, placeNumbers, countNumbers, unusedNumbers, unusedBytes, byteOf, numbersOf, Fits}
 use Rattle.stream_c.specs.Lent.{numbersAfter, lineAfter, isShort, startReply, startNumbers, startLine, endOf, endNumbers, Burst, same}
 
--- four numbers laid one after the other, and six
-pub four-laid : (l : List ℕ) → 4 ≤ length l → set (set (set (set l 0 0) 1 0) 2 0) 3 0 ≡ unusedNumbers ++ drop 4 l
-four-laid [] h = absurd (omega arith)
-four-laid (_ ∷ []) h = absurd (omega arith)
-four-laid (_ ∷ _ ∷ []) h = absurd (omega arith)
-four-laid (_ ∷ _ ∷ _ ∷ []) h = absurd (omega arith)
-four-laid (_ ∷ _ ∷ _ ∷ _ ∷ l) h = refl
+-- a column and the numbers not used, laid one after the other, and six numbers
+pub column-laid : (l : List ℕ) (a : ℕ) → 4 ≤ length l → set (set (set (set l 0 a) 1 0) 2 0) 3 0 ≡ (a ∷ unusedNumbers) ++ drop 4 l
+column-laid [] a h = absurd (omega arith)
+column-laid (_ ∷ []) a h = absurd (omega arith)
+column-laid (_ ∷ _ ∷ []) a h = absurd (omega arith)
+column-laid (_ ∷ _ ∷ _ ∷ []) a h = absurd (omega arith)
+column-laid (_ ∷ _ ∷ _ ∷ _ ∷ l) a h = refl
 
 pub six-laid : (l : List ℕ) (a b c d e f : ℕ) → 6 ≤ length l → set (set (set (set (set (set l 0 a) 1 b) 2 c) 3 d) 4 e) 5 f ≡ a ∷ b ∷ c ∷ d ∷ e ∷ f ∷ drop 6 l
 six-laid [] a b c d e f h = absurd (omega arith)
@@ -65,13 +65,13 @@ module _ (c : Stream) (ns ns₁ ys : List ℕ) (f : ℕ) (e : ns₁ ≡ placeNum
   used-length : length (placeNumbers (c .state .place) ++ countNumbers c) ≡ 12
   used-length = length-append (placeNumbers (c .state .place)) (countNumbers c) ∙ rw (place-length (c .state .place)) refl
 
-  pub laid-record : (ns₂ zs : List ℕ) → ns₂ ≡ putMid 6 (length ns₁ - 6) ns₁ ys → zs ≡ unusedNumbers ++ drop 4 (midOf 12 (length ns₂ - 12) ns₂)
+  pub laid-record : (ns₂ zs : List ℕ) → ns₂ ≡ putMid 6 (length ns₁ - 6) ns₁ ys → zs ≡ (c .column ∷ unusedNumbers) ++ drop 4 (midOf 12 (length ns₂ - 12) ns₂)
       → putMid 12 (length ns₂ - 12) ns₂ zs ≡ numbersAfter c ns
   unfolding numbersOf
-  laid-record ns₂ zs u z = laid-after (placeNumbers (c .state .place) ++ countNumbers c) unusedNumbers ns ns₂ zs 12 4 used-length (u ∙ used) z
+  laid-record ns₂ zs u z = laid-after (placeNumbers (c .state .place) ++ countNumbers c) (c .column ∷ unusedNumbers) ns ns₂ zs 12 4 used-length (u ∙ used) z
 
 -- a record's line, then the bytes that it does not use
-pub laid-line : (p line l₁ l₂ : List ℕ) (past : ℕ) → length p ≡ 82 → past ≡ 0 + length p → l₁ ≡ placed 0 p line → l₂ ≡ placed past unusedBytes l₁
+pub laid-line : (p line l₁ l₂ : List ℕ) (past : ℕ) → length p ≡ 81 → past ≡ 0 + length p → l₁ ≡ placed 0 p line → l₂ ≡ placed past unusedBytes l₁
     → l₂ ≡ p ++ (unusedBytes ++ drop lineRoom line)
 laid-line p line l₁ l₂ past h q e f =
     let n : length (p ++ unusedBytes) ≡ lineRoom = length-append p unusedBytes ∙ rw h refl in
@@ -87,9 +87,9 @@ room n m e = go (ltb n numbersRoom) refl (ltb m lineRoom) refl e
     go false p false q h = (ltb-false n numbersRoom p, ltb-false m lineRoom q)
 
 -- a record that was laid out is read again as itself
-module _ (sets lines number total held : ℕ) (pending x y : List ℕ) (s : sets < 4294967296) (n : number < 256) (l : length pending ≡ 82) where
+module _ (sets lines number column total held : ℕ) (pending x y : List ℕ) (s : sets < 4294967296) (n : number < 256) (l : length pending ≡ 81) where
   abbrev made : Place → Bool → Stream
-  made p e = record { state = state p sets; lines = lines; number = number; total = total; pending = pending; held = held; ended = e }
+  made p e = record { state = state p sets; lines = lines; number = number; column = column; total = total; pending = pending; held = held; ended = e }
 
   sets-same : sets % 4294967296 ≡ sets
   sets-same = omega arith
@@ -100,17 +100,17 @@ module _ (sets lines number total held : ℕ) (pending x y : List ℕ) (s : sets
 
   parts-again : (p : Place) (e : Bool) → streamOf (numbersOf (made p e) ++ x) (pending ++ y) ≡ made p e
   unfolding streamOf placeOf numbersOf
-  parts-again Outside true = rw (sets-same, number-same, take-at pending y 82 l) refl
-  parts-again Outside false = rw (sets-same, number-same, take-at pending y 82 l) refl
-  parts-again Number true = rw (sets-same, number-same, take-at pending y 82 l) refl
-  parts-again Number false = rw (sets-same, number-same, take-at pending y 82 l) refl
-  parts-again Plain true = rw (sets-same, number-same, take-at pending y 82 l) refl
-  parts-again Plain false = rw (sets-same, number-same, take-at pending y 82 l) refl
-  parts-again (Typed d) true = rw (sets-same, number-same, take-at pending y 82 l) refl
-  parts-again (Typed d) false = rw (sets-same, number-same, take-at pending y 82 l) refl
+  parts-again Outside true = rw (sets-same, number-same, take-at pending y 81 l) refl
+  parts-again Outside false = rw (sets-same, number-same, take-at pending y 81 l) refl
+  parts-again Number true = rw (sets-same, number-same, take-at pending y 81 l) refl
+  parts-again Number false = rw (sets-same, number-same, take-at pending y 81 l) refl
+  parts-again Plain true = rw (sets-same, number-same, take-at pending y 81 l) refl
+  parts-again Plain false = rw (sets-same, number-same, take-at pending y 81 l) refl
+  parts-again (Typed d) true = rw (sets-same, number-same, take-at pending y 81 l) refl
+  parts-again (Typed d) false = rw (sets-same, number-same, take-at pending y 81 l) refl
 
 pub read-again : (c : Stream) (x y : List ℕ) → Fits c → streamOf (numbersOf c ++ x) (c .pending ++ y) ≡ c
-read-again c x y f = parts-again (c .state .sets) (c .lines) (c .number) (c .total) (c .held) (c .pending) x y (f .sets) (f .number) (f .pending) (c .state .place) (c .ended)
+read-again c x y f = parts-again (c .state .sets) (c .lines) (c .number) (c .column) (c .total) (c .held) (c .pending) x y (f .sets) (f .number) (f .pending) (c .state .place) (c .ended)
 
 -- a fresh record fits
 pub fresh-fits : Fits freshRecord
@@ -121,20 +121,21 @@ fresh-fits = record { sets = omega arith; number = omega arith; pending = refl }
 pub end-closes : (ns bs : List ℕ) → numbersRoom ≤ length ns → streamOf (set ns 11 1) bs ≡ closed (streamOf ns bs)
 unfolding streamOf placeOf closed
 end-closes ns bs h =
-    let k : (j : ℕ) → j < 11 → getD (set ns 11 1) j 0 ≡ getD ns j 0 = λ j l. getD-set-other ns 11 j 1 0 (λ e. omega arith) in
+    let k : (j : ℕ) → (j ≡ 11 → ⊥) → getD (set ns 11 1) j 0 ≡ getD ns j 0 = λ j l. getD-set-other ns 11 j 1 0 l in
     rw (
       getD-set-same ns 11 1 0 (omega arith),
-      k 0 (omega arith),
-      k 1 (omega arith),
-      k 2 (omega arith),
-      k 3 (omega arith),
-      k 4 (omega arith),
-      k 5 (omega arith),
-      k 6 (omega arith),
-      k 7 (omega arith),
-      k 8 (omega arith),
-      k 9 (omega arith),
-      k 10 (omega arith),
+      k 0 (λ e. omega arith),
+      k 1 (λ e. omega arith),
+      k 2 (λ e. omega arith),
+      k 3 (λ e. omega arith),
+      k 4 (λ e. omega arith),
+      k 5 (λ e. omega arith),
+      k 6 (λ e. omega arith),
+      k 7 (λ e. omega arith),
+      k 8 (λ e. omega arith),
+      k 9 (λ e. omega arith),
+      k 10 (λ e. omega arith),
+      k 12 (λ e. omega arith),
     ) refl
 
 -- a start, by the room

@@ -1,7 +1,8 @@
 // A file judged while it arrives, for hosts that hold the standing record as plain data: 16 numbers and a line of 96 bytes. The numbers:
 // 0 the place (0 outside sets, 1 where a number line is due, 2 in a plain set, any other in a typed set), 1 to 5 what is due there (kind, at,
-// case, left, second), 6 the sets opened, 7 the lines, 8 the refusal's number, 9 the total, 10 how many bytes of the line are held, 11 whether
-// the end was asked (0: no), 12 to 15 nothing yet. The line's last 14 bytes are nothing yet. What is nothing yet is laid as 0 and not read.
+// case, left, second), 6 the sets opened, 7 the lines, 8 the refusal's number, 9 the total, 10 how many bytes the open line has, 11 whether
+// the end was asked (0: no), 12 the column of the refusal, or of the open line's first byte not allowed, 13 to 15 nothing yet. The line: the first 80
+// bytes of the open one, then its last one, then 15 bytes that are nothing yet. What is nothing yet is laid as 0 and not read.
 ghost use mathlib.Core.Path.{_≡_};
 ghost use mathlib.Core.List.{_∷_, _++_};
 ghost use mathlib.Core.Bool.{_||_};
@@ -37,12 +38,12 @@ fn put_six(out: &mut [u64], a: u64, b: u64, c: u64, d: u64, e: u64, f: u64)
     out[5] = f;
 }
 
-// Lays the numbers that no record uses.
-fn put_unused(out: &mut [u64])
+// Lays a column, and the numbers that no record uses.
+fn put_column(out: &mut [u64], column: u64)
     requires { ⌜ 4 ≤ length (now out) ⌝ }
-    ensures { λ _. ⌜ now (out .exit) ≡ unusedNumbers ++ drop 4 (now (out .entry)) ⌝ }
+    ensures { λ _. ⌜ now (out .exit) ≡ (column ∷ unusedNumbers) ++ drop 4 (now (out .entry)) ⌝ }
 {
-    out[0] = 0;
+    out[0] = column;
     out[1] = 0;
     out[2] = 0;
     out[3] = 0;
@@ -80,12 +81,12 @@ fn flag(on: bool) -> u64
 }
 
 // Lays a record's line.
-fn put_line(line: &mut [u8], pending: &[u8; 82])
+fn put_line(line: &mut [u8], pending: &[u8; 81])
     requires { ⌜ lineRoom ≤ length (now line) ⌝ }
-    ensures { λ _. ⌜ (now (line .exit) ≡ now (pending .entry) ++ (unusedBytes ++ drop lineRoom (now (line .entry)))) × (length (now (pending .entry)) ≡ 82) ⌝ }
+    ensures { λ _. ⌜ (now (line .exit) ≡ now (pending .entry) ++ (unusedBytes ++ drop lineRoom (now (line .entry)))) × (length (now (pending .entry)) ≡ 81) ⌝ }
 {
     let past = put_text(line, 0, pending);
-    put_text(line, past, &[0u8; LINE_ROOM - 82]);
+    put_text(line, past, &[0u8; LINE_ROOM - 81]);
 }
 
 // Lays a record out.
@@ -98,13 +99,14 @@ fn put_record(numbers: &mut [u64], line: &mut [u8], c: Stream)
     let sets = state.sets as u64;
     let lines = c.lines as u64;
     let number = c.number as u64;
+    let column = c.column as u64;
     let total = c.total as u64;
     let held = c.held as u64;
     let ended = flag(c.ended);
     let pending = c.pending;
     put_place(numbers, place);
     put_six(&mut numbers[6..], sets, lines, number, total, held, ended);
-    put_unused(&mut numbers[12..]);
+    put_column(&mut numbers[12..], column);
     put_line(line, &pending);
 }
 
@@ -158,12 +160,13 @@ fn record_in(numbers: &[u64], line: &[u8]) -> Stream
     let place = place_in(numbers);
     let sets = (numbers[6] % 4294967296) as u32;
     let number = byte_of(numbers[8]);
-    let mut pending = [0u8; 82];
-    put_text(&mut pending, 0, &line[..82]);
+    let mut pending = [0u8; 81];
+    put_text(&mut pending, 0, &line[..81]);
     Stream {
         state: State { place, sets },
         lines: numbers[7] as usize,
         number,
+        column: numbers[12] as usize,
         total: numbers[9] as usize,
         pending,
         held: numbers[10] as usize,
@@ -183,11 +186,7 @@ fn reply_of(a: Answer) -> Reply
     ensures { λ r. ⌜ r ≡ paper a ⌝ }
 {
     match a {
-        Answer::SoFar(lines) => Reply {
-            number: 127,
-            place: lines,
-            column: 0,
-        },
+        Answer::SoFar(lines) => judge::bare_reply(127, lines),
         Answer::Refused(reply) => reply,
     }
 }
@@ -197,18 +196,10 @@ pub fn start(numbers: &mut [u64], line: &mut [u8]) -> Reply
     ensures { λ r. ⌜ (r ≡ startReply (now (numbers .entry)) (now (line .entry))) × (now (numbers .exit) ≡ startNumbers (now (numbers .entry)) (now (line .entry))) × (now (line .exit) ≡ startLine (now (numbers .entry)) (now (line .entry))) ⌝ }
 {
     if is_short(numbers.len(), line.len()) {
-        return Reply {
-            number: 20,
-            place: 0,
-            column: 0,
-        };
+        return judge::bare_reply(20, 0);
     }
     put_record(numbers, line, stream::fresh());
-    Reply {
-        number: 0,
-        place: 0,
-        column: 0,
-    }
+    judge::bare_reply(0, 0)
 }
 
 // Brings the record up to date by a burst, and answers for it; 20 where the room is too short, 23 after the end was asked.
@@ -216,18 +207,10 @@ pub fn burst(numbers: &mut [u64], line: &mut [u8], bytes: &[u8]) -> Reply
     ensures { λ r. ⌜ Burst same (now (numbers .entry)) (now (line .entry)) (now (bytes .entry)) (now (numbers .exit)) (now (line .exit)) r ⌝ }
 {
     if is_short(numbers.len(), line.len()) {
-        return Reply {
-            number: 20,
-            place: 0,
-            column: 0,
-        };
+        return judge::bare_reply(20, 0);
     }
     if 0 < numbers[11] {
-        return Reply {
-            number: 23,
-            place: 0,
-            column: 0,
-        };
+        return judge::bare_reply(23, 0);
     }
     let after = stream_mut::after_burst(record_in(numbers, line), bytes);
     let left = after.stream;
@@ -241,11 +224,7 @@ pub fn end(numbers: &mut [u64], line: &[u8]) -> Reply
     ensures { λ r. ⌜ (r ≡ endOf (now (numbers .entry)) (now (line .entry))) × (now (numbers .exit) ≡ endNumbers (now (numbers .entry)) (now (line .entry))) ⌝ }
 {
     if is_short(numbers.len(), line.len()) {
-        return Reply {
-            number: 20,
-            place: 0,
-            column: 0,
-        };
+        return judge::bare_reply(20, 0);
     }
     let found = stream::reply(record_in(numbers, line));
     numbers[11] = 1;

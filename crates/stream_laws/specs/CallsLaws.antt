@@ -52,7 +52,7 @@ calls-kept s e (more {ns = ns} {bs = bs} {ns₁ = ns₁} {bs₁ = bs₁} w p q k
 
 -- the start lays out a fresh record, in room of the same length
 module _ (ns bs : List ℕ) (s : isShort ns bs ≡ false) where
-  start-fresh : streamOf (startNumbers ns bs) (startLine ns bs) ≡ freshRecord
+  pub start-fresh : streamOf (startNumbers ns bs) (startLine ns bs) ≡ freshRecord
   unfolding startNumbers startLine
   start-fresh = rw s (read-again freshRecord (drop numbersRoom ns) (unusedBytes ++ drop lineRoom bs) fresh-fits)
 

@@ -21,11 +21,11 @@ use Rattle.record_table.specs.TypedSets.{kindOf, isTyped, typedSets}
 use Rattle.walk.specs.Step as W
 use Rattle.walk.specs.Step.{start, opened, outsideStep, numberStep, plainStep}
 use Rattle.judge.specs.declared.Reply.{Reply}
-use Rattle.judge.specs.Judge.{going, reply, lineStep}
+use Rattle.judge.specs.Judge.{going, reply, replyAt, lineStep}
 use Rattle.stream.specs.declared.Answer.{Answer}
 use Rattle.stream.specs.declared.Answer.the-variants.{SoFar, Refused}
 use Rattle.stream.specs.declared.Stream.{Stream}
-use Rattle.stream.specs.Stream.{push, pushAll, Seen, inLimit, past, stepOf, seen, Stepped, answerOf, endReply, closed}
+use Rattle.stream.specs.Stream.{openOf, longer, columnsOf, faultOf, openOutcome, Seen, inLimit, past, stepOf, seen, Stepped, answerOf, endReply, closed}
 
 abbrev bytes : String → List ℕ
 bytes S.[] = []
@@ -42,11 +42,11 @@ ends s [] = endReply s
 ends s (b ∷ bs) = ends (stepOf s b) bs
 
 abbrev fresh : Seen
-fresh = inLimit (going start 0) [] 0
+fresh = inLimit (going start 0) (openOf []) 0
 
 abbrev lengthOf : Seen → ℕ
 lengthOf past = 0
-lengthOf (inLimit r q n) = n
+lengthOf (inLimit r o n) = n
 
 abbrev linesOf : Answer → ℕ
 linesOf (SoFar n) = n
@@ -57,23 +57,32 @@ abbrev returns : List (List ℕ)
 returns = (bytes "    -1" ++ (13 ∷ [])) ∷ ((10 ∷ bytes "  2420") ++ (13 ∷ [])) ∷ ((10 ∷ bytes "    -1") ++ (13 ∷ [])) ∷ (10 ∷ []) ∷ [] ∷ []
 
 pub returns-accepted : (answers fresh returns ≡ SoFar 0 ∷ SoFar 1 ∷ SoFar 2 ∷ SoFar 3 ∷ SoFar 3 ∷ []) × (ends fresh returns ≡ reply 0 3)
-unfolding stepOf answerOf push pushAll over cut run allBlank isDigit I.push stepInteger endInteger integerOf isAllowed withoutReturn columns firstBad lineFault filled thenBlank isDelimiter datasetNumber kindOf isTyped typedSets opened outsideStep numberStep plainStep W.stepOf lineStep
+unfolding stepOf answerOf openOf longer columnsOf faultOf openOutcome over cut run allBlank isDigit I.push stepInteger endInteger integerOf isAllowed withoutReturn columns firstBad lineFault filled thenBlank isDelimiter datasetNumber kindOf isTyped typedSets opened outsideStep numberStep plainStep W.stepOf lineStep
 returns-accepted = (refl, refl)
 
 -- a CR that ends a burst and has no LF after it is a byte not allowed. A judge that drops it at once accepts the line.
-pub return-alone : answers fresh ((bytes "    -" ++ (13 ∷ [])) ∷ (bytes "1" ++ (10 ∷ [])) ∷ []) ≡ SoFar 0 ∷ Refused (reply 2 1) ∷ []
-unfolding stepOf answerOf push pushAll over cut isAllowed withoutReturn columns firstBad lineFault lineStep
+pub return-alone : answers fresh ((bytes "    -" ++ (13 ∷ [])) ∷ (bytes "1" ++ (10 ∷ [])) ∷ []) ≡ SoFar 0 ∷ Refused (replyAt 2 1 6) ∷ []
+unfolding stepOf answerOf openOf longer columnsOf faultOf openOutcome over cut isAllowed withoutReturn columns firstBad lineFault lineStep
 return-alone = refl
 
--- a line of 85 bytes, the 83rd of them not allowed. A judge that keeps only its first bytes answers 3.
-pub late-byte : answers fresh (replicate 82 32 ∷ (9 ∷ []) ∷ (32 ∷ 32 ∷ []) ∷ (10 ∷ []) ∷ []) ≡ SoFar 0 ∷ SoFar 0 ∷ SoFar 0 ∷ Refused (reply 2 1) ∷ []
-unfolding stepOf answerOf push pushAll over cut isAllowed withoutReturn columns firstBad lineFault lineStep
+-- a line of 85 bytes, the 83rd of them not allowed. A judge that keeps only its first bytes answers 3, and one that counts from a burst's first byte column 1.
+pub late-byte : answers fresh (replicate 82 32 ∷ (9 ∷ []) ∷ (32 ∷ 32 ∷ []) ∷ (10 ∷ []) ∷ []) ≡ SoFar 0 ∷ SoFar 0 ∷ SoFar 0 ∷ Refused (replyAt 2 1 83) ∷ []
+unfolding stepOf answerOf openOf longer columnsOf faultOf openOutcome over cut isAllowed withoutReturn columns firstBad lineFault lineStep
 late-byte = refl
 
 -- 84 blanks, then CR LF: 3, since the CR belongs to the end
-pub late-return : answers fresh (replicate 84 32 ∷ (13 ∷ []) ∷ (10 ∷ []) ∷ []) ≡ SoFar 0 ∷ SoFar 0 ∷ Refused (reply 3 1) ∷ []
-unfolding stepOf answerOf push pushAll over cut isAllowed withoutReturn columns firstBad lineFault lineStep
+pub late-return : answers fresh (replicate 84 32 ∷ (13 ∷ []) ∷ (10 ∷ []) ∷ []) ≡ SoFar 0 ∷ SoFar 0 ∷ Refused (replyAt 3 1 1) ∷ []
+unfolding stepOf answerOf openOf longer columnsOf faultOf openOutcome over cut isAllowed withoutReturn columns firstBad lineFault lineStep
 late-return = refl
+
+-- 84 blanks and a CR, then CR LF: the first CR is a byte not allowed, at its own column; and so it is where the file ends with it
+pub late-returns : answers fresh (replicate 84 32 ∷ (13 ∷ []) ∷ (13 ∷ 10 ∷ []) ∷ []) ≡ SoFar 0 ∷ SoFar 0 ∷ Refused (replyAt 2 1 85) ∷ []
+unfolding stepOf answerOf openOf longer columnsOf faultOf openOutcome over cut isAllowed withoutReturn columns firstBad lineFault lineStep
+late-returns = refl
+
+pub last-return : ends fresh (replicate 84 32 ∷ (13 ∷ []) ∷ []) ≡ replyAt 2 1 85
+unfolding stepOf openOf longer columnsOf faultOf over cut isAllowed firstBad
+last-return = refl
 
 -- Wrong calls on a lent record, each with an input on which it breaks the promise: a burst that does not store the record, one that answers for the
 -- record before it, an end that does not mark the record.
@@ -82,7 +91,7 @@ unfolding stepOf cut over
 not-stored c e h s = let z : fresh ≡ stepOf fresh (bytes "x") = sym h ∙ s .further e ∙ ap (λ (x : Seen). stepOf x (bytes "x")) h in omega (arith, ap lengthOf z)
 
 pub told-before : answerOf false fresh ≡ answerOf false (stepOf fresh (10 ∷ [])) → ⊥
-unfolding stepOf answerOf push pushAll over cut allBlank isAllowed withoutReturn columns firstBad lineFault filled lineStep W.stepOf outsideStep
+unfolding stepOf answerOf openOf longer columnsOf faultOf openOutcome over cut allBlank isAllowed withoutReturn columns firstBad lineFault filled lineStep W.stepOf outsideStep
 told-before e = omega (arith, ap linesOf e)
 
 pub not-marked : (c : Stream) → c .ended ≡ false → c ≡ closed c → ⊥

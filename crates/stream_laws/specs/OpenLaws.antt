@@ -1,45 +1,56 @@
--- The open line may be squeezed before more bytes come, and a run over bytes that come in two parts is the run over all of them.
+-- A burst after the open line of a text gives what the bytes of both give.
 use mathlib.Core.Path.{_≡_, refl, sym, ap, _∙_}
-use mathlib.Core.List.{List, [], _++_}
-use mathlib.Core.Logic.{⊎-elim}
-use Prim.Native.Nat.{ℕ, _+_}
-use lib.ListN.{length, take, drop}
-use Rattle.laws.specs.ChoiceLaws.{below-or-not}
-use Rattle.laws.specs.Cut.{Text, cut, lineLen, over}
-use Rattle.laws.specs.CutLaws.{cut-append, over-append}
-use Rattle.judge.specs.Judge.{Run, going, refused, runStep}
-use Rattle.stream.specs.Stream.{squeezed, inLimit, kept, Open}
-use Rattle.stream.specs.SqueezeLaws.{squeezed-short, push-append, run-squeezed}
-use Rattle.stream.specs.StreamLaws.{rest-open, pushAll-open, cut-still, cut-first, squeezed-more}
-use Rattle.stream_laws.specs.Open.{keptText}
+use mathlib.Core.Bool.{Bool, true, false}
+use mathlib.Core.List.{List, [], _∷_, _++_}
+use Prim.Native.Nat.{ℕ}
+use lib.Dec.{eqb}
+use Rattle.laws.specs.Choice.{pick}
+use Rattle.laws.specs.Cut.{Text, text, onto, cut, over}
+use Rattle.laws.specs.CutLaws.{over-append}
+use Rattle.judge.specs.Judge.{Run, runStep}
+use Rattle.stream.specs.Stream.{OpenLine, openOf, longer, kept, lineEnd, arrived}
+use Rattle.stream.specs.OpenLineLaws.{longer-append, end-line}
+use Rattle.stream_laws.specs.Open.{textThen, keptText}
 
--- bytes after a squeezed line
-squeezed-append : (q l : List ℕ) → squeezed (squeezed q ++ l) ≡ squeezed (q ++ l)
-squeezed-append q l = squeezed-more (squeezed q) l (squeezed-short q) ∙ sym (push-append [] q l)
+-- bytes in two parts, each cut into lines
+then-none : (ms : List (List ℕ)) (r′ : List ℕ) → text ms r′ ≡ textThen [] [] ms r′
+then-none [] r′ = refl
+then-none (m ∷ ms) r′ = refl
 
-kept-squeezed : (r : Run) (q l : List ℕ) (n : ℕ) → kept r (squeezed q ++ l) n ≡ kept r (q ++ l) n
-kept-squeezed (going s m) q l n = ap (λ (p : List ℕ). inLimit (going s m) p n) (squeezed-append q l)
-kept-squeezed (refused p) q l n = refl
+then-line : (ls : List (List ℕ)) (r : List ℕ) (ms : List (List ℕ)) (r′ : List ℕ)
+    → text ([] ∷ textThen ls r ms r′ .lines) (textThen ls r ms r′ .rest) ≡ textThen ([] ∷ ls) r ms r′
+then-line ls r [] r′ = refl
+then-line ls r (m ∷ ms) r′ = refl
 
-step-squeezed : (r : Run) (q l : List ℕ) → runStep r (squeezed q ++ l) ≡ runStep r (q ++ l)
-step-squeezed r q l = sym (run-squeezed r (squeezed q ++ l)) ∙ ap (runStep r) (squeezed-append q l) ∙ run-squeezed r (q ++ l)
+then-onto : (x : ℕ) (ls : List (List ℕ)) (r : List ℕ) (ms : List (List ℕ)) (r′ : List ℕ)
+    → onto x (textThen ls r ms r′ .lines) (textThen ls r ms r′ .rest) ≡ textThen (onto x ls r .lines) (onto x ls r .rest) ms r′
+then-onto x [] r [] r′ = refl
+then-onto x [] r (m ∷ ms) r′ = refl
+then-onto x (l ∷ ls) r [] r′ = refl
+then-onto x (l ∷ ls) r (m ∷ ms) r′ = refl
 
-squeezed-open : (q : List ℕ) → Open q → Open (squeezed q)
+-- a byte before a text, by whether it is an LF
+abbrev withByte : ℕ → Bool → Text → Text
+withByte x t u = pick t (text ([] ∷ u .lines) (u .rest)) (onto x (u .lines) (u .rest))
+
+then-byte : (x : ℕ) (t : Bool) (ls : List (List ℕ)) (r : List ℕ) (ms : List (List ℕ)) (r′ : List ℕ)
+    → withByte x t (textThen ls r ms r′) ≡ textThen (withByte x t (text ls r) .lines) (withByte x t (text ls r) .rest) ms r′
+then-byte x true ls r ms r′ = then-line ls r ms r′
+then-byte x false ls r ms r′ = then-onto x ls r ms r′
+
+cut-then : (a b : List ℕ) → cut (a ++ b) ≡ textThen (cut a .lines) (cut a .rest) (cut b .lines) (cut b .rest)
 unfolding cut
-squeezed-open q o = pushAll-open [] q (rest-open []) o
+cut-then [] b = then-none (cut b .lines) (cut b .rest)
+cut-then (x ∷ a) b = ap (withByte x (eqb x 10)) (cut-then a b) ∙ then-byte x (eqb x 10) (cut a .lines) (cut a .rest) (cut b .lines) (cut b .rest)
 
--- a burst after the squeezed open line gives what it gives after the whole one: no LF comes, or the first one
-pub open-squeezed : (r : Run) (q b : List ℕ) (n : ℕ) → Open q → keptText r (cut (squeezed q ++ b)) n ≡ keptText r (cut (q ++ b)) n
+-- what is kept of both
+then-kept : (r : Run) (ls : List (List ℕ)) (q : List ℕ) (ms : List (List ℕ)) (q′ : List ℕ) (n : ℕ)
+    → keptText r (textThen ls q ms q′) n ≡ arrived (over runStep r ls) (openOf q) ms q′ n
 unfolding over
-open-squeezed r q b n o =
-    let first = ap (λ (x : Run). keptText x (cut (drop (lineLen b + 1) b)) n) (step-squeezed r q (take (lineLen b) b)) in
-    ⊎-elim
-    (λ h. rw (cut-first (squeezed q) b (squeezed-open q o) h, cut-first q b o h) first)
-    (λ h. rw (cut-still (squeezed q) b (squeezed-open q o) h, cut-still q b o h) (kept-squeezed r q b n))
-    (below-or-not (lineLen b) (length b))
+then-kept r ls q [] q′ n = ap (λ (o : OpenLine). kept (over runStep r ls) o n) (sym (longer-append q q′))
+then-kept r ls q (m ∷ ms) q′ n =
+    let line : lineEnd (over runStep r ls) (longer (openOf q) m) ≡ runStep (over runStep r ls) (q ++ m) = rw (longer-append q m) (end-line (over runStep r ls) (q ++ m)) in
+    ap (λ (x : Run). kept x (openOf q′) n) (over-append runStep r ls ((q ++ m) ∷ ms) ∙ ap (λ (x : Run). over runStep x ms) (sym line))
 
--- a run over bytes that come in two parts
-pub kept-append : (r : Run) (a b : List ℕ) (n : ℕ) → keptText r (cut (a ++ b)) n ≡ keptText (over runStep r (cut a .lines)) (cut (cut a .rest ++ b)) n
-kept-append r a b n =
-    ap (λ (t : Text). keptText r t n) (cut-append a b)
-    ∙ ap (λ (x : Run). kept x (cut (cut a .rest ++ b) .rest) n) (over-append runStep r (cut a .lines) (cut (cut a .rest ++ b) .lines))
+pub kept-append : (r : Run) (a b : List ℕ) (n : ℕ) → keptText r (cut (a ++ b)) n ≡ arrived (over runStep r (cut a .lines)) (openOf (cut a .rest)) (cut b .lines) (cut b .rest) n
+kept-append r a b n = ap (λ (t : Text). keptText r t n) (cut-then a b) ∙ then-kept r (cut a .lines) (cut a .rest) (cut b .lines) (cut b .rest) n

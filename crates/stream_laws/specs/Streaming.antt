@@ -10,7 +10,7 @@ use Rattle.judge.specs.Judge.{Run, going, refused, reply, runStep}
 use Rattle.stream.specs.declared.Stream.{Stream}
 use Rattle.stream.specs.declared.Answer.{Answer}
 use Rattle.stream.specs.declared.Answer.the-variants.{SoFar, Refused}
-use Rattle.stream.specs.Stream.{Seen, past, kept, Stepped}
+use Rattle.stream.specs.Stream.{openOf, Seen, past, kept, Stepped}
 
 -- the finished lines of the bytes so far, judged
 unfoldable pub finished : List ℕ → Run
@@ -18,7 +18,7 @@ finished bytes = over runStep (going start 0) (cut bytes .lines)
 
 -- what a record is to say after these bytes
 unfoldable pub after : List ℕ → Seen
-after bytes = pick (ltb 16777216 (length bytes)) past (kept (finished bytes) (cut bytes .rest) (length bytes))
+after bytes = pick (ltb 16777216 (length bytes)) past (kept (finished bytes) (openOf (cut bytes .rest)) (length bytes))
 
 -- "the refusal of the earliest bad line whose LF has come, otherwise 'so far' with the number of finished lines"
 abbrev pub runAnswer : Run → Answer

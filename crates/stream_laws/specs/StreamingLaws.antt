@@ -1,8 +1,7 @@
 -- A file judged while it arrives is judged as the whole file, however it is cut into bursts. A burst takes what a record says of the bytes so far to
 -- what those bytes with the burst give; so bursts bring a fresh record to what their joined bytes give. A burst's answer is 1 past the limit and
--- otherwise that of the finished lines, and "so far" counts them. The end's answer is the whole file's, asked again too: it accepts the proper writings
--- and nothing else. A refusal that a burst has told is the end's, unless the file gets too long. After the end was asked, a burst is answered 23 and changes
--- nothing. Of any record that is not ended, one made up otherwise too: a burst adds its length to the running length, and past the limit is past for good.
+-- otherwise that of the finished lines, and "so far" counts them. The end's answer is the whole file's, asked again too. A refusal that a burst has told
+-- is the end's, unless the file gets too long. After the end was asked, a burst is answered 23 and changes nothing. Of any record that is not ended, one made up otherwise too: a burst adds its length to the running length, and past the limit is past for good.
 use mathlib.Core.Path.{_≡_, refl, sym, ap, _∙_}
 use mathlib.Core.Bool.{Bool, true, false}
 use mathlib.Core.List.{List, [], _∷_, _++_, append-nil, append-assoc}
@@ -15,7 +14,7 @@ use lib.Dec.{ltb}
 use lib.ListN.{length, length-append}
 use Rattle.laws.specs.Choice.{pick}
 use Rattle.laws.specs.ChoiceLaws.{below-or-not}
-use Rattle.laws.specs.Cut.{Text, cut, over, judge}
+use Rattle.laws.specs.Cut.{cut, over, judge}
 use Rattle.laws.specs.CutLaws.{cut-append, over-append}
 use Rattle.walk.specs.declared.Outcome.{Outcome}
 use Rattle.walk.specs.declared.Outcome.the-variants as Outcomes
@@ -25,19 +24,15 @@ use Rattle.judge.specs.Judge.{Run, going, refused, reply, lineStep, onOutcome, 
 use Rattle.judge.specs.JudgeLaws.{over-refused}
 use Rattle.stream.specs.declared.Stream.{Stream}
 use Rattle.stream.specs.declared.Answer.the-variants.{SoFar, Refused}
-use Rattle.stream.specs.Stream.{inLimit, past, kept, pushAll, stepOf, seen, Stepped, soFar, answerOf, endReply, closed}
-use Rattle.stream.specs.SqueezeLaws.{end-squeezed}
-use Rattle.stream.specs.StreamLaws.{rest-open, seen-closed}
-use Rattle.theory.specs.Sets.{Set}
-use Rattle.theory.specs.Proper.{Proper}
-use Rattle.theorems.specs.Theorems.{accepted-proper, proper-accepted}
+use Rattle.stream.specs.Stream.{OpenLine, openOf, longer, inLimit, past, kept, lineEnd, arrived, stepOf, seen, Stepped, soFar, answerOf, endReply, closed}
+use Rattle.stream.specs.OpenLineLaws.{end-open}
+use Rattle.stream.specs.StreamLaws.{arrived-refused, seen-closed}
 use Rattle.stream_laws.specs.Streaming.{finished, after, runAnswer, burstAnswer, joined, Bursts, none, more}
-use Rattle.stream_laws.specs.Open.{keptText}
-use Rattle.stream_laws.specs.OpenLaws.{open-squeezed, kept-append}
+use Rattle.stream_laws.specs.OpenLaws.{kept-append}
 
 -- a fresh record says what no bytes give
-pub fresh-after : inLimit (going start 0) [] 0 ≡ after []
-unfolding after finished over cut pushAll
+pub fresh-after : inLimit (going start 0) (openOf []) 0 ≡ after []
+unfolding after finished over cut
 fresh-after = refl
 
 -- the bytes so far, past the limit or within
@@ -45,22 +40,20 @@ after-past : (a : List ℕ) → 16777216 < length a → after a ≡ past
 unfolding after
 after-past a h = rw (lt-ltb 16777216 (length a) h) refl
 
-after-within : (a : List ℕ) → length a ≤ 16777216 → after a ≡ kept (finished a) (cut a .rest) (length a)
+after-within : (a : List ℕ) → length a ≤ 16777216 → after a ≡ kept (finished a) (openOf (cut a .rest)) (length a)
 unfolding after
 after-within a h = rw (le-ltb 16777216 (length a) h) refl
 
--- a refused run keeps nothing
-kept-refused : (p : Reply) (t : Text) (n : ℕ) → keptText (refused p) t n ≡ inLimit (refused p) [] n
-kept-refused p t n = ap (λ (r : Run). kept r (t .rest) n) (over-refused p (t .lines))
-
 -- one burst more, from the open line of the bytes so far
-step-kept : (r : Run) (a b : List ℕ) (n : ℕ) → stepOf (kept r (cut a .rest) n) b ≡ pick (ltb 16777216 (n + length b)) past (keptText r (cut (cut a .rest ++ b)) (n + length b))
+step-kept : (r : Run) (o : OpenLine) (b : List ℕ) (n : ℕ) → stepOf (kept r o n) b ≡ pick (ltb 16777216 (n + length b)) past (arrived r o (cut b .lines) (cut b .rest) (n + length b))
 unfolding stepOf
-step-kept (going s m) a b n = ap (pick (ltb 16777216 (n + length b)) past) (open-squeezed (going s m) (cut a .rest) b (n + length b) (rest-open a))
-step-kept (refused p) a b n =
-    ap (pick (ltb 16777216 (n + length b)) past) (kept-refused p (cut b) (n + length b) ∙ sym (kept-refused p (cut (cut a .rest ++ b)) (n + length b)))
+step-kept (going s m) o b n = refl
+step-kept (refused p) o b n =
+    let none = arrived-refused p (openOf []) (cut b .lines) (cut b .rest) (n + length b) in
+    ap (pick (ltb 16777216 (n + length b)) past) (none ∙ sym (arrived-refused p o (cut b .lines) (cut b .rest) (n + length b)))
 
-after-append : (a b : List ℕ) → after (a ++ b) ≡ pick (ltb 16777216 (length a + length b)) past (keptText (finished a) (cut (cut a .rest ++ b)) (length a + length b))
+after-append : (a b : List ℕ)
+    → after (a ++ b) ≡ pick (ltb 16777216 (length a + length b)) past (arrived (finished a) (openOf (cut a .rest)) (cut b .lines) (cut b .rest) (length a + length b))
 unfolding after finished
 after-append a b =
     rw (length-append a b)
@@ -72,21 +65,21 @@ unfolding stepOf
 step-after a b =
     ⊎-elim
     (λ h. rw (after-past a h) (sym (after-past (a ++ b) (omega (arith, length-append a b)))))
-    (λ h. rw (after-within a h) (step-kept (finished a) a b (length a) ∙ sym (after-append a b)))
+    (λ h. rw (after-within a h) (step-kept (finished a) (openOf (cut a .rest)) b (length a) ∙ sym (after-append a b)))
     (below-or-not 16777216 (length a))
 
 -- the answer of a burst
-soFar-kept : (r : Run) (l : List ℕ) (n : ℕ) → soFar (kept r l n) ≡ runAnswer r
-soFar-kept (going s m) l n = refl
-soFar-kept (refused p) l n = refl
+soFar-kept : (r : Run) (o : OpenLine) (n : ℕ) → soFar (kept r o n) ≡ runAnswer r
+soFar-kept (going s m) o n = refl
+soFar-kept (refused p) o n = refl
 
 pub answer-after : (a : List ℕ) → answerOf false (after a) ≡ burstAnswer a
 unfolding answerOf after
 answer-after a = go (ltb 16777216 (length a))
   where
-    go : (t : Bool) → soFar (pick t past (kept (finished a) (cut a .rest) (length a))) ≡ pick t (Refused (reply 1 0)) (runAnswer (finished a))
+    go : (t : Bool) → soFar (pick t past (kept (finished a) (openOf (cut a .rest)) (length a))) ≡ pick t (Refused (reply 1 0)) (runAnswer (finished a))
     go true = refl
-    go false = soFar-kept (finished a) (cut a .rest) (length a)
+    go false = soFar-kept (finished a) (openOf (cut a .rest)) (length a)
 
 -- a run that goes on counts its lines
 abbrev Counts : Run → ℕ → Type 0
@@ -119,15 +112,15 @@ lines-after a n h = go (ltb 16777216 (length a)) (finished a) h (over-counts (go
     go false (refused p) h k = cc
 
 -- the end's answer
-end-kept : (r : Run) (l : List ℕ) (n : ℕ) → endReply (kept r l n) ≡ runEnd r l
-end-kept (going s m) l n = end-squeezed (going s m) l
+end-kept : (r : Run) (l : List ℕ) (n : ℕ) → endReply (kept r (openOf l) n) ≡ runEnd r l
+end-kept (going s m) l n = end-open (going s m) l
 end-kept (refused p) l n = refl
 
 pub end-after : (a : List ℕ) → endReply (after a) ≡ judged a
 unfolding after judged judge finished
 end-after a = go (ltb 16777216 (length a))
   where
-    go : (t : Bool) → endReply (pick t past (kept (finished a) (cut a .rest) (length a))) ≡ pick t (reply 1 0) (runEnd (finished a) (cut a .rest))
+    go : (t : Bool) → endReply (pick t past (kept (finished a) (openOf (cut a .rest)) (length a))) ≡ pick t (reply 1 0) (runEnd (finished a) (cut a .rest))
     go true = refl
     go false = end-kept (finished a) (cut a .rest) (length a)
 
@@ -139,7 +132,7 @@ bursts-further a e h (more {d = d} {b = b} {bs = bs} s k) =
     let g : seen d ≡ after (a ++ b) = s .further e ∙ rw h (step-after a b) in
     rw (append-assoc a b (joined bs)) at (bursts-further (a ++ b) (s .ended ∙ e) g k)
 
-pub bursts-after : {c r : Stream} {bs : List (List ℕ)} → c .ended ≡ false → seen c ≡ inLimit (going start 0) [] 0 → Bursts c bs r → (r .ended ≡ false) × (seen r ≡ after (joined bs))
+pub bursts-after : {c r : Stream} {bs : List (List ℕ)} → c .ended ≡ false → seen c ≡ inLimit (going start 0) (openOf []) 0 → Bursts c bs r → (r .ended ≡ false) × (seen r ≡ after (joined bs))
 bursts-after e h k = bursts-further [] e (h ∙ fresh-after) k
 
 -- One burst more: what is said below of the last burst's answer is so said of each.
@@ -177,17 +170,21 @@ unfolding stepOf
 past-stays b = refl
 
 -- and until then the running length grows by the burst's, so it never falls.
-pub length-grows : {r′ : Run} {q′ : List ℕ} {n′ : ℕ} (r : Run) (q : List ℕ) (n : ℕ) (b : List ℕ) → stepOf (inLimit r q n) b ≡ inLimit r′ q′ n′ → n′ ≡ n + length b
+pub length-grows : {r′ : Run} {o′ : OpenLine} {n′ : ℕ} (r : Run) (o : OpenLine) (n : ℕ) (b : List ℕ) → stepOf (inLimit r o n) b ≡ inLimit r′ o′ n′ → n′ ≡ n + length b
 unfolding stepOf
-length-grows {r′} {q′} {n′} r q n b h = go (ltb 16777216 (n + length b)) (over runStep r (cut (q ++ b) .lines)) h
+length-grows {r′} {o′} {n′} r o n b h = go (ltb 16777216 (n + length b)) (cut b .lines) h
   where
-    go : (t : Bool) (x : Run) → pick t past (kept x (cut (q ++ b) .rest) (n + length b)) ≡ inLimit r′ q′ n′ → n′ ≡ n + length b
-    go true x h = cc
-    go false (going s m) h = cc
-    go false (refused p) h = cc
+    kept-grows : (x : Run) (p : OpenLine) → kept x p (n + length b) ≡ inLimit r′ o′ n′ → n′ ≡ n + length b
+    kept-grows (going s m) p h = cc
+    kept-grows (refused f) p h = cc
+
+    go : (t : Bool) (ls : List (List ℕ)) → pick t past (arrived r o ls (cut b .rest) (n + length b)) ≡ inLimit r′ o′ n′ → n′ ≡ n + length b
+    go true ls h = cc
+    go false [] h = kept-grows r (longer o (cut b .rest)) h
+    go false (l ∷ ls) h = kept-grows (over runStep (lineEnd r (longer o l)) ls) (openOf (cut b .rest)) h
 
 -- What is said of a fresh record brought up to date by bursts.
-module _ {c r : Stream} {bs : List (List ℕ)} (e : c .ended ≡ false) (h : seen c ≡ inLimit (going start 0) [] 0) (k : Bursts c bs r) where
+module _ {c r : Stream} {bs : List (List ℕ)} (e : c .ended ≡ false) (h : seen c ≡ inLimit (going start 0) (openOf []) 0) (k : Bursts c bs r) where
   -- The answer of the last burst, if there is one, is that of the bytes so far.
   pub any-cut-answer : answerOf (r .ended) (seen r) ≡ burstAnswer (joined bs)
   any-cut-answer =
@@ -204,11 +201,3 @@ module _ {c r : Stream} {bs : List (List ℕ)} (e : c .ended ≡ false) (h : see
   -- and after a burst that was answered 23.
   pub any-cut-later : {t : Stream} {b : List ℕ} → Stepped (closed r) b t → endReply (seen t) ≡ judged (joined bs)
   any-cut-later s = rw (after-end r s .0) any-cut-again
-
-  -- "Demand 3 reads for the end answer": what it accepts is a proper writing of some list of sets,
-  pub arrived-proper : (n : ℕ) → endReply (seen r) ≡ reply 0 n → (sets : List Set) × Proper sets (joined bs)
-  arrived-proper n g = accepted-proper (joined bs) n (sym any-cut ∙ g)
-
-  -- and it accepts every proper writing.
-  pub proper-arrived : {sets : List Set} → Proper sets (joined bs) → endReply (seen r) ≡ reply 0 (length (cut (joined bs) .lines))
-  proper-arrived p = any-cut ∙ proper-accepted p

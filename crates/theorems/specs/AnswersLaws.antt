@@ -1,8 +1,8 @@
 -- The reader answers from the list.
 use mathlib.Core.Path.{_≡_, refl, sym, ap, _∙_}
 use mathlib.Core.List.{List, [], _∷_}
-use Prim.Native.Nat.{ℕ, suc, _+_, _-_, _*_, _<_, _≤_}
-use native.Mathlib.Nat.{suc-mul, zero-mul, mul-le-mul-right}
+use Prim.Native.Nat.{ℕ, _+_, _-_, _*_, _<_, _≤_}
+use native.Mathlib.Nat.{zero-mul}
 use native.Mathlib.Omega.{arith}
 use borrow.Author.Tests.{lt-ltb, le-ltb, le-leb, ne-eqb}
 use lib.Dec.{ltb}
@@ -37,6 +37,7 @@ use Rattle.values.specs.Values.{allFrom, allValues}
 use Rattle.values.specs.Each.{Each}
 use Rattle.values.specs.EachLaws.{all-each, all-refused}
 use Rattle.theorems.specs.Answers.{realOfItem, valueSaid, allSaid, ownBytes}
+use Rattle.theorems.specs.ColumnsLaws.{value-number}
 
 -- a 58 of the list as it stands in a text
 module _ {s : Set} {p : Parts.Part} (bytes : List ℕ) (ps : List Parts.Part) (w : Somewhere bytes p ps) (h : Holds s p) (e : s .number ≡ 58) where
@@ -67,10 +68,7 @@ module _ {s : Set} {p : Parts.Part} (bytes : List ℕ) (ps : List Parts.Part) (w
   -- the numbers of a value are stored numbers
   pub value-stored : (i r : ℕ) → i < declared s → r < numbersOf (setCase s) → i * numbersOf (setCase s) + r < storedCount s
   unfolding storedCount
-  value-stored i r l m =
-      let a : suc i * numbersOf (setCase s) ≤ declared s * numbersOf (setCase s) = mul-le-mul-right (numbersOf (setCase s)) l in
-      let b : suc i * numbersOf (setCase s) ≡ i * numbersOf (setCase s) + numbersOf (setCase s) = suc-mul i (numbersOf (setCase s)) in
-      omega arith
+  value-stored i r l m = value-number i r (numbersOf (setCase s)) (declared s) l m
 
   -- a value's answer, by index
   pub value-answered : (i : ℕ) → i < declared s → valueFrom bytes (p ∷ ps) i ≡ valueSaid s i
@@ -78,7 +76,9 @@ module _ {s : Set} {p : Parts.Part} (bytes : List ℕ) (ps : List Parts.Part) (w
   value-answered i l =
       let m : i < valuesIn p = rw values-held l in
       rw (lt-ltb i (valuesIn p) m, case-held h e)
-      (ap (whole (valueKind (setCase s)) []) (reads-same (realIn bytes p) (λ (j : ℕ). realOfItem (storedItem s j)) (i * numbersOf (setCase s)) (i * numbersOf (setCase s)) (numbersOf (setCase s)) (λ r q. realIn-held (i * numbersOf (setCase s) + r) (value-stored i r l q))))
+      (ap (whole (valueKind (setCase s)) [])
+      (reads-same (realIn bytes p) (λ (j : ℕ). realOfItem (storedItem s j)) (i * numbersOf (setCase s)) (i * numbersOf (setCase s)) (numbersOf (setCase s))
+      (λ r q. realIn-held (i * numbersOf (setCase s) + r) (value-stored i r l q))))
 
   pub value-past : (i : ℕ) → declared s ≤ i → valueFrom bytes (p ∷ ps) i ≡ refused 18 0
   value-past i l = let m : valuesIn p ≤ i = rw values-held l in rw (le-ltb i (valuesIn p) m) refl

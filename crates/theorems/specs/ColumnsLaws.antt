@@ -1,8 +1,9 @@
 -- The columns of a 58's numbers, as the page of theorems states them.
-use mathlib.Core.Path.{_≡_, refl}
+use mathlib.Core.Path.{_≡_, refl, sym, _∙_}
+use mathlib.Core.List.{List}
 use mathlib.Core.Logic.{⊎-elim}
-use Prim.Native.Nat.{ℕ, _+_, _*_, _<_, _≤_}
-use native.Mathlib.Nat.{div-lt-iff-lt-mul}
+use Prim.Native.Nat.{ℕ, suc, _+_, _*_, _<_, _≤_}
+use native.Mathlib.Nat.{suc-mul, mul-le-mul-right, div-lt-iff-lt-mul}
 use native.Mathlib.Omega.{arith}
 use borrow.Author.Tests.{lt-ltb}
 use Rattle.laws.specs.ChoiceLaws.{below-or-not}
@@ -11,30 +12,47 @@ use Rattle.layout.specs.ColumnsLaws.{fieldOf-inside, stored-at}
 use Rattle.layout.specs.Layout.{numbersOf}
 use Rattle.record_table.specs.TypedSets.{headerLines}
 use Rattle.theory.specs.Sets.{Set}
+use Rattle.theory.specs.Proper.{Proper}
 use Rattle.parts.specs.Parts.{Part, lineStart}
 use Rattle.parts.specs.Function.{dataStart, firstByte, pastByte}
 use Rattle.parts_laws.specs.Holds.{Holds}
-use Rattle.parts_laws.specs.DeclaredLaws.{number-held}
 use Rattle.parts_laws.specs.Declared.{declared, setCase}
+use Rattle.parts_laws.specs.DeclaredLaws.{number-held, case-held, declared-held}
 use Rattle.parts_laws.specs.Stored.{storedCount}
 use Rattle.parts_laws.specs.Whole.{Owned}
-use Rattle.theorems.specs.Columns.{Within, OfValue}
-
--- a byte's number
-pub owned-within : {p : Part} {count x : ℕ} → Owned p count x → (j : ℕ) × ((j < count) × Within p j x)
-owned-within o = (o .index, (o .some, record { from = o .from; past = o .past }))
+use Rattle.parts_laws.specs.WholeLaws.{byte-owned}
+use Rattle.parts_laws.specs.ShownLaws.{stored-shown}
+use Rattle.parts_laws.specs.OrderLaws.{columns-inside, columns-apart, first-column}
+use Rattle.parts_laws.specs.CaseLaws.{case-eight, declared-some}
+use Rattle.theorems.specs.Answers.{ownBytes}
+use Rattle.theorems.specs.Stands.{At58}
+use Rattle.theorems.specs.ListerLaws.{set-holds, set-somewhere}
+use Rattle.theorems.specs.Columns.{Columns, DataByte, Within, OfValue, OfOneValue}
 
 -- the data lines of a 58 begin at its twelfth line
-pub data-start : {s : Set} {p : Part} → Holds s p → s .number ≡ 58 → dataStart p ≡ lineStart p headerLines
+data-start : {s : Set} {p : Part} → Holds s p → s .number ≡ 58 → dataStart p ≡ lineStart p headerLines
 unfolding dataStart
 data-start h e = rw (number-held h, e) refl
 
 -- columns in the data lines
-pub inside-data : (p : Part) (a b : ℕ) {B : Type 0} → dataStart p ≡ a → (a ≤ b) × B → (dataStart p ≤ b) × B
+inside-data : (p : Part) (a b : ℕ) {B : Type 0} → dataStart p ≡ a → (a ≤ b) × B → (dataStart p ≤ b) × B
 inside-data p a b e (l, r) = (rw e l, r)
 
+-- number r of value i of so many, each of n numbers
+pub value-number : (i r n count : ℕ) → i < count → r < n → i * n + r < count * n
+value-number i r n count l m =
+    let a : suc i * n ≤ count * n = mul-le-mul-right n l in
+    omega (arith, suc-mul i n)
+
+-- is of no other value
+same-value : (n i j r t : ℕ) → r < n → t < n → i * n + r ≡ j * n + t → i ≡ j
+same-value n i j r t a b e =
+    ⊎-elim (λ (h : i < j). absurd (omega (arith, value-number i r n j h a)))
+    (λ (h : j ≤ i). ⊎-elim (λ (g : j < i). absurd (omega (arith, value-number j t n i g b))) (λ (g : i ≤ j). omega arith) (below-or-not j i))
+    (below-or-not i j)
+
 -- columns that stand apart share no byte
-pub within-once : (p : Part) (count : ℕ) → ((i j : ℕ) → i < j → j < count → pastByte p i ≤ firstByte p j)
+within-once : (p : Part) (count : ℕ) → ((i j : ℕ) → i < j → j < count → pastByte p i ≤ firstByte p j)
     → (x i j : ℕ) → i < count → j < count → Within p i x → Within p j x → i ≡ j
 within-once p count apart x i j a b v w =
     ⊎-elim (λ (h : i < j). absurd (omega (arith, apart i j h b, v .past, w .from)))
@@ -51,15 +69,52 @@ numbersOf-some : (c : ℕ) → c < 8 → 0 < numbersOf c
 unfolding numbersOf
 numbersOf-some c h = rw (lt-ltb c 8 h) (omega arith)
 
-pub of-value : (s : Set) (p : Part) (x j : ℕ) → setCase s < 8 → j < storedCount s → Within p j x → OfValue s p x
+of-value : (s : Set) (p : Part) (x : ℕ) → setCase s < 8 → Owned p (storedCount s) x → OfValue s p x
 unfolding storedCount
-of-value s p x j c l w =
+of-value s p x c o =
+    let j : ℕ = o .index in
     let n : 0 < numbersOf (setCase s) = numbersOf-some (setCase s) c in
     let q : lineOf (numbersOf (setCase s)) j * numbersOf (setCase s) + fieldOf (numbersOf (setCase s)) j ≡ j = stored-at (numbersOf (setCase s)) j in
     record {
       value = lineOf (numbersOf (setCase s)) j;
-      some = value-below (numbersOf (setCase s)) (declared s) j n l;
+      some = value-below (numbersOf (setCase s)) (declared s) j n (o .some);
       number = fieldOf (numbersOf (setCase s)) j;
       few = fieldOf-inside (numbersOf (setCase s)) j n;
-      within = rw q w;
+      within = rw q (record { from = o .from; past = o .past });
     }
+
+-- two values that have a byte are the same one
+one-value : (s : Set) (p : Part) (x : ℕ) → ((i j : ℕ) → i < j → j < storedCount s → pastByte p i ≤ firstByte p j) → (a b : OfValue s p x) → a .value ≡ b .value
+unfolding storedCount
+one-value s p x apart a b =
+    let n : ℕ = numbersOf (setCase s) in
+    let below : (o : OfValue s p x) → o .value * n + o .number < declared s * n = λ o. value-number (o .value) (o .number) n (declared s) (o .some) (o .few) in
+    same-value n (a .value) (b .value) (a .number) (b .number) (a .few) (b .few)
+    (within-once p (storedCount s) apart x _ _ (below a) (below b) (a .within) (b .within))
+
+-- a 58 of the list, as it stands
+module _ {sets : List Set} {bytes : List ℕ} (p : Proper sets bytes) {k : ℕ} {s : Set} {q : Part} (a : At58 sets bytes k s q) where
+  holds : Holds s q
+  holds = set-holds p (a .at)
+
+  pub values-in-columns : Columns bytes s q
+  unfolding ownBytes
+  values-in-columns =
+      let start = data-start holds (a .number) in
+      record {
+        count = declared-held holds;
+        some = declared-some (holds .lines) (a .number);
+        case = case-held holds (a .number);
+        eight = case-eight (holds .lines) (a .number);
+        spelled = stored-shown bytes (a .at .others) (set-somewhere p (a .at)) holds (a .number);
+        begins = first-column q ∙ sym start;
+        inside = λ j l. inside-data q _ _ start (columns-inside holds (a .number) j l);
+        apart = columns-apart holds (a .number);
+      }
+
+  pub bytes-of-values : (x : ℕ) → DataByte bytes q x → OfOneValue s q x
+  bytes-of-values x d =
+      let start = data-start holds (a .number) in
+      let owned = byte-owned bytes (a .at .others) (set-somewhere p (a .at)) holds (a .number) x (rw start at (d .from)) (d .past) (d .no-blank) (d .no-lf) (d .no-cr) in
+      let o = of-value s q x (case-eight (holds .lines) (a .number)) owned in
+      record { of = o; only = λ other. one-value s q x (columns-apart holds (a .number)) other o }

@@ -10,7 +10,6 @@ use Rattle.header.specs.Header.{headerOf}
 use Rattle.parts.specs.Parts.{Part, partsOf}
 use Rattle.rewriter_laws.specs.RewritingLaws.{rewritten-proper, rewritten-form, rewritten-same}
 use Rattle.rewriter_laws.specs.Form.{InForm}
-use Rattle.writer.specs.Writer.{writtenSet}
 use Rattle.writer_laws.specs.HeaderRun.{Passed}
 use Rattle.writer_laws.specs.DataLines.{lentFile}
 use Rattle.writer_laws.specs.DataRun.{AllFit}
@@ -23,7 +22,7 @@ use Rattle.field.specs.Item.{Item}
 use Rattle.parts_laws.specs.Stored.{storedItem}
 use Rattle.writer_laws.specs.Back.{Back}
 use Rattle.theorems.specs.Answers.{Answered}
-use Rattle.theorems.specs.LaidOut.{LaidOut, ReadAs}
+use Rattle.theorems.specs.LaidOut.{writtenText, LaidOut, ReadAs}
 
 -- the one set of a file of one part
 record OneSet (sets : List Set) (p : Part) : Type 0 where
@@ -49,8 +48,8 @@ module _ (header : List ℕ) (p : Passed header) (xs ss : List ℤ) (stored : le
       let o : OneSet sets (lentPart header p xs ss stored fit) = one-set (lentPart header p xs ss stored fit) s (lent-parts header p xs ss stored fit) in
       let l : Proper (o .set ∷ []) (lentFile header (headerOf header .case) xs ss) = rw (o .only) at q in
       let e = lent-rewritten header p xs ss stored fit in
-      let w : Proper (o .set ∷ []) (writtenSet header (headerOf header .case) xs ss) = rw e at (rewritten-proper l) in
-      let f : InForm (o .set ∷ []) (writtenSet header (headerOf header .case) xs ss) = rw e at (rewritten-form l) in
+      let w : Proper (o .set ∷ []) (writtenText header xs ss) = rw e at (rewritten-proper l) in
+      let f : InForm (o .set ∷ []) (writtenText header xs ss) = rw e at (rewritten-form l) in
       record {
         set = o .set;
         number = set-number header p xs ss stored fit (o .set) (o .holds);

@@ -21,6 +21,7 @@ use Rattle.theory.specs.Sets.{Set}
 use Rattle.theory.specs.Proper.{Inside, BlankLines, PlainLines, SetLines, Lines}
 use Rattle.theorems.specs.ListReader.{Reading, outside, number, plain, typed, closed, opened, readLine, readLines}
 use Rattle.line_laws.specs.LineTestsLaws.{blankLine-complete, inside-complete}
+use Rattle.theorems.specs.RowFitsLaws.{rowDue-grouped}
 use Rattle.theorems.specs.TypedRun.{TypedRun}
 use Rattle.theorems.specs.TypedRunLaws.{typedLines-run}
 
@@ -59,7 +60,7 @@ plain-line acc v c t cs i n = rw (inside-complete cs n, trimmed-complete i) refl
 typed-line : (acc : List Set) (v : ℕ) (c : List (List Item)) (d : Due) (is : List Item) (cs : List ℕ) → mayContinue d ≡ true
     → Written (rowDue d) is (filled cs) → Inside cs → readLine (typed acc v c d) cs ≡ typed acc v (c ++ (is ∷ [])) (afterItems d is)
 typed-line acc v c d is cs k w n =
-    let o = written-complete (filled cs) (filled-length cs) (rowDue d) is w in
+    let o = written-complete (filled cs) (filled-length cs) (rowDue d) is (rowDue-grouped d) w in
     rw (inside-complete cs n, k, o .0, o .1) refl
 
 module _ (acc : List Set) (v : ℕ) (last : List ℕ) (later : List (List ℕ)) (e : Delimiter (filled last)) where

@@ -13,7 +13,7 @@ use Rattle.line.specs.Line.{columns, firstBad, lineFault, refusal, passed}
 use Rattle.line.specs.declared.Refusal.{Refusal}
 use Rattle.walk.specs.declared.Outcome.{Outcome}
 use Rattle.judge.specs.declared.Reply.{Reply}
-use Rattle.judge.specs.Judge.{reply, lineStep, Run, going, refused, onOutcome}
+use Rattle.judge.specs.Judge.{replyAt, lineStep, Run, going, refused, onOutcome}
 use Rattle.line_laws.specs.Ends.{AllPass}
 use Rattle.theorems.specs.ListReader.{Reading, readLine, readLines}
 use Rattle.theorems.specs.ListReaderSoundLaws.{bad-stays}
@@ -79,7 +79,7 @@ module _ (l : List ℕ) (ls : List (List ℕ)) (r : Reading) (k : ℕ) where
   ran-line s next zero e =
       let p : lineFault true (columns true l) ≡ passed = lineFault-zero true (columns true l) e in
       ran-more p (rw p (ran-agrees ls k (step-image r (columns true l) s) next))
-  ran-line s next (suc n) e = rw (e, runOver-refused) (Ran.stopped {p = reply (suc n) (k + 1)} (omega arith) (λ a. fails (allPass-first a)))
+  ran-line s next (suc n) e = rw (e, runOver-refused) (Ran.stopped {p = replyAt (suc n) (k + 1) (lineFault true (columns true l) .column)} (omega arith) (λ a. fails (allPass-first a)))
     where
       fails : {A : Type 0} → lineFault true (columns true l) ≡ passed → A
       fails p = let z : suc n ≡ 0 = sym e ∙ ap (λ (f : Refusal). f .number) p in absurd (omega arith)

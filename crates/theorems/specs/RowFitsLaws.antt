@@ -1,4 +1,4 @@
--- The row that is due in a typed set fits the line's 80 columns.
+-- The row that is due in a typed set fits the line's 80 columns, and its fields that may be left blank lie side by side.
 use mathlib.Core.Path.{_≡_, refl, ap}
 use mathlib.Core.Bool.{Bool, true}
 use mathlib.Core.List.{List, [], _∷_, map}
@@ -18,6 +18,8 @@ use Rattle.record_table.specs.Row.{Field, Row, firstFields}
 use Rattle.record_table.specs.Records.{E, records, recordOf, dataRow, noRecord}
 use Rattle.record_table.specs.TabledLaws.{recordOf-past}
 use Rattle.record.specs.CheckLaws.{total-take}
+use Rattle.record_laws.specs.Group.{Grouped}
+use Rattle.record_laws.specs.RowGroupLaws.{recordOf-grouped, dataRow-grouped, first-grouped}
 use Rattle.walk.specs.Due.{rowDue}
 use Rattle.walk.specs.DueLaws.{rowDue-is}
 use Rattle.walk.specs.declared.Due.{Due}
@@ -64,3 +66,8 @@ cut-fits n r h = rw (widths-take n (r .fields)) (le-trans (total-take (widths (r
 pub rowDue-fits : (d : Due) → total (map (λ (f : Field). f .width) (rowDue d .fields)) ≤ 80
 rowDue-fits d =
     rowDue-is Fits recordOf-fits (λ n k. cut-fits n (recordOf k) (recordOf-fits k)) (λ n c. cut-fits n (dataRow c) (dataRow-fits c)) d
+
+pub rowDue-grouped : (d : Due) → Grouped (rowDue d .fields)
+rowDue-grouped d =
+    rowDue-is (λ (r : Row). Grouped (r .fields)) recordOf-grouped (λ n k. first-grouped n (recordOf k) (recordOf-grouped k))
+    (λ n c. first-grouped n (dataRow c) (dataRow-grouped c)) d

@@ -9,9 +9,9 @@ use Rattle.record.specs.Written.{Written}
 use Rattle.record_laws.specs.LineReadingLaws.{written-sound}
 use Rattle.walk.specs.Due.{rowDue}
 use Rattle.walk.specs.declared.Due.{Due}
-use Rattle.theorems.specs.RowFitsLaws.{rowDue-fits}
+use Rattle.theorems.specs.RowFitsLaws.{rowDue-fits, rowDue-grouped}
 
 -- what the row due takes is written by it
 pub rowDue-sound : (d : Due) (cs : List ℕ) → rowRefusal (rowDue d) (filled cs) .number ≡ 0
     → Written (rowDue d) (itemsOf (rowDue d .fields) 0 (filled cs)) (filled cs)
-rowDue-sound d cs h = written-sound (filled cs) (filled-length cs) (rowDue d) (rowDue-fits d) h
+rowDue-sound d cs h = written-sound (filled cs) (filled-length cs) (rowDue d) (rowDue-fits d) (rowDue-grouped d) h

@@ -1,384 +1,340 @@
--- The theorems. A file is a list of bytes; `judged` (crates/judge) is the judge's reply, number and place, which the code is proved to
--- give for every file; `Proper` (crates/theory) says, from a list of sets alone, which files are proper writings of it.
-use mathlib.Core.Path.{_≡_, refl, sym, ap, subst, _∙_}
-use mathlib.Core.Bool.{true}
+-- THE PAGE OF THEOREMS: the three demands, C-11 and C-14, sentence by sentence, each with the theorems that carry it; what is proved stands in the files that
+-- they cite. A file is a list of bytes. Every call is proved to answer, for all bytes and numbers, by definitions that are named here, in its `ensures`
+-- (crates/host/src/lib.rt); `judged` is the judge's reply, and `Proper sets bytes` says from a list of sets alone that a text is a proper writing of it.
+use mathlib.Core.Path.{_≡_}
+use mathlib.Core.Bool.{true, false}
 use mathlib.Core.List.{List, [], _∷_, _++_, map}
-use Prim.Native.Nat.{ℕ, suc, _+_, _*_, _-_, _<_, _≤_}
-use native.Mathlib.Omega.{arith}
-use borrow.Author.Tests.{le-ltb, ne-eqb}
-use lib.Ieee.{Float}
+use mathlib.Core.Logic.{_⊎_}
+use Prim.Native.Nat.{ℕ, suc, _+_, _*_, _^_, _-_, _<_, _≤_}
+use lib.Ieee.{Float, binary64, round}
 use lib.IntN.{ℤ, pos}
-use lib.ListN.{length, getD, take, drop, drop-of-length-le}
+use lib.ListN.{length, getD, take, drop}
 use Rattle.laws.specs.Cut.{cut}
-use Rattle.line.specs.Line.{columns}
 use Rattle.real.specs.Real.{realOf}
+use Rattle.exact.specs.Exact.{magnitudeOf}
 use Rattle.exact.specs.Bits.{bitsOf}
 use Rattle.layout.specs.Layout.{numbersOf}
+use Rattle.line.specs.declared.Refusal.{Refusal}
+use Rattle.record_table.specs.TypedSets.{headerLines}
 use Rattle.judge.specs.declared.Reply.{Reply}
-use Rattle.judge.specs.Judge.{judged, reply}
-use Rattle.parts.specs.Parts as Parts
-use Rattle.parts.specs.Parts.{partsOf}
-use Rattle.parts.specs.Function as Function
-use Rattle.parts.specs.Set.{Somewhere}
-use Rattle.parts.specs.SetLaws.{somewhere}
-use Rattle.lister.specs.Lister.{rowsOf, listReply, listRows}
-use Rattle.reader.specs.Reader.{said, refused, setsFrom, shownOf, storedNumber, valueKind, valueOf, valueWith}
-use Rattle.reader.specs.ReaderLaws.{start-most}
+use Rattle.judge.specs.Judge.{judged, reply, replyAt, atLine}
+use Rattle.parts.specs.Parts.{Part, partsOf, datasetOf, pastOf}
+use Rattle.parts.specs.Function.{countOf, dataStart, firstByte, pastByte}
+use Rattle.reader.specs.Reader.{said, refused, shownOf, storedNumber, valueOf, valueWith}
 use Rattle.values.specs.Values.{allValues, allReply, allPlaces}
-use Rattle.rewriter.specs.Rewriter.{rewrittenFile, rewriteReply, rewriteOut}
-use Rattle.rewriter_laws.specs.Form.{InForm, KeepsSpellings}
-use Rattle.rewriter_laws.specs.RewritingLaws.{rewritten-proper, rewritten-form, rewritten-keeps, rewritten-only, rewritten-same}
+use Rattle.rewriter.specs.Rewriter.{headText, rewrittenFile, rewriteReply, rewriteOut}
 use Rattle.header.specs.Header.{headerOf}
-use Rattle.writer.specs.Writer.{writtenSet, writeReply, writeOut}
-use Rattle.writer_laws.specs.DataLines.{lentFile}
-use Rattle.writer_laws.specs.HeaderRunLaws.{header-passed}
-use Rattle.writer_laws.specs.LentLaws.{lent-accepted}
-use Rattle.writer_laws.specs.Reply.{Coefficients, Answered}
-use Rattle.writer_laws.specs.ReplyLaws.{answered, answered-fit}
-use Rattle.parts_laws.specs.Holds.{AtPlaces}
-use Rattle.parts_laws.specs.HoldsLaws.{lines-stand}
-use Rattle.parts_laws.specs.Text.{linesOf}
-use Rattle.parts_laws.specs.TextLaws.{part-bytes}
-use Rattle.parts_laws.specs.Declared.{declared, setCase, Found}
-use Rattle.parts_laws.specs.DeclaredLaws.{number-held, declared-held, all-held, as-many, stand-at}
-use Rattle.parts_laws.specs.Stored.{storedCount, storedItem}
-use Rattle.parts_laws.specs.OrderLaws.{columns-inside, columns-apart, first-column}
-use Rattle.parts_laws.specs.CaseLaws.{case-eight, declared-some, declared-most}
-use Rattle.parts_laws.specs.WholeLaws.{byte-owned}
+use Rattle.writer.specs.Writer.{writeReply, writeOut}
+use Rattle.stream.specs.declared.Stream.{Stream}
+use Rattle.stream.specs.declared.Answer.the-variants.{SoFar, Refused}
+use Rattle.stream.specs.Stream.{seen, Stepped, answerOf, paper, endReply, closed, freshRecord}
+use Rattle.stream_c.specs.Lent.{isShort, streamOf, startReply, startNumbers, startLine, endOf, endNumbers, Untouched, Burst, same}
+use Rattle.lister.specs.Lister.{rowsOf, listReply, listRows}
+use Rattle.host.specs.Packed.{InWord, word, numberIn}
+use Rattle.host.specs.Answer.{numberAnswer, valueAnswer, replyFor, bytesAfter}
 use Rattle.theory.specs.Sets.{Set}
-use Rattle.theory.specs.Proper.{Ended, Proper}
-use Rattle.line_laws.specs.Ends.{CutInto, joined}
-use Rattle.line_laws.specs.EndsLaws.{ended-complete, ended-sound}
-use Rattle.theorems.specs.ListReader.{outside, readLines}
-use Rattle.line_laws.specs.ShortLaws.{ended-short}
-use Rattle.theorems.specs.ListReaderCompleteLaws.{reader-complete}
-use Rattle.theorems.specs.ListReaderSoundLaws.{reader-sound}
-use Rattle.theorems.specs.Answers as Answers
-use Rattle.theorems.specs.Answers.{realOfItem, valueSaid, allSaid, ownBytes}
-use Rattle.theorems.specs.AnswersLaws.{value-own, valueWith-same, number-answered, number-past, number-other, number-asked, value-answered, value-past, value-other, value-asked, all-by-list, all-asked, all-other, said-each, said-refused, item-own, real-same}
-use Rattle.theorems.specs.Columns.{Columns, OfValue}
-use Rattle.theorems.specs.ColumnsLaws.{owned-within, data-start, inside-data, within-once, of-value}
-use Rattle.theorems.specs.LaidOut.{LaidOut, ReadAs}
-use Rattle.theorems.specs.LaidOutLaws.{laid-out, read-as}
-use Rattle.theorems.specs.Accepted.{Accepted}
-use Rattle.theorems.specs.AcceptedLaws.{judged-accepted, accepted-judged}
+use Rattle.theory.specs.Proper.{Proper}
+use Rattle.line_laws.specs.Ends as Ends
+use Rattle.parts_laws.specs.Holds.{AtPlaces}
+use Rattle.parts_laws.specs.Text.{linesOf}
+use Rattle.parts_laws.specs.Declared.{declared, setCase}
+use Rattle.parts_laws.specs.Stored.{storedCount, storedItem}
+use Rattle.rewriter_laws.specs.Form.{InForm, KeepsSpellings}
+use Rattle.writer_laws.specs.Reply.{Coefficients}
+use Rattle.writer_laws.specs.HeaderRefused.{twelfthFault}
+use Rattle.walk_laws.specs.Fault.{InLine}
+use Rattle.walk_laws.specs.FileFault.{FileFault, Judged}
+use Rattle.stream_laws.specs.Streaming.{burstAnswer, joined, Bursts}
+use Rattle.stream_laws.specs.Calls.{Calls}
+use Rattle.theorems.specs.Table.{InTable, Replied, CallsInTable}
+use Rattle.theorems.specs.Stands.{SetAt, At58}
+use Rattle.theorems.specs.Answers.{Answered, NoSuch, AsJudged, InTurn, Filled, valueSaid, allSaid, ownBytes}
+use Rattle.theorems.specs.Columns.{Columns, DataByte, OfOneValue}
+use Rattle.theorems.specs.Alone.{aloneIn, setsAlone, together, Alone}
+use Rattle.theorems.specs.LaidOut.{writtenText, LaidOut, ReadAs}
+use Rattle.exact.specs.ExactLaws as ExactLaws
+use Rattle.writer_laws.specs.HeaderRefusedLaws as HeaderRefusedLaws
+use Rattle.walk_laws.specs.FaultColumnLaws as FaultColumnLaws
+use Rattle.walk_laws.specs.FileFaultLaws as FileFaultLaws
+use Rattle.stream_laws.specs.StreamingLaws as StreamingLaws
+use Rattle.stream_laws.specs.CallsLaws as CallsLaws
+use Rattle.theorems.specs.TableLaws as TableLaws
+use Rattle.theorems.specs.TableCallsLaws as TableCallsLaws
+use Rattle.theorems.specs.JudgeLaws as JudgeLaws
+use Rattle.theorems.specs.ListerLaws as ListerLaws
+use Rattle.theorems.specs.ColumnsLaws as ColumnsLaws
+use Rattle.theorems.specs.ReaderLaws as ReaderLaws
+use Rattle.theorems.specs.ValuesLaws as ValuesLaws
+use Rattle.theorems.specs.RewriterLaws as RewriterLaws
+use Rattle.theorems.specs.AloneLaws as AloneLaws
+use Rattle.theorems.specs.WriterLaws as WriterLaws
+use Rattle.theorems.specs.KeptLaws as KeptLaws
+use Rattle.theorems.specs.ArrivalLaws as ArrivalLaws
 
--- the columns of a file's lines
-abbrev lines : List ℕ → List (List ℕ)
-lines bytes = map (columns true) (cut bytes .lines)
+-- DEMAND 1. "Every call takes every string of bytes and every number, and ends.": what each answers is proved for all of them.
+-- "A bad file or a bad question gets a number from document 01's table, with the line where the table says so."
+pub judge-table : (bytes : List ℕ) → InTable (length (cut bytes .lines)) (judged bytes)
+judge-table = TableLaws.judge-table
 
--- what is accepted is proper
-accepted-by : (bytes : List ℕ) (n : ℕ) → Accepted bytes n → (sets : List Set) × Proper sets bytes
-accepted-by bytes n a =
-    let e : Ended (lines bytes) bytes = ended-sound bytes (a .ended) (a .pass) in
-    let r = reader-sound (lines bytes) (a .sets) (ended-short e) (a .read) in
-    (a .sets, record { columns = lines bytes; ends = e; lines = r .0; some = a .some; most = r .1; short = a .short })
+pub judge-first : (bytes : List ℕ) → 0 < judged bytes .number → (k i room : ℕ) → AsJudged bytes k i room
+judge-first = ReaderLaws.judge-first
 
--- what is proper is read as its list
-proper-read : {sets : List Set} {bytes : List ℕ} → Proper sets bytes → readLines (outside []) (lines bytes) ≡ outside sets
-proper-read {sets} {bytes} p =
-    let c : CutInto (p .columns) bytes = ended-complete (p .ends) in
-    rw (c .same) (reader-complete [] (p .lines) (omega (arith, p .most)))
+pub calls-table : (bytes : List ℕ) (k i room : ℕ) → CallsInTable bytes k i room
+calls-table = TableCallsLaws.calls-table
 
--- SOUND: an accepted file is a proper writing of some list of sets.
-pub accepted-proper : (bytes : List ℕ) (n : ℕ) → judged bytes ≡ reply 0 n → (sets : List Set) × Proper sets bytes
-accepted-proper bytes n h = accepted-by bytes n (judged-accepted bytes n h)
+pub writer-table : (header : List ℕ) (xs ss : List ℤ) (room : ℕ) → Replied (writeReply header xs ss room)
+writer-table = TableCallsLaws.writer-table
 
--- COMPLETE: a proper writing of a list of sets is accepted, at its last line.
-pub proper-accepted : {sets : List Set} {bytes : List ℕ} → Proper sets bytes → judged bytes ≡ reply 0 (length (cut bytes .lines))
-proper-accepted {sets} {bytes} p =
-    let c : CutInto (p .columns) bytes = ended-complete (p .ends) in
-    accepted-judged bytes (length (cut bytes .lines))
-    (record { short = p .short; ended = c .ended; pass = c .pass; lines = refl; sets = sets; read = proper-read p; some = p .some })
+-- a set by its number from 1, a stored number or a value by its index from 0
+module _ {sets : List Set} {bytes : List ℕ} (p : Proper sets bytes) where
+  pub reader-no-set : (k i : ℕ) → (k ≡ 0) ⊎ (length sets < k) → NoSuch bytes k i
+  reader-no-set = ReaderLaws.reader-no-set p
 
--- UNIQUE: no file is a proper writing of two lists.
-pub proper-unique : {a b : List Set} {bytes : List ℕ} → Proper a bytes → Proper b bytes → a ≡ b
-proper-unique {a} {b} p q = let e : outside a ≡ outside b = sym (proper-read p) ∙ proper-read q in cc
+  pub reader-not-58 : {k : ℕ} {s : Set} {q : Part} → SetAt sets bytes k s q → (s .number ≡ 58 → ⊥) → (i : ℕ) → NoSuch bytes (suc k) i
+  reader-not-58 = ReaderLaws.reader-not-58 p
 
--- LISTER. The sets of the list stand in the file in order, each as a part of it: its opening line and first byte, its own lines between its
--- number line and its closing delimiter, and the byte past its closing line are the part's (crates/parts_laws/specs/Holds.antt).
-pub lister-places : {sets : List Set} {bytes : List ℕ} → Proper sets bytes → AtPlaces 0 0 sets (partsOf bytes) (cut bytes .lines)
-unfolding partsOf
-lister-places {sets} {bytes} p =
-    let c : CutInto (p .columns) bytes = ended-complete (p .ends) in
-    lines-stand (p .lines) (ended-short (p .ends)) 0 0 (cut bytes .lines) (c .same)
+  pub reader-past : {k : ℕ} {s : Set} {q : Part} → At58 sets bytes k s q → (i : ℕ)
+      → (storedCount s ≤ i → storedNumber bytes (suc k) i ≡ refused 18 0) × (declared s ≤ i → valueOf bytes (suc k) i ≡ refused 18 0)
+  reader-past = ReaderLaws.reader-past p
 
--- The bytes from a part's first to the byte past its closing line are its lines: a delimiter, the number line, its own, a delimiter, each with its LF.
-pub lister-bytes : {sets : List Set} {bytes : List ℕ} → Proper sets bytes → (k : ℕ) (q : Parts.Part) (qs : List Parts.Part) → drop k (partsOf bytes) ≡ q ∷ qs
-    → take (Parts.pastOf q - q .bytes) (drop (q .bytes) bytes) ≡ joined (linesOf q) []
-lister-bytes {bytes = bytes} p k q qs e = part-bytes bytes k q qs (lister-places p) e
+-- "A refused call alters no byte of a buffer lent to it."
+pub lister-kept : (bytes rows : List ℕ) → 0 < listReply bytes (length rows) .number → listRows bytes rows ≡ rows
+lister-kept = KeptLaws.lister-kept
 
--- It answers the number of sets of the list, and its rows are those parts', set by set.
-pub lister-answers : {sets : List Set} {bytes : List ℕ} → Proper sets bytes → (rows : List ℕ) → 6 * length sets ≤ length rows
-    → (listReply bytes (length rows) ≡ reply 0 (length sets)) × (listRows bytes rows ≡ rowsOf (partsOf bytes) ++ drop (6 * length sets) rows)
-unfolding listReply listRows
-lister-answers {sets} {bytes} p rows h =
-    let n : length (partsOf bytes) ≡ length sets = as-many (lister-places p) in
-    (rw (proper-accepted p, n, le-ltb (length rows) (6 * length sets) h) refl, rw (proper-accepted p, n, le-ltb (length rows) (6 * length sets) h) refl)
+pub number-kept : (bytes : List ℕ) (k j : ℕ) (out : List ℕ)
+    → 0 < numberIn (replyFor (numberAnswer (storedNumber bytes k j)) (length out)) → bytesAfter (numberAnswer (storedNumber bytes k j)) out ≡ out
+number-kept = KeptLaws.number-kept
 
--- The dataset numbers and the declared counts in its rows are the list's, in order.
-pub lister-numbers : {sets : List Set} {bytes : List ℕ} → Proper sets bytes
-    → (map Parts.datasetOf (partsOf bytes) ≡ map (λ (s : Set). s .number) sets) × (map Function.countOf (partsOf bytes) ≡ map declared sets)
-lister-numbers p =
-    (all-held (λ (s : Set). s .number) Parts.datasetOf (λ s q h. number-held h) (lister-places p), all-held declared Function.countOf (λ s q h. declared-held h) (lister-places p))
+pub value-kept : (bytes : List ℕ) (k i : ℕ) (out : List ℕ)
+    → 0 < numberIn (replyFor (valueAnswer (valueOf bytes k i)) (length out)) → bytesAfter (valueAnswer (valueOf bytes k i)) out ≡ out
+value-kept = KeptLaws.value-kept
 
--- set k of the list, from 0, as it stands in the file
-set-found : {sets : List Set} {bytes : List ℕ} → Proper sets bytes → (k : ℕ) (s : Set) (rest : List Set) → drop k sets ≡ s ∷ rest → Found (partsOf bytes) k s
-set-found p k s rest e = stand-at k s rest (lister-places p) e
-
-set-somewhere : (bytes : List ℕ) (k : ℕ) (s : Set) (f : Found (partsOf bytes) k s) → Somewhere bytes (f .part) (f .others)
-unfolding partsOf
-set-somewhere bytes k s f = somewhere bytes k 0 0 (partsOf bytes) (f .part) (f .others) (omega arith) refl (f .sets)
-
-accepted-zero : {sets : List Set} {bytes : List ℕ} → Proper sets bytes → judged bytes .number ≡ 0
-accepted-zero p = ap (λ (r : Reply). r .number) (proper-accepted p)
-
--- COLUMNS. In each 58 the declared count of values is there: the numbers they store stand each in its own columns, in order, apart, inside
--- the delimiters, and every byte of the data lines that is no blank and no line's end belongs to exactly one of them.
-pub values-in-columns : {sets : List Set} {bytes : List ℕ} → Proper sets bytes → (k : ℕ) (s : Set) (rest : List Set) → drop k sets ≡ s ∷ rest → s .number ≡ 58
-    → Columns bytes k s
-values-in-columns {sets} {bytes} p k s rest d e =
-    let f = set-found p k s rest d in
-    let w = set-somewhere bytes k s f in
-    record {
-      part = f .part;
-      others = f .others;
-      place = f .sets;
-      case = case-eight (f .holds .lines) e;
-      some = declared-some (f .holds .lines) e;
-      begins = first-column (f .part) ∙ sym (data-start (f .holds) e);
-      inside = λ j l. inside-data (f .part) _ _ (data-start (f .holds) e) (columns-inside (f .holds) e j l);
-      apart = columns-apart (f .holds) e;
-      owned = λ x a b c l r. owned-within (byte-owned bytes (f .others) w (f .holds) e x (rw (data-start (f .holds) e) at a) b c l r);
-      once = within-once (f .part) (storedCount s) (columns-apart (f .holds) e);
-    }
-
--- Such a byte belongs to a value that is declared.
-pub bytes-of-values : {bytes : List ℕ} {k : ℕ} {s : Set} (c : Columns bytes k s) (x : ℕ) → Function.dataStart (c .part) ≤ x → x < Parts.closingStart (c .part)
-    → (getD bytes x 0 ≡ 32 → ⊥) → (getD bytes x 0 ≡ 10 → ⊥) → (getD bytes x 0 ≡ 13 → ⊥) → OfValue s (c .part) x
-bytes-of-values {s = s} c x a b u v w = let o = c .owned x a b u v w in of-value s (c .part) x (o .0) (c .case) (o .1 .0) (o .1 .1)
-
--- the part is the one that was found
-same-part : {bytes : List ℕ} {k : ℕ} {s : Set} (f : Found (partsOf bytes) k s) (c : Columns bytes k s) → f .part ≡ c .part
-same-part f c = let q : f .part ∷ f .others ≡ c .part ∷ c .others = sym (f .sets) ∙ c .place in cc
-
--- READER. Stored number j of set k of the list, a 58: its answer shows its own columns and the sign, coefficient and scale of the list's item,
--- and the bytes of those columns spell just that.
-pub reader-numbers : {sets : List Set} {bytes : List ℕ} → Proper sets bytes → (k : ℕ) (s : Set) (rest : List Set) → drop k sets ≡ s ∷ rest → s .number ≡ 58
-    → (c : Columns bytes k s) (j : ℕ) → j < storedCount s → Answers.Answered bytes (suc k) j s (c .part)
-unfolding setsFrom
-reader-numbers {sets} {bytes} p k s rest d e c j l =
-    let f = set-found p k s rest d in
-    let w = set-somewhere bytes k s f in
-    let x = item-own bytes (f .others) w (f .holds) e j l .0 in
-    let a : storedNumber bytes (suc k) j ≡ shownOf (Function.firstByte (f .part) j) (Function.pastByte (f .part) j) (realOfItem (storedItem s j))
-    = number-asked bytes (suc k) j (accepted-zero p) ∙ rw (f .sets) (number-answered bytes (f .others) w (f .holds) e j l) in
-    subst (Answers.Answered bytes (suc k) j s) (same-part f c)
-    (record {
-      sign = x .minus;
-      coefficient = x .coefficient;
-      scale = x .scale;
-      answer = a ∙ rw (x .item) refl;
-      item = x .item;
-      spelled = x .spelling;
-    })
-
--- A value of it is what the reader's rule makes of its numbers in the list.
-pub reader-values : {sets : List Set} {bytes : List ℕ} → Proper sets bytes → (k : ℕ) (s : Set) (rest : List Set) → drop k sets ≡ s ∷ rest → s .number ≡ 58
-    → (i : ℕ) → i < declared s → valueOf bytes (suc k) i ≡ valueSaid s i
-unfolding setsFrom
-reader-values {sets} {bytes} p k s rest d e i l =
-    let f = set-found p k s rest d in
-    value-asked bytes (suc k) i (accepted-zero p) ∙ rw (f .sets) (value-answered bytes (f .others) (set-somewhere bytes k s f) (f .holds) e i l)
-
--- Any other question is 18: no such set, a set that is no 58, an index past its numbers or values.
-pub reader-set-0 : {sets : List Set} {bytes : List ℕ} → Proper sets bytes → (i : ℕ) → (storedNumber bytes 0 i ≡ refused 18 0) × (valueOf bytes 0 i ≡ refused 18 0)
-unfolding setsFrom
-reader-set-0 {sets} {bytes} p i = (number-asked bytes 0 i (accepted-zero p), value-asked bytes 0 i (accepted-zero p))
-
--- past the last set
-no-parts : {sets : List Set} {bytes : List ℕ} → Proper sets bytes → (k : ℕ) → length sets ≤ k → drop k (partsOf bytes) ≡ []
-no-parts {sets} {bytes} p k h =
-    let n : length (partsOf bytes) ≡ length sets = as-many (lister-places p) in
-    let m : length (partsOf bytes) ≤ k = omega arith in
-    drop-of-length-le (partsOf bytes) m
-
-pub reader-no-set : {sets : List Set} {bytes : List ℕ} → Proper sets bytes → (k i : ℕ) → length sets ≤ k
-    → (storedNumber bytes (suc k) i ≡ refused 18 0) × (valueOf bytes (suc k) i ≡ refused 18 0)
-unfolding setsFrom
-reader-no-set {sets} {bytes} p k i h =
-    let d : drop k (partsOf bytes) ≡ [] = no-parts p k h in
-    (number-asked bytes (suc k) i (accepted-zero p) ∙ rw d refl, value-asked bytes (suc k) i (accepted-zero p) ∙ rw d refl)
-
-pub reader-not-58 : {sets : List Set} {bytes : List ℕ} → Proper sets bytes → (k : ℕ) (s : Set) (rest : List Set) → drop k sets ≡ s ∷ rest → (s .number ≡ 58 → ⊥)
-    → (i : ℕ) → (storedNumber bytes (suc k) i ≡ refused 18 0) × (valueOf bytes (suc k) i ≡ refused 18 0)
-unfolding setsFrom
-reader-not-58 {sets} {bytes} p k s rest d n i =
-    let f = set-found p k s rest d in (
-      number-asked bytes (suc k) i (accepted-zero p) ∙ rw (f .sets) (number-other bytes (f .others) (f .holds) n i),
-      value-asked bytes (suc k) i (accepted-zero p) ∙ rw (f .sets) (value-other bytes (f .others) (f .holds) n i),
-    )
-
-pub reader-past : {sets : List Set} {bytes : List ℕ} → Proper sets bytes → (k : ℕ) (s : Set) (rest : List Set) → drop k sets ≡ s ∷ rest → s .number ≡ 58
-    → (i : ℕ) → (storedCount s ≤ i → storedNumber bytes (suc k) i ≡ refused 18 0) × (declared s ≤ i → valueOf bytes (suc k) i ≡ refused 18 0)
-unfolding setsFrom
-reader-past {sets} {bytes} p k s rest d e i =
-    let f = set-found p k s rest d in
-    let w = set-somewhere bytes k s f in (
-      λ l. number-asked bytes (suc k) i (accepted-zero p) ∙ rw (f .sets) (number-past bytes (f .others) w (f .holds) e i l),
-      λ l. value-asked bytes (suc k) i (accepted-zero p) ∙ rw (f .sets) (value-past bytes (f .others) w (f .holds) e i l),
-    )
-
--- ALL VALUES. All values of a 58 of the list, asked at once, are what the reader's rule makes of its stored numbers in order.
-pub all-of-list : {sets : List Set} {bytes : List ℕ} → Proper sets bytes → (k : ℕ) (s : Set) (rest : List Set) → drop k sets ≡ s ∷ rest → s .number ≡ 58
-    → allValues bytes (suc k) ≡ allSaid s
-unfolding setsFrom
-all-of-list {sets} {bytes} p k s rest d e =
-    let f = set-found p k s rest d in
-    all-asked bytes (suc k) (accepted-zero p) ∙ rw (f .sets) (all-by-list bytes (f .others) (set-somewhere bytes k s f) (f .holds) e)
-
--- Where they are shown, there are as many f64 as stored numbers, and the question for each value shows its own part of them.
-pub all-in-turn : {sets : List Set} {bytes : List ℕ} → Proper sets bytes → (k : ℕ) (s : Set) (rest : List Set) → drop k sets ≡ s ∷ rest → s .number ≡ 58
-    → (n : ℕ) (xs : List Float) → allValues bytes (suc k) ≡ said 0 n xs
-    → (n ≡ storedCount s)
-    × ((length xs ≡ n)
-    × ((i : ℕ) → i < declared s → valueOf bytes (suc k) i ≡ said 0 (valueKind (setCase s)) (take (numbersOf (setCase s)) (drop (i * numbersOf (setCase s)) xs))))
-unfolding storedCount valueSaid
-all-in-turn p k s rest d e n xs h =
-    let w = said-each s n xs (sym (all-of-list p k s rest d e) ∙ h) in
-    (w .counted, (w .long, λ i l. reader-values p k s rest d e i l ∙ w .value i l))
-
--- No 58 stores more than 196,608 numbers.
-pub stored-few : {sets : List Set} {bytes : List ℕ} → Proper sets bytes → (k : ℕ) (s : Set) (rest : List Set) → drop k sets ≡ s ∷ rest → s .number ≡ 58
-    → storedCount s ≤ 196608
-unfolding storedCount
-stored-few p k s rest d e =
-    let f = set-found p k s rest d in
-    let m : declared s ≤ 65536 = declared-most (f .holds .lines) e in
-    let n : declared s * numbersOf (setCase s) ≤ declared s * 3 = start-most (declared s) (setCase s) _ (case-eight (f .holds .lines) e) refl in
-    omega arith
-
--- Where they are refused, so is the question for one of the values.
-pub all-refused-one : {sets : List Set} {bytes : List ℕ} → Proper sets bytes → (k : ℕ) (s : Set) (rest : List Set) → drop k sets ≡ s ∷ rest → s .number ≡ 58
-    → (m l : ℕ) → 0 < m → allValues bytes (suc k) ≡ refused m l → (i : ℕ) × ((i < declared s) × (valueOf bytes (suc k) i ≡ refused m l))
-all-refused-one p k s rest d e m l z h =
-    let w = said-refused s m l z (sym (all-of-list p k s rest d e) ∙ h) in
-    (w .0, (w .1 .0, reader-values p k s rest d e (w .0) (w .1 .0) ∙ w .1 .1))
-
--- Any other question for all values is 18.
-pub all-set-0 : {sets : List Set} {bytes : List ℕ} → Proper sets bytes → allValues bytes 0 ≡ refused 18 0
-unfolding setsFrom
-all-set-0 {sets} {bytes} p = all-asked bytes 0 (accepted-zero p)
-
-pub all-no-set : {sets : List Set} {bytes : List ℕ} → Proper sets bytes → (k : ℕ) → length sets ≤ k → allValues bytes (suc k) ≡ refused 18 0
-unfolding setsFrom
-all-no-set {sets} {bytes} p k h = all-asked bytes (suc k) (accepted-zero p) ∙ rw (no-parts p k h) refl
-
-pub all-not-58 : {sets : List Set} {bytes : List ℕ} → Proper sets bytes → (k : ℕ) (s : Set) (rest : List Set) → drop k sets ≡ s ∷ rest → (s .number ≡ 58 → ⊥)
-    → allValues bytes (suc k) ≡ refused 18 0
-unfolding setsFrom
-all-not-58 {sets} {bytes} p k s rest d n =
-    let f = set-found p k s rest d in
-    all-asked bytes (suc k) (accepted-zero p) ∙ rw (f .sets) (all-other bytes (f .others) (f .holds) n)
-
--- The call answers how many f64 it fills, and the places lent hold their bit patterns and then their own rest.
-pub all-answers : (bytes : List ℕ) (k n : ℕ) (xs : List Float) (out : List ℕ) → allValues bytes k ≡ said 0 n xs → length xs ≡ n → n ≤ length out
-    → (allReply bytes k (length out) ≡ reply 0 n) × (allPlaces bytes k out ≡ map bitsOf xs ++ drop n out)
-unfolding allReply allPlaces
-all-answers bytes k n xs out e l h = (rw (e, l, le-ltb (length out) n h) refl, rw (e, l, le-ltb (length out) n h) refl)
-
--- Any refusal of the call leaves every place lent.
 pub all-kept : (bytes : List ℕ) (k : ℕ) (out : List ℕ) → 0 < allReply bytes k (length out) .number → allPlaces bytes k out ≡ out
-unfolding allReply allPlaces
-all-kept bytes k out h = rw (ne-eqb (allReply bytes k (length out) .number) 0 (λ z. omega arith)) refl
+all-kept = KeptLaws.all-kept
 
--- a value by the bytes of its own columns
-value-by-bytes : {sets : List Set} {bytes : List ℕ} → Proper sets bytes → (k : ℕ) (s : Set) (rest : List Set) → drop k sets ≡ s ∷ rest → s .number ≡ 58
-    → (c : Columns bytes k s) (i : ℕ) → i < declared s → valueOf bytes (suc k) i ≡ valueWith (λ (j : ℕ). realOf (ownBytes bytes (c .part) j)) (setCase s) i
-unfolding setsFrom
-value-by-bytes {sets} {bytes} p k s rest d e c i l =
-    let f = set-found p k s rest d in
-    let a : f .part ≡ c .part = same-part f c in
-    value-asked bytes (suc k) i (accepted-zero p)
-    ∙ rw (f .sets) (value-own bytes (f .others) (set-somewhere bytes k s f) (f .holds) e i l)
-    ∙ ap (λ (x : Parts.Part). valueWith (λ (j : ℕ). realOf (ownBytes bytes x j)) (setCase s) i) a
+pub rewriter-kept : (bytes out : List ℕ) → 0 < rewriteReply bytes (length out) .number → rewriteOut bytes out ≡ out
+rewriter-kept = KeptLaws.rewriter-kept
 
--- OWN BYTES. No number shown comes from other columns: two accepted files that agree on the case and on the bytes of a value's own columns
--- get the same answer to its question, 21 included.
-pub own-bytes-decide : {sets sets′ : List Set} {bytes bytes′ : List ℕ} → Proper sets bytes → Proper sets′ bytes′
-    → (k k′ : ℕ) (s s′ : Set) (rest rest′ : List Set) → drop k sets ≡ s ∷ rest → drop k′ sets′ ≡ s′ ∷ rest′ → s .number ≡ 58 → s′ .number ≡ 58
-    → (c : Columns bytes k s) (c′ : Columns bytes′ k′ s′) → setCase s ≡ setCase s′ → (i i′ : ℕ) → i < declared s → i′ < declared s′
-    → ((r : ℕ) → r < numbersOf (setCase s)
-    → ownBytes bytes (c .part) (i * numbersOf (setCase s) + r) ≡ ownBytes bytes′ (c′ .part) (i′ * numbersOf (setCase s) + r))
-    → valueOf bytes (suc k) i ≡ valueOf bytes′ (suc k′) i′
-own-bytes-decide {sets} {sets′} {bytes} {bytes′} p p′ k k′ s s′ rest rest′ d d′ e e′ c c′ q i i′ l l′ h =
-    value-by-bytes p k s rest d e c i l
-    ∙ valueWith-same (λ (j : ℕ). realOf (ownBytes bytes (c .part) j)) (λ (j : ℕ). realOf (ownBytes bytes′ (c′ .part) j)) (setCase s) i i′ (λ r a. ap realOf (h r a))
-    ∙ ap (λ (x : ℕ). valueWith (λ (j : ℕ). realOf (ownBytes bytes′ (c′ .part) j)) x i′) q
-    ∙ sym (value-by-bytes p′ k′ s′ rest′ d′ e′ c′ i′ l′)
+pub writer-kept : (header : List ℕ) (xs ss : List ℤ) (out : List ℕ) → 0 < writeReply header xs ss (length out) .number → writeOut header xs ss out ≡ out
+writer-kept = KeptLaws.writer-kept
 
--- The same for a stored number: its sign, coefficient and scale.
-pub own-bytes-number : {sets sets′ : List Set} {bytes bytes′ : List ℕ} → Proper sets bytes → Proper sets′ bytes′
-    → (k k′ : ℕ) (s s′ : Set) (rest rest′ : List Set) → drop k sets ≡ s ∷ rest → drop k′ sets′ ≡ s′ ∷ rest′ → s .number ≡ 58 → s′ .number ≡ 58
-    → (c : Columns bytes k s) (c′ : Columns bytes′ k′ s′) (j j′ : ℕ) → j < storedCount s → j′ < storedCount s′
-    → ownBytes bytes (c .part) j ≡ ownBytes bytes′ (c′ .part) j′ → storedItem s j ≡ storedItem s′ j′
-own-bytes-number {bytes = bytes} {bytes′ = bytes′} p p′ k k′ s s′ rest rest′ d d′ e e′ c c′ j j′ l l′ h =
-    let f = set-found p k s rest d in
-    let g = set-found p′ k′ s′ rest′ d′ in
-    let x = item-own bytes (f .others) (set-somewhere bytes k s f) (f .holds) e j l in
-    let y = item-own bytes′ (g .others) (set-somewhere bytes′ k′ s′ g) (g .holds) e′ j′ l′ in
-    let a : ownBytes bytes (f .part) j ≡ ownBytes bytes (c .part) j = ap (λ (z : Parts.Part). ownBytes bytes z j) (same-part f c) in
-    let b : ownBytes bytes′ (g .part) j′ ≡ ownBytes bytes′ (c′ .part) j′ = ap (λ (z : Parts.Part). ownBytes bytes′ z j′) (same-part g c′) in
-    real-same (storedItem s j) (storedItem s′ j′) (ownBytes bytes (f .part) j) (ownBytes bytes′ (g .part) j′) (x .0) (y .0) (x .1 ∙ ap realOf (a ∙ h ∙ sym b) ∙ sym (y .1))
+pub start-kept : (ns bs : List ℕ) → 0 < startReply ns bs .number → (startNumbers ns bs ≡ ns) × (startLine ns bs ≡ bs)
+start-kept = ArrivalLaws.start-kept
 
--- REWRITER. What it gives is a proper writing of the same list, in rewritten form, with the file's spellings, and no other text is
--- (crates/rewriter_laws/specs/Form.antt); it is no longer than the file.
-pub rewriter-keeps : {sets : List Set} {bytes : List ℕ} → Proper sets bytes
-    → Proper sets (rewrittenFile bytes) × (InForm sets (rewrittenFile bytes) × KeepsSpellings bytes (rewrittenFile bytes))
-rewriter-keeps p = (rewritten-proper p, (rewritten-form p, rewritten-keeps p))
+pub burst-kept : {ns bs b ns′ bs′ : List ℕ} {r : Reply} → Burst same ns bs b ns′ bs′ r → (r .number ≡ 20) ⊎ (r .number ≡ 23) → Untouched ns bs ns′ bs′
+burst-kept = ArrivalLaws.burst-kept
 
-pub rewriter-only : {sets : List Set} {bytes : List ℕ} → Proper sets bytes → (new : List ℕ) → InForm sets new → KeepsSpellings bytes new → new ≡ rewrittenFile bytes
-rewriter-only p new f k = rewritten-only p new f k
+pub end-kept : (ns bs : List ℕ) → endOf ns bs .number ≡ 20 → endNumbers ns bs ≡ ns
+end-kept = ArrivalLaws.end-kept
 
--- Rewriting again changes nothing.
-pub rewriter-again : {sets : List Set} {bytes : List ℕ} → Proper sets bytes → rewrittenFile (rewrittenFile bytes) ≡ rewrittenFile bytes
-rewriter-again p = rewritten-same (rewritten-proper p) (rewritten-form p)
+-- "No caller has to check first.": no call has a `requires`.
 
--- It answers the length, and the bytes lent hold that text and then their own rest.
-pub rewriter-answers : {sets : List Set} {bytes : List ℕ} → Proper sets bytes → (out : List ℕ) → length (rewrittenFile bytes) ≤ length out
-    → (rewriteReply bytes (length out) ≡ reply 0 (length (rewrittenFile bytes))) × (rewriteOut bytes out ≡ rewrittenFile bytes ++ drop (length (rewrittenFile bytes)) out)
-unfolding rewriteOut rewriteReply
-rewriter-answers {sets} {bytes} p out h = (rw (proper-accepted p, le-ltb (length out) (length (rewrittenFile bytes)) h) refl, rw (proper-accepted p, le-ltb (length out) (length (rewrittenFile bytes)) h) refl)
+-- DEMAND 2. "Records, columns and numbers mean what the published dataset descriptions and document 01 say.": the definitions under `Proper`.
+-- "A number read is the decimal number in its columns, exactly, or rounded once where 01 says so.": `reader-numbers`, `value-by-bytes` below, and
+pub rounded-once : (c k : ℕ) → c ≤ 9007199254740992 → k ≤ 22
+    → (magnitudeOf c false k ≡ round binary64 false (c * 10 ^ k) 1) × (magnitudeOf c true k ≡ round binary64 false c (10 ^ k))
+rounded-once c k h g = (ExactLaws.magnitudeOf-times c k h g, ExactLaws.magnitudeOf-divided c k h g)
 
--- WRITER. Where it answers a length, with coefficients of a size that an i64 can have, the text is a proper writing of one 58 with the header's items, and
--- the stored numbers are the given ones, index by index; it is in rewritten form (LaidOut.antt).
+-- "Numbers the writer has laid out read back as equal numbers, and rewriting an accepted file keeps its sets.": `rewriter-keeps` below, and, of
+-- coefficients that an i64 can have,
 pub writer-lays : (header : List ℕ) (xs ss : List ℤ) (room : ℕ) → Coefficients xs → writeReply header xs ss room .number ≡ 0 → LaidOut header xs ss
-writer-lays header xs ss room k z =
-    let a = answered header xs ss room z in
-    let f = answered-fit header xs ss room k a in
-    let p = header-passed header (a .passes) in
-    let q = accepted-proper (lentFile header (headerOf header .case) xs ss) _ (lent-accepted header p xs ss (a .stored) f) in
-    laid-out header p xs ss (a .stored) f (q .1) (lister-places (q .1))
+writer-lays = WriterLaws.writer-lays
 
--- The length that it answers is that text's, and the bytes lent hold it and then their own rest.
 pub writer-answers : (header : List ℕ) (xs ss : List ℤ) (out : List ℕ) → writeReply header xs ss (length out) .number ≡ 0
-    → (length (writtenSet header (headerOf header .case) xs ss) ≤ length out)
-    × ((writeReply header xs ss (length out) ≡ reply 0 (length (writtenSet header (headerOf header .case) xs ss)))
-    × (writeOut header xs ss out ≡ writtenSet header (headerOf header .case) xs ss ++ drop (length (writtenSet header (headerOf header .case) xs ss)) out))
-unfolding writeOut
-writer-answers header xs ss out z =
-    let a = answered header xs ss (length out) z in
-    (a .short, (a .reply-is, rw (a .reply-is) refl))
+    → (length (writtenText header xs ss) ≤ length out) × Filled (writtenText header xs ss) (writeReply header xs ss (length out)) out (writeOut header xs ss out)
+writer-answers = WriterLaws.writer-answers
 
--- The judge accepts the text, and rewriting it changes nothing.
-pub writer-accepted : {header : List ℕ} {xs ss : List ℤ} → LaidOut header xs ss
-    → (judged (writtenSet header (headerOf header .case) xs ss) .number ≡ 0)
-    × (rewrittenFile (writtenSet header (headerOf header .case) xs ss) ≡ writtenSet header (headerOf header .case) xs ss)
-writer-accepted l = (accepted-zero (l .proper), l .again)
+module _ {header : List ℕ} {xs ss : List ℤ} (l : LaidOut header xs ss) where
+  pub writer-accepted : (judged (writtenText header xs ss) .number ≡ 0) × (rewrittenFile (writtenText header xs ss) ≡ writtenText header xs ss)
+  writer-accepted = WriterLaws.writer-accepted l
 
--- The reader, asked for stored number j of its only set, shows a number of the given sign that is the given number.
-pub writer-read : {header : List ℕ} {xs ss : List ℤ} (l : LaidOut header xs ss) (j : ℕ) → j < length xs
-    → ReadAs (writtenSet header (headerOf header .case) xs ss) j (getD xs j (pos 0)) (getD ss j (pos 0))
-writer-read {header} {xs} {ss} l j h =
-    let c = values-in-columns (l .proper) 0 (l .set) [] refl (l .number) in
-    read-as (l .back j h) (reader-numbers (l .proper) 0 (l .set) [] refl (l .number) c j (rw (l .count) h))
+  pub writer-read : (j : ℕ) → j < length xs → ReadAs (writtenText header xs ss) j (getD xs j (pos 0)) (getD ss j (pos 0))
+  writer-read = WriterLaws.writer-read l
+
+-- DEMAND 3. "Document 01 says from a list of sets, without the judge, which texts are proper writings of it.": `Proper`.
+-- "Whatever string of bytes a file is, it is accepted exactly when it is a proper writing of some list."
+pub accepted-proper : (bytes : List ℕ) (n : ℕ) → judged bytes ≡ reply 0 n → (sets : List Set) × Proper sets bytes
+accepted-proper = JudgeLaws.accepted-proper
+
+pub proper-accepted : {sets : List Set} {bytes : List ℕ} → Proper sets bytes → judged bytes ≡ reply 0 (length (cut bytes .lines))
+proper-accepted = JudgeLaws.proper-accepted
+
+-- "That list is the only one, and all answers show it."
+pub proper-unique : {a b : List Set} {bytes : List ℕ} → Proper a bytes → Proper b bytes → a ≡ b
+proper-unique = JudgeLaws.proper-unique
+
+module _ {sets : List Set} {bytes : List ℕ} (p : Proper sets bytes) where
+  -- "The lister's number of sets, dataset numbers and, for a 58, declared counts are that list's, in order.", and where each set stands
+  pub lister-answers : (rows : List ℕ) → 6 * length sets ≤ length rows
+      → (listReply bytes (length rows) ≡ reply 0 (length sets)) × (listRows bytes rows ≡ rowsOf (partsOf bytes) ++ drop (6 * length sets) rows)
+  lister-answers = ListerLaws.lister-answers p
+
+  pub lister-numbers : (map datasetOf (partsOf bytes) ≡ map (λ (s : Set). s .number) sets) × (map countOf (partsOf bytes) ≡ map declared sets)
+  lister-numbers = ListerLaws.lister-numbers p
+
+  pub lister-places : AtPlaces 0 0 sets (partsOf bytes) (cut bytes .lines)
+  lister-places = ListerLaws.lister-places p
+
+  pub set-stands : {s : Set} {later : List Set} (k : ℕ) → drop k sets ≡ s ∷ later → (q : Part) × SetAt sets bytes k s q
+  set-stands = ListerLaws.set-stands p
+
+  module _ {k : ℕ} {s : Set} {q : Part} (a : SetAt sets bytes k s q) where
+    pub lister-row : (rows : List ℕ) → 6 * length sets ≤ length rows
+        → take 6 (drop (6 * k) (listRows bytes rows)) ≡ suc (q .lines) ∷ s .number ∷ declared s ∷ q .bytes ∷ pastOf q ∷ dataStart q ∷ []
+    lister-row = ListerLaws.lister-row p a
+
+    pub lister-bytes : take (pastOf q - q .bytes) (drop (q .bytes) bytes) ≡ Ends.joined (linesOf q) []
+    lister-bytes = ListerLaws.lister-bytes p a
+
+  -- "The reader's numbers are that list's, index by index.": set k of the list, from 0, is s, a 58, and stands in the file as the part q
+  module _ {k : ℕ} {s : Set} {q : Part} (a : At58 sets bytes k s q) where
+    pub reader-numbers : (j : ℕ) → j < storedCount s → Answered bytes (suc k) j s q
+    reader-numbers = ReaderLaws.reader-numbers p a
+
+    pub reader-values : (i : ℕ) → i < declared s → valueOf bytes (suc k) i ≡ valueSaid s i
+    reader-values = ReaderLaws.reader-values p a
+
+    pub all-of-list : allValues bytes (suc k) ≡ allSaid s
+    all-of-list = ValuesLaws.all-of-list p a
+
+    pub all-in-turn : (n : ℕ) (xs : List Float) → allValues bytes (suc k) ≡ said 0 n xs → InTurn bytes k s n xs
+    all-in-turn = ValuesLaws.all-in-turn p a
+
+    pub all-answers : (n : ℕ) (xs : List Float) (out : List ℕ) → allValues bytes (suc k) ≡ said 0 n xs → n ≤ length out
+        → Filled (map bitsOf xs) (allReply bytes (suc k) (length out)) out (allPlaces bytes (suc k) out)
+    all-answers = ValuesLaws.all-answers p a
+
+    pub all-refused-one : (m l : ℕ) → 0 < m → allValues bytes (suc k) ≡ refused m l → (i : ℕ) × ((i < declared s) × (valueOf bytes (suc k) i ≡ refused m l))
+    all-refused-one = ValuesLaws.all-refused-one p a
+
+  -- "What the rewriter gives is again a proper writing of that list, the one in document 01's rewritten form that keeps the file's spellings."
+  pub rewriter-keeps : Proper sets (rewrittenFile bytes) × (InForm sets (rewrittenFile bytes) × KeepsSpellings bytes (rewrittenFile bytes))
+  rewriter-keeps = RewriterLaws.rewriter-keeps p
+
+  pub rewriter-only : (new : List ℕ) → InForm sets new → KeepsSpellings bytes new → new ≡ rewrittenFile bytes
+  rewriter-only = RewriterLaws.rewriter-only p
+
+  pub rewriter-again : rewrittenFile (rewrittenFile bytes) ≡ rewrittenFile bytes
+  rewriter-again = RewriterLaws.rewriter-again p
+
+  pub rewriter-answers : (out : List ℕ) → length (rewrittenFile bytes) ≤ length out → Filled (rewrittenFile bytes) (rewriteReply bytes (length out)) out (rewriteOut bytes out)
+  rewriter-answers = RewriterLaws.rewriter-answers p
+
+  -- A set alone: its bytes, from its row's fourth number to its fifth, are a file of just that set, of which every call answers as in the whole file
+  pub set-alone : {k : ℕ} {s : Set} {q : Part} → SetAt sets bytes k s q → Alone bytes (aloneIn bytes q) k s q
+  set-alone = AloneLaws.set-alone p
+
+  pub rewritten-alone : rewrittenFile bytes ≡ together (map rewrittenFile (setsAlone bytes))
+  rewritten-alone = AloneLaws.rewritten-alone p
+
+  pub alone-bytes : length (together (setsAlone bytes)) ≤ length bytes
+  alone-bytes = AloneLaws.alone-bytes p
+
+  module _ {k : ℕ} {s : Set} {q : Part} (a : At58 sets bytes k s q) where
+    -- "In each dataset 58 of an accepted file the declared count of values is there, each in its own columns, in order, not overlapping, inside the
+    -- set's delimiters."
+    pub values-in-columns : Columns bytes s q
+    values-in-columns = ColumnsLaws.values-in-columns p a
+
+    -- "Every non-blank byte of the data lines, their ends aside, belongs to exactly one of these values."
+    pub bytes-of-values : (x : ℕ) → DataByte bytes q x → OfOneValue s q x
+    bytes-of-values = ColumnsLaws.bytes-of-values p a
+
+    -- "No number shown of a value comes from columns other than its own, whatever the others hold."
+    pub number-by-bytes : (j : ℕ) → j < storedCount s → storedNumber bytes (suc k) j ≡ shownOf (firstByte q j) (pastByte q j) (realOf (ownBytes bytes q j))
+    number-by-bytes = ReaderLaws.number-by-bytes p a
+
+    pub value-by-bytes : (i : ℕ) → i < declared s → valueOf bytes (suc k) i ≡ valueWith (λ (j : ℕ). realOf (ownBytes bytes q j)) (setCase s) i
+    value-by-bytes = ReaderLaws.value-by-bytes p a
+
+-- so of two 58s, of one file or of two
+module _ {sets sets′ : List Set} {bytes bytes′ : List ℕ} (p : Proper sets bytes) (p′ : Proper sets′ bytes′) {k k′ : ℕ} {s s′ : Set} {q q′ : Part}
+    (a : At58 sets bytes k s q) (a′ : At58 sets′ bytes′ k′ s′ q′) where
+  pub own-bytes-number : (j j′ : ℕ) → j < storedCount s → j′ < storedCount s′ → ownBytes bytes q j ≡ ownBytes bytes′ q′ j′ → storedItem s j ≡ storedItem s′ j′
+  own-bytes-number = ReaderLaws.own-bytes-number p p′ a a′
+
+  pub own-bytes-decide : setCase s ≡ setCase s′ → (i i′ : ℕ) → i < declared s → i′ < declared s′
+      → ((r : ℕ) → r < numbersOf (setCase s) → ownBytes bytes q (i * numbersOf (setCase s) + r) ≡ ownBytes bytes′ q′ (i′ * numbersOf (setCase s) + r))
+      → valueOf bytes (suc k) i ≡ valueOf bytes′ (suc k′) i′
+  own-bytes-decide = ReaderLaws.own-bytes-decide p p′ a a′
+
+-- C-11. "The collector sends a capture in bursts. The receiving program, in Rattle, lends one standing record, which each burst brings up to date in place, then asks for
+-- the end." (`Bursts`)
+-- "However it is cut, bursts of no bytes too, the end answer is the whole file's, asked again too."
+pub any-cut : {r : Stream} {bursts : List (List ℕ)} → Bursts freshRecord bursts r
+    → (endReply (seen r) ≡ judged (joined bursts)) × ((endReply (seen (closed r)) ≡ judged (joined bursts)) × (closed (closed r) ≡ closed r))
+any-cut = ArrivalLaws.any-cut
+
+-- "A burst's answer is 1 once the running length is past the limit, otherwise the refusal of the earliest bad line whose LF has come, otherwise "so far"
+-- with the number of finished lines."
+pub any-cut-answer : {r : Stream} {bursts : List (List ℕ)} → Bursts freshRecord bursts r → answerOf (r .ended) (seen r) ≡ burstAnswer (joined bursts)
+any-cut-answer = ArrivalLaws.any-cut-answer
+
+pub burst-too-long : (bytes : List ℕ) → 16777216 < length bytes → burstAnswer bytes ≡ Refused (reply 1 0)
+burst-too-long = ArrivalLaws.burst-too-long
+
+pub lines-after : (bytes : List ℕ) (n : ℕ) → burstAnswer bytes ≡ SoFar n → n ≡ length (cut bytes .lines)
+lines-after = StreamingLaws.lines-after
+
+-- "A fresh record starts a new file; one grown otherwise is safe, its answers unpromised."
+pub start-fresh : (ns bs : List ℕ) → isShort ns bs ≡ false → streamOf (startNumbers ns bs) (startLine ns bs) ≡ freshRecord
+start-fresh = CallsLaws.start-fresh
+
+-- "Demand 3 reads for the end answer, and demand 1's untouched buffers don't cover the record, but for 23."
+pub arrived-proper : {r : Stream} {bursts : List (List ℕ)} → Bursts freshRecord bursts r → (n : ℕ) → endReply (seen r) ≡ reply 0 n
+    → (sets : List Set) × Proper sets (joined bursts)
+arrived-proper = ArrivalLaws.arrived-proper
+
+pub proper-arrived : {r : Stream} {bursts : List (List ℕ)} → Bursts freshRecord bursts r → {sets : List Set} → Proper sets (joined bursts)
+    → endReply (seen r) ≡ reply 0 (length (cut (joined bursts) .lines))
+proper-arrived = ArrivalLaws.proper-arrived
+
+-- "Refusals: 23, a burst after the end was asked, first of all."
+pub after-end : {t : Stream} {b : List ℕ} (r : Stream) → Stepped (closed r) b t → (t ≡ closed r) × (answerOf (t .ended) (seen t) ≡ Refused (reply 23 0))
+after-end = StreamingLaws.after-end
+
+-- the same for a host, which lends the record as numbers and bytes, with the replies in its form
+module _ {A : Type 0} {form : Reply → A} (ns bs : List ℕ) (s : isShort ns bs ≡ false) {ns′ bs′ : List ℕ} {bursts : List (List ℕ)}
+    (k : Calls form (startNumbers ns bs) (startLine ns bs) bursts ns′ bs′) where
+  pub calls-end : (endOf ns′ bs′ ≡ judged (joined bursts))
+      × ((endOf (endNumbers ns′ bs′) bs′ ≡ judged (joined bursts)) × (endNumbers (endNumbers ns′ bs′) bs′ ≡ endNumbers ns′ bs′))
+  calls-end = (CallsLaws.calls-end ns bs s k, (CallsLaws.calls-again ns bs s k, CallsLaws.calls-marked ns bs s k))
+
+  pub calls-answer : {b ns″ bs″ : List ℕ} {r : A} → Burst form ns′ bs′ b ns″ bs″ r → r ≡ form (paper (burstAnswer (joined (bursts ++ (b ∷ [])))))
+  calls-answer = CallsLaws.calls-answer ns bs s k
+
+  pub calls-late : {b ns″ bs″ : List ℕ} {r : A} → Burst form (endNumbers ns′ bs′) bs′ b ns″ bs″ r → Untouched (endNumbers ns′ bs′) bs′ ns″ bs″ × (r ≡ form (reply 23 0))
+  calls-late = CallsLaws.calls-late ns bs s k
+
+-- C-14. "Every refusal of a line now carries the column too: of the first such byte for 2 and 13, the field's first column for 10, 11, 12, 14, 24 and 25,
+-- otherwise 1.", "For 14 it is the earliest offending field.", "24, integer field blank, and 25, real field blank, in the places of 10 and 12, which keep the
+-- rest": a reply that names a line is the refusal of the earliest bad line, and `Fault` says from that line what is wrong there, and at which column
+pub refusal-sound : (bytes : List ℕ) → length bytes ≤ 16777216 → Judged bytes (judged bytes)
+refusal-sound = FileFaultLaws.judged-fault
+
+pub refusal-complete : (bytes : List ℕ) {k : ℕ} {f : Refusal} → length bytes ≤ 16777216 → FileFault bytes k f → judged bytes ≡ atLine k f
+refusal-complete = FileFaultLaws.fault-judged
+
+pub refusal-column : {bytes : List ℕ} {k : ℕ} {f : Refusal} → FileFault bytes k f → InLine bytes f
+refusal-column = FaultColumnLaws.file-column
+
+-- "Any other reply of number and place carries 0.": `judge-table`, `calls-table` and `writer-table`, of bursts `any-cut` and `calls-answer`; and
+pub refusal-too-long : (bytes : List ℕ) → 16777216 < length bytes → judged bytes ≡ reply 1 0
+refusal-too-long = FileFaultLaws.too-long-judged
+
+-- the word that carries the judge's reply to a host loses nothing of it (`InWord`)
+pub reply-bounds : (bytes : List ℕ) → InWord (judged bytes)
+reply-bounds = TableLaws.judged-bounds
+
+pub reply-word : (a b : List ℕ) → word (judged a) ≡ word (judged b) → judged a ≡ judged b
+reply-word = TableLaws.judged-word
+
+-- the writer's header is refused as the file that it opens, two lines up; past eleven lines, for its twelfth
+module _ (header : List ℕ) (h : 0 < headerOf header .reply .number) where
+  pub header-judged : (length (cut header .lines) ≤ headerLines) ⊎ (headerOf header .reply .place ≤ headerLines) → length (headText 58 ++ header) ≤ 16777216
+      → judged (headText 58 ++ header) ≡ replyAt (headerOf header .reply .number) (headerOf header .reply .place + 2) (headerOf header .reply .column)
+  header-judged = HeaderRefusedLaws.refused-judged header h
+
+  pub header-twelfth : headerLines < length (cut header .lines) → headerLines < headerOf header .reply .place
+      → headerOf header .reply ≡ atLine headerLines (twelfthFault (getD (cut header .lines) headerLines []))
+  header-twelfth = HeaderRefusedLaws.past-refused header h

@@ -135,32 +135,16 @@ pub fn values(file: &[u8], set: u32, out: &mut [u64]) -> Reply
     }
     let d = find_data(file, set);
     if d.count == 0 {
-        return Reply {
-            number: 18,
-            place: 0,
-            column: 0,
-        };
+        return judge::bare_reply(18, 0);
     }
     let stored = (d.count as usize) * layout::numbers_of(d.case);
     let number = first_refusal(file, d, stored);
     if 0 < number {
-        return Reply {
-            number,
-            place: 0,
-            column: 0,
-        };
+        return judge::bare_reply(number, 0);
     }
     if out.len() < stored {
-        return Reply {
-            number: 20,
-            place: 0,
-            column: 0,
-        };
+        return judge::bare_reply(20, 0);
     }
     fill(file, d, stored, out);
-    Reply {
-        number: 0,
-        place: stored,
-        column: 0,
-    }
+    judge::bare_reply(0, stored)
 }

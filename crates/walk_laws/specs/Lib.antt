@@ -4,3 +4,9 @@ pub mod Owed
 pub mod ListLaws
 pub mod RecordsLaws
 pub mod FollowsLaws
+pub mod Fault
+pub mod FaultLaws
+pub mod FileFault
+pub mod FileFaultLaws
+pub mod BeginsLaws
+pub mod FaultColumnLaws

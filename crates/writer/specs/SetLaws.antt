@@ -15,7 +15,7 @@ use Rattle.parts.specs.PartsLaws.{lines-past}
 use Rattle.judge.specs.declared.Reply.{Reply}
 use Rattle.judge.specs.Judge.{reply}
 use Rattle.header.specs.declared.Header.{Header}
-use Rattle.header.specs.Header.{headerOf, replyOf}
+use Rattle.header.specs.Header.{headerOf}
 use Rattle.rewriter.specs.Rewriter.{headText, linesText, delimiterLine, setText}
 use Rattle.output.specs.Output.{Put, placed}
 use Rattle.output.specs.OutputLaws.{put-start, put-done, put-room, put-next}
@@ -138,15 +138,15 @@ module _ (header : List ℕ) (xs ss : List ℤ) (out : List ℕ) where
 
   -- the replies in their order, and the buffer after each
   module _ (h : Header) (q : h ≡ headerOf header) where
-    pub header-both : 0 < h .number
-        → (replyOf h ≡ writeReply header xs ss (length out)) × (out ≡ writeOut header xs ss out)
+    pub header-both : 0 < h .reply .number
+        → (h .reply ≡ writeReply header xs ss (length out)) × (out ≡ writeOut header xs ss out)
     unfolding writeReply
-    header-both g = refused (replyOf h) (rw (← q, lt-ltb 0 (h .number) g) refl) g
+    header-both g = refused (h .reply) (rw (← q, lt-ltb 0 (h .reply .number) g) refl) g
 
-    module _ (g : h .number ≤ 0) where
+    module _ (g : h .reply .number ≤ 0) where
       passes : laidReply header (h .case) (h .stored) xs ss (length out) ≡ writeReply header xs ss (length out)
       unfolding writeReply
-      passes = rw (← q, le-ltb 0 (h .number) g) refl
+      passes = rw (← q, le-ltb 0 (h .reply .number) g) refl
 
       count-reply : (eqb (length xs) (h .stored) && eqb (length ss) (h .stored)) ≡ false → reply 22 0 ≡ laidReply header (h .case) (h .stored) xs ss (length out)
       unfolding laidReply

@@ -13,7 +13,7 @@ use Rattle.layout.specs.Columns.{fieldOf}
 use Rattle.layout.specs.Layout.{layoutOf, fieldsOf}
 use Rattle.judge.specs.declared.Reply.{Reply}
 use Rattle.judge.specs.Judge.{reply}
-use Rattle.header.specs.Header.{headerOf, replyOf}
+use Rattle.header.specs.Header.{headerOf}
 use Rattle.rewriter.specs.Rewriter.{headText, linesText, delimiterLine}
 
 -- the decimals of a field of this width: E13.5, and E20.12 for any other (`decimals-printed`: they are 001's)
@@ -61,7 +61,7 @@ laidReply header c stored xs ss room =
 -- the reply: "the header's" refusal first
 unfoldable pub writeReply : List ℕ → List ℤ → List ℤ → ℕ → Reply
 writeReply header xs ss room =
-    pick (ltb 0 (headerOf header .number)) (replyOf (headerOf header))
+    pick (ltb 0 (headerOf header .reply .number)) (headerOf header .reply)
     (laidReply header (headerOf header .case) (headerOf header .stored) xs ss room)
 
 -- the buffer afterwards: as it was where the reply is a refusal, otherwise the set, "past which it keeps its contents"

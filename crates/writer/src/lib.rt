@@ -167,39 +167,20 @@ pub fn write(header: &[u8], coefficients: &[i64], scales: &[i16], out: &mut [u8]
     ensures { λ r. ⌜ (r ≡ writeReply (now (header .entry)) (now (coefficients .entry)) (now (scales .entry)) (length (now (out .entry)))) × (now (out .exit) ≡ writeOut (now (header .entry)) (now (coefficients .entry)) (now (scales .entry)) (now (out .entry))) ⌝ }
 {
     let found = header::judge_header(header);
-    if 0 < found.number {
-        return Reply {
-            number: found.number,
-            place: found.place,
-            column: found.column,
-        };
+    let judged = found.reply;
+    if 0 < judged.number {
+        return judged;
     }
     if coefficients.len() != found.stored || scales.len() != found.stored {
-        return Reply {
-            number: 22,
-            place: 0,
-            column: 0,
-        };
+        return judge::bare_reply(22, 0);
     }
     let at = first_unfit(found.case, coefficients, scales);
     if at < coefficients.len() {
-        return Reply {
-            number: 19,
-            place: at,
-            column: 0,
-        };
+        return judge::bare_reply(19, at);
     }
     if !set_fits(header, found.case, coefficients.len(), out.len()) {
-        return Reply {
-            number: 20,
-            place: 0,
-            column: 0,
-        };
+        return judge::bare_reply(20, 0);
     }
     let n = put_set(out, header, found.case, coefficients, scales);
-    Reply {
-        number: 0,
-        place: n,
-        column: 0,
-    }
+    judge::bare_reply(0, n)
 }

@@ -24,6 +24,7 @@ use Rattle.record_table.specs.Row as Row
 use Rattle.record_table.specs.Records.{E, dataRow}
 use Rattle.record_table.specs.TypedSets.{sequence, typedSets, following}
 use Rattle.record.specs.Written.{FieldsIn, Written, Kept}
+use Rattle.record_laws.specs.RowGroupLaws.{dataRow-grouped, first-grouped, data-together}
 use Rattle.record_laws.specs.LineReadingLaws.{written-complete}
 use Rattle.walk.specs.declared.Place.the-variants.{Typed}
 use Rattle.walk.specs.declared.Outcome.the-variants.{Next}
@@ -78,8 +79,9 @@ module _ (c : ℕ) (w : ℕ) (ws : List ℕ) (x s : ℤ) (xs ss : List ℤ) (wid
   line-written = record {
     in-columns =
         rw (widths, map-take (suc (length xs)) (w ∷ ws))
-        (subst (λ (cols : List ℕ). FieldsIn (filled line) (map E (take (suc (length xs)) (w ∷ ws))) (itemsBack (w ∷ ws) (x ∷ xs) (s ∷ ss)) cols) (sym (filled-short line eighty))
-        (fields-in fit (filled line) (replicate (80 - length line) 32) (blanks-replicate (80 - length line))));
+        (subst (λ (cols : List ℕ). FieldsIn (map E (take (suc (length xs)) (w ∷ ws))) (itemsBack (w ∷ ws) (x ∷ xs) (s ∷ ss)) cols) (sym (filled-short line eighty))
+        (fields-in fit (replicate (80 - length line) 32) (blanks-replicate (80 - length line))));
+    together = rw (widths, map-take (suc (length xs)) (w ∷ ws)) (data-together (take (suc (length xs)) (w ∷ ws)) (itemsBack (w ∷ ws) (x ∷ xs) (s ∷ ss)));
     kept = Kept.nothing;
   }
 
@@ -95,7 +97,7 @@ module _ (c : ℕ) (w : ℕ) (ws : List ℕ) (x s : ℤ) (xs ss : List ℤ) (wid
         still-open c (suc (length xs)) (omega arith),
         after-line c (suc (length xs)) (filled line),
         row-due c (suc (length xs)),
-        written-complete (filled line) (filled-length line) _ _ line-written .0,
+        written-complete (filled line) (filled-length line) _ _ (first-grouped (suc (length xs)) (dataRow c) (dataRow-grouped c)) line-written .0,
       ) refl
 
 pub fit-drop : {c j : ℕ} {xs ss : List ℤ} (k : ℕ) → AllFit c j xs ss → AllFit c (j + k) (drop k xs) (drop k ss)

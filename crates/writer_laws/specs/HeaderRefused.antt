@@ -3,8 +3,9 @@ use mathlib.Core.Bool.{true}
 use mathlib.Core.List.{List}
 use Prim.Native.Nat.{ℕ}
 use Rattle.line.specs.Line.{columns, lineFault}
-use Rattle.header.specs.Header.{pastNumber}
+use Rattle.line.specs.declared.Refusal.{Refusal}
+use Rattle.header.specs.Header.{pastFault}
 
--- the number of a twelfth line: its own refusal's, otherwise 8
-abbrev pub twelfthNumber : List ℕ → ℕ
-twelfthNumber l = pastNumber (lineFault true (columns true l) .number)
+-- the refusal of a twelfth line: its own, otherwise 8
+abbrev pub twelfthFault : List ℕ → Refusal
+twelfthFault l = pastFault (lineFault true (columns true l))

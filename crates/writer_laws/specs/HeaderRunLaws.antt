@@ -29,10 +29,11 @@ use Rattle.walk.specs.Due.{due, recordDue, mayClose, rowDue, opening, next, aft
 use Rattle.walk.specs.DueLaws.{numbersOf-few, rowRefusal-record, after-58, open-continues}
 use Rattle.walk.specs.Step.{state, unless, typedStep, stepOf}
 use Rattle.walk.specs.StepLaws.{unless-here, unless-on}
-use Rattle.judge.specs.Judge.{reply, lineStep, Run, going, refused, runStep}
+use Rattle.judge.specs.declared.Reply.{Reply}
+use Rattle.judge.specs.Judge.{atLine, lineStep, Run, going, refused, runStep}
 use Rattle.header.specs.declared.Header.{Header}
 use Rattle.header.specs.HeaderLaws.{over-refused}
-use Rattle.header.specs.Header.{answer, pastNumber, headerStep, headerEnd, headerOf}
+use Rattle.header.specs.Header.{answer, refusedAt, pastFault, headerStep, headerEnd, headerOf}
 use Rattle.parts.specs.Parts.{columnsIn, closes}
 use Rattle.rewriter.specs.Fair.{Fair, Inner, Inner.none as no-line, Inner.more as one-line}
 use Rattle.rewriter.specs.RewriterLaws.{fair-passed}
@@ -41,6 +42,7 @@ use Rattle.line.specs.LineLaws.{filled-length}
 use Rattle.layout.specs.Columns.{total}
 use Rattle.record.specs.DeclaredLaws.{declares-items}
 use Rattle.record.specs.Written.{Written}
+use Rattle.record_laws.specs.RowGroupLaws.{recordOf-grouped}
 use Rattle.record_laws.specs.LineReadingLaws.{written-sound}
 use Rattle.parts_laws.specs.CaseLaws.{record-case, record-counted}
 use Rattle.writer_laws.specs.HeaderRun.{Says, Passed, Bounds, Stood, Taken, Met, ended, taken, stopped}
@@ -70,7 +72,7 @@ seventh-bounds : (cs : List ℕ) → rowRefusal (recordOf dataForm) (filled cs) 
 unfolding storedBy
 seventh-bounds cs h =
     let is : List Item = itemsOf (recordOf dataForm .fields) 0 (filled cs) in
-    let w : Written (recordOf dataForm) is (filled cs) = written-sound (filled cs) (filled-length cs) (recordOf dataForm) seventh-fits h in
+    let w : Written (recordOf dataForm) is (filled cs) = written-sound (filled cs) (filled-length cs) (recordOf dataForm) seventh-fits (recordOf-grouped dataForm) h in
     let e = declares-items (filled cs) in
     let m = record-counted is (filled cs) w in
     rw (e .case, e .stored) (stored-bounds (caseBy is) (countBy is) (record-case is (filled cs) w) (m .0) (m .1))
@@ -164,15 +166,18 @@ module _ (d : Due) (l : List ℕ) (c : mayClose d ≡ false) where
       by (suc n) e = stopped (lineFault true (columns true l)) (rw e refl) (omega arith)
 
 -- after a refusal no header passes
-not-passed : {A : Type 0} (n m : ℕ) (ls : List (List ℕ)) (rest : List ℕ) → 0 < n
-    → headerEnd (over headerStep (refused (reply n m)) ls) rest .number ≡ 0 → A
-not-passed n m ls rest p h =
-    let z : n ≡ 0 = sym (ap (λ (x : Run). headerEnd x rest .number) (over-refused (reply n m) ls)) ∙ h in
+not-passed : {A : Type 0} (r : Reply) (ls : List (List ℕ)) (rest : List ℕ) → 0 < r .number
+    → headerEnd (over headerStep (refused r) ls) rest .reply .number ≡ 0 → A
+not-passed r ls rest p h =
+    let z : r .number ≡ 0 = sym (ap (λ (x : Run). headerEnd x rest .reply .number) (over-refused r ls)) ∙ h in
     absurd (omega arith)
 
-past-some : (m : ℕ) → 0 < pastNumber m
-past-some zero = omega arith
-past-some (suc m) = omega arith
+past-some : (f : Refusal) → 0 < pastFault f .number
+past-some f = go (f .number) refl
+  where
+    go : (m : ℕ) → f .number ≡ m → 0 < pastFault f .number
+    go zero e = rw e (omega arith)
+    go (suc m) e = rw e (omega arith)
 
 record Ran (d : Due) (n : ℕ) (ls : List (List ℕ)) (rest : List ℕ) : Type 0 where
   due : Due
@@ -186,12 +191,12 @@ record Ran (d : Due) (n : ℕ) (ls : List (List ℕ)) (rest : List ℕ) : Type 0
   ends : ended d n ls rest ≡ answer 0 0 (due .case) (due .left)
 
 -- no line more: they are eleven, and nothing is left
-run-end : (d : Due) (n : ℕ) (rest : List ℕ) → Stood n d → n ≤ headerLines → ended d n [] rest .number ≡ 0 → Ran d n [] rest
+run-end : (d : Due) (n : ℕ) (rest : List ℕ) → Stood n d → n ≤ headerLines → ended d n [] rest .reply .number ≡ 0 → Ran d n [] rest
 unfolding over
 run-end d n (b ∷ bs) s l h = absurd (omega (arith, open-fault (b ∷ bs)))
 run-end d n [] s l h = by (ltb n headerLines) refl h
   where
-    by : (t : Bool) → ltb n headerLines ≡ t → pick t (answer 7 (n + 1) 0 0) (answer 0 0 (d .case) (d .left)) .number ≡ 0 → Ran d n [] []
+    by : (t : Bool) → ltb n headerLines ≡ t → pick t (refusedAt n (refusal 7 1)) (answer 0 0 (d .case) (d .left)) .reply .number ≡ 0 → Ran d n [] []
     by true e k = absurd (omega arith)
     by false e k =
         let x : n ≡ headerLines = omega (arith, ltb-false n headerLines e) in
@@ -248,24 +253,24 @@ module _ (d : Due) (n : ℕ) (l : List ℕ) (ls : List (List ℕ)) (rest : List 
         ends = rw (lt-ltb n headerLines h, t .step) (r .ends);
       }
 
-  run-next : ended d n (l ∷ ls) rest .number ≡ 0 → (Stood (n + 1) later → n + 1 ≤ headerLines → ended later (n + 1) ls rest .number ≡ 0 → Ran later (n + 1) ls rest)
+  run-next : ended d n (l ∷ ls) rest .reply .number ≡ 0 → (Stood (n + 1) later → n + 1 ≤ headerLines → ended later (n + 1) ls rest .reply .number ≡ 0 → Ran later (n + 1) ls rest)
       → Ran d n (l ∷ ls) rest
   unfolding over
   run-next k ih = ⊎-elim early late (below-or-not n headerLines)
     where
       late : headerLines ≤ n → Ran d n (l ∷ ls) rest
       late h =
-          let m : ℕ = lineFault true (columns true l) .number in
-          not-passed (pastNumber m) (n + 1) ls rest (past-some m) (rw (le-ltb n headerLines h) at k)
+          let f : Refusal = lineFault true (columns true l) in
+          not-passed (atLine n (pastFault f)) ls rest (past-some f) (rw (le-ltb n headerLines h) at k)
 
       met : n < headerLines → Met d l → Ran d n (l ∷ ls) rest
       met h (taken t) = run-taken h t (ih (after-stood n d s h (columns true l) (t .row)) (omega arith) (rw (lt-ltb n headerLines h, t .step) at k))
-      met h (stopped f e p) = not-passed (f .number) (n + 1) ls rest p (rw (lt-ltb n headerLines h, e) at k)
+      met h (stopped f e p) = not-passed (atLine n f) ls rest p (rw (lt-ltb n headerLines h, e) at k)
 
       early : n < headerLines → Ran d n (l ∷ ls) rest
       early h = met h (line-met d l (not-closed n d s h))
 
-header-ran : (ls : List (List ℕ)) (d : Due) (n : ℕ) (rest : List ℕ) → Stood n d → n ≤ headerLines → ended d n ls rest .number ≡ 0 → Ran d n ls rest
+header-ran : (ls : List (List ℕ)) (d : Due) (n : ℕ) (rest : List ℕ) → Stood n d → n ≤ headerLines → ended d n ls rest .reply .number ≡ 0 → Ran d n ls rest
 header-ran [] d n rest s b h = run-end d n rest s b h
 header-ran (l ∷ ls) d n rest s b h =
     run-next d n l ls rest s h (λ t c k. header-ran ls (after d (columnsIn l)) (n + 1) rest t c k)
@@ -274,7 +279,7 @@ header-ran (l ∷ ls) d n rest s b h =
 pub opened-stood : Stood 0 (opening kind58)
 opened-stood = record { kind = refl; at = refl; second = refl; bounds = λ h. absurd (omega arith) }
 
-pub header-passed : (header : List ℕ) → headerOf header .number ≡ 0 → Passed header
+pub header-passed : (header : List ℕ) → headerOf header .reply .number ≡ 0 → Passed header
 unfolding headerOf judge
 header-passed header h = passes (header-ran (cut header .lines) (opening kind58) 0 (cut header .rest) opened-stood (omega arith) h)
   where

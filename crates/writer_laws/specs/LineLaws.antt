@@ -43,16 +43,16 @@ take-none zero = refl
 take-none (suc n) = refl
 
 -- the items stand in the fields' columns
-pub fields-in : {ws : List ℕ} {xs ss : List ℤ} → Fit ws xs ss → (line bl : List ℕ) → Blanks bl
-    → FieldsIn line (map E (take (length xs) ws)) (itemsBack ws xs ss) (fieldsText ws xs ss ++ bl)
+pub fields-in : {ws : List ℕ} {xs ss : List ℤ} → Fit ws xs ss → (bl : List ℕ) → Blanks bl
+    → FieldsIn (map E (take (length xs) ws)) (itemsBack ws xs ss) (fieldsText ws xs ss ++ bl)
 unfolding itemsBack fieldsText fieldNumber
-fields-in (full {xs}) line bl b = rw (take-none {A = ℕ} (length xs)) (rest b)
-fields-in (done {ws}) line bl b = rw (fieldsText-none ws [], items-none ws) (rest b)
-fields-in (more {w} {x} {s} {ws} {xs} {ss} g r n f t) line bl b =
+fields-in (full {xs}) bl b = rw (take-none {A = ℕ} (length xs)) (rest b)
+fields-in (done {ws}) bl b = rw (fieldsText-none ws [], items-none ws) (rest b)
+fields-in (more {w} {x} {s} {ws} {xs} {ss} g r n f t) bl b =
     let own : List ℕ = fieldText w (decimalsOf w) x s in
     let k : ReadBack x s (fieldText w (decimalsOf w) x s) = fits-read w (decimalsOf w) x s n g r f in
     rw (append-assoc (fieldText w (decimalsOf w) x s) (fieldsText ws xs ss) bl)
-    (stands own (fieldsText ws xs ss ++ bl) (fieldText-length w (decimalsOf w) x s) (real-sound line own (rw (k .read) refl)) (fields-in t line bl b))
+    (stands own (fieldsText ws xs ss ++ bl) (fieldText-length w (decimalsOf w) x s) (real-sound false own (rw (k .read) refl)) (fields-in t bl b))
 
 pub fields-allowed : {ws : List ℕ} {xs ss : List ℤ} → Fit ws xs ss → Allowed (fieldsText ws xs ss)
 unfolding fieldsText

@@ -15,7 +15,7 @@ pub data Coefficients : List ℤ → Type 0 where
 
 -- the header passes, and the numbers are as many as it calls for, fit and have room
 pub record Answered (header : List ℕ) (xs ss : List ℤ) (room : ℕ) : Type 0 where
-  pub passes : headerOf header .number ≡ 0
+  pub passes : headerOf header .reply .number ≡ 0
   pub stored : length xs ≡ headerOf header .stored
   pub same : length xs ≡ length ss
   pub fit : length xs ≤ firstUnfit (headerOf header .case) 0 xs ss

@@ -12,7 +12,7 @@ use Rattle.laws.specs.Choice.{pick}
 use Rattle.laws.specs.ChoiceLaws.{and-left, and-right}
 use Rattle.judge.specs.declared.Reply.{Reply}
 use Rattle.judge.specs.Judge.{reply}
-use Rattle.header.specs.Header.{headerOf, replyOf}
+use Rattle.header.specs.Header.{headerOf}
 use Rattle.writer.specs.Writer.{fitsAt, firstUnfit, writtenSet, laidReply, writeReply}
 use Rattle.writer_laws.specs.DataRun.{AllFit}
 use Rattle.writer_laws.specs.Reply.{Coefficients, Answered, more}
@@ -43,13 +43,13 @@ module _ (header : List ℕ) (xs ss : List ℤ) (room : ℕ) where
   -- the tests of the reply, in order
   abbrev tests : Bool → Bool → Bool → Bool → Reply
   tests bad same unfit long =
-      pick bad (replyOf (headerOf header))
+      pick bad (headerOf header .reply)
       (pick same (pick unfit (reply 19 (firstUnfit c 0 xs ss)) (pick long (reply 20 0) (reply 0 (length text)))) (reply 22 0))
 
-  by-tests : (bad same unfit long : Bool) → ltb 0 (headerOf header .number) ≡ bad → eqb (length xs) n && eqb (length ss) n ≡ same
+  by-tests : (bad same unfit long : Bool) → ltb 0 (headerOf header .reply .number) ≡ bad → eqb (length xs) n && eqb (length ss) n ≡ same
       → ltb (firstUnfit c 0 xs ss) (length xs) ≡ unfit → ltb room (length text) ≡ long → writeReply header xs ss room ≡ tests bad same unfit long
       → tests bad same unfit long .number ≡ 0 → Answered header xs ss room
-  by-tests true same unfit long a b d e r z = absurd (omega (arith, ltb-true 0 (headerOf header .number) a))
+  by-tests true same unfit long a b d e r z = absurd (omega (arith, ltb-true 0 (headerOf header .reply .number) a))
   by-tests false false unfit long a b d e r z = absurd (omega arith)
   by-tests false true true long a b d e r z = absurd (omega arith)
   by-tests false true false true a b d e r z = absurd (omega arith)
@@ -57,7 +57,7 @@ module _ (header : List ℕ) (xs ss : List ℤ) (room : ℕ) where
       let x : length xs ≡ n = eqb-true _ _ (and-left (eqb (length xs) n) (eqb (length ss) n) b) in
       let y : length ss ≡ n = eqb-true _ _ (and-right (eqb (length xs) n) (eqb (length ss) n) b) in
       record {
-        passes = omega (arith, ltb-false 0 (headerOf header .number) a);
+        passes = omega (arith, ltb-false 0 (headerOf header .reply .number) a);
         stored = x;
         same = x ∙ sym y;
         fit = ltb-false (firstUnfit c 0 xs ss) (length xs) d;
@@ -68,7 +68,7 @@ module _ (header : List ℕ) (xs ss : List ℤ) (room : ℕ) where
   pub answered : writeReply header xs ss room .number ≡ 0 → Answered header xs ss room
   unfolding writeReply laidReply
   answered z =
-      by-tests (ltb 0 (headerOf header .number)) (eqb (length xs) n && eqb (length ss) n) (ltb (firstUnfit c 0 xs ss) (length xs)) (ltb room (length text)) refl refl refl refl refl z
+      by-tests (ltb 0 (headerOf header .reply .number)) (eqb (length xs) n && eqb (length ss) n) (ltb (firstUnfit c 0 xs ss) (length xs)) (ltb room (length text)) refl refl refl refl refl z
 
   -- all numbers fit, where an i64 can hold the coefficients
   pub answered-fit : Coefficients xs → Answered header xs ss room → AllFit c 0 xs ss

@@ -89,6 +89,7 @@ void try_number(void);
 void try_value(void);
 void try_values(void);
 void try_rewrite(void);
+void try_alone(void);
 void try_write(void);
 void try_stream(void);
 

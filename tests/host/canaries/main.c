@@ -50,7 +50,7 @@ static void check_texts(void)
 }
 
 static void (*const calls[])(void) = {
-    try_judge, try_list, try_number, try_value, try_values, try_rewrite, try_write, try_stream,
+    try_judge, try_list, try_number, try_value, try_values, try_rewrite, try_alone, try_write, try_stream,
 };
 
 int main(int count, char **words)

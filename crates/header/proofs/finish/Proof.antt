@@ -51,6 +51,9 @@ refuse-requires-5 c κs = search needs
 enum-known-place : tie.Need-enum-known-place
 enum-known-place c = search needs
 
+bare-reply-requires : tie.Need-bare-reply-requires
+bare-reply-requires c κs = search needs
+
 returns-3 : tie.Need-returns-3
 returns-3 c =
     let at-if1 = c .before .before .before .before in
@@ -74,9 +77,11 @@ returns-5 c =
 
 returns-6 : tie.Need-returns-6
 returns-6 c =
-    let at-if1 = c .before .before .before .before in
+    let at-place = c .before .before in
+    let at-if2 = at-place .before .before in
+    let at-if1 = at-if2 .before in
     let at-start = at-if1 .before .before in
-    end-place (at-start .args .s) (at-start .args .lines) (at-start .args .rest .now) _ (at-if1 .if1 .left) (c .before .before .before .if2 .left) (c .before .place .given .1)
+    rw (c .bare-reply .ensures) (end-place (at-start .args .s) (at-start .args .lines) (at-start .args .rest .now) _ (at-if1 .if1 .left) (at-if2 .if2 .left) (at-place .place .given .1))
 
 pub finish-spec : {M : Type 1} → statement M
 finish-spec =
@@ -96,6 +101,7 @@ finish-spec =
     enum-told-3
     refuse-requires-5
     enum-known-place
+    bare-reply-requires
     returns-3
     returns-4
     returns-5

@@ -8,22 +8,33 @@ use Rattle.judge.proofs.finish.Tie as tie
 line-fault-requires : tie.Need-line-fault-requires
 line-fault-requires c κs = search needs
 
-add-t8 : tie.Need-add-t8
-add-t8 c = search needs
+add-reply-at : tie.Need-add-reply-at
+add-reply-at c = search needs
+
+reply-at-requires : tie.Need-reply-at-requires
+reply-at-requires c κs = search needs
 
 returns : tie.Need-returns
 returns c =
-    let at-start = c .before .before .before in
-    rw (c .line-fault .ensures) (runEnd-rest (at-start .args .s) (at-start .args .lines) (at-start .args .rest .now) (c .before .if1 .taken))
+    let at-start = c .before .before .before .before in
+    c .reply-at .ensures ∙ rw (c .before .line-fault .ensures) (runEnd-rest (at-start .args .s) (at-start .args .lines) (at-start .args .rest .now) (c .before .before .if1 .taken))
 
 enum-told : tie.Need-enum-told
 enum-told c = search needs
 
+bare-reply-requires : tie.Need-bare-reply-requires
+bare-reply-requires c κs = search needs
+
 returns-2 : tie.Need-returns-2
 returns-2 c =
-    let at-if1 = c .before .before .before .before in
+    let at-if2 = c .before in
+    let at-if1 = at-if2 .before .before .before .before in
     let at-start = at-if1 .before .before in
-    runEnd-no-set (at-start .args .s) (at-start .args .lines) (at-start .args .rest .now) (at-if1 .if1 .left) (c .before .before .enum-told .given .1) (c .if2 .taken)
+    let no-set = runEnd-no-set (at-start .args .s) (at-start .args .lines) (at-start .args .rest .now) (at-if1 .if1 .left) (at-if2 .before .before .enum-told .given .1) in
+    c .bare-reply .ensures ∙ no-set (at-if2 .if2 .taken)
+
+bare-reply-requires-2 : tie.Need-bare-reply-requires-2
+bare-reply-requires-2 c κs = search needs
 
 enum-told-2 : tie.Need-enum-told-2
 enum-told-2 c = search needs
@@ -45,9 +56,11 @@ ends-inside-requires-3 c κs = search needs
 
 returns-3 : tie.Need-returns-3
 returns-3 c =
-    let at-if1 = c .before .before .before .before in
+    let at-if2 = c .before in
+    let at-if1 = at-if2 .before .before .before .before in
     let at-start = at-if1 .before .before in
-    runEnd-accepted (at-start .args .s) (at-start .args .lines) (at-start .args .rest .now) (at-if1 .if1 .left) (c .before .before .enum-told .given .1) (c .if2 .left)
+    let accepted = runEnd-accepted (at-start .args .s) (at-start .args .lines) (at-start .args .rest .now) (at-if1 .if1 .left) (at-if2 .before .before .enum-told .given .1) in
+    c .bare-reply2 .ensures ∙ accepted (at-if2 .if2 .left)
 
 returns-4 : tie.Need-returns-4
 returns-4 c =
@@ -69,10 +82,13 @@ finish-spec =
     tie.close
     (tie.spec
     line-fault-requires
-    add-t8
+    add-reply-at
+    reply-at-requires
     returns
     enum-told
+    bare-reply-requires
     returns-2
+    bare-reply-requires-2
     enum-told-2
     ends-inside-requires
     enum-told-3

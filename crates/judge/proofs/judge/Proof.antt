@@ -8,21 +8,28 @@ use borrow.Author.Needs.{needs}
 use Rattle.judge.proofs.judge.Statement.{statement}
 use Rattle.judge.proofs.judge.Tie as tie
 
+bare-reply-requires : tie.Need-bare-reply-requires
+bare-reply-requires c κs = search needs
+
 returns : tie.Need-returns
 unfolding judged
-returns c = simp (lt-ltb _ _ (c .if1 .taken))
+returns c = c .bare-reply .ensures ∙ simp (lt-ltb _ _ (c .before .if1 .taken))
 
 judge-lines-requires : tie.Need-judge-lines-requires
 judge-lines-requires c κs = search needs
 
-add-t8 : tie.Need-add-t8
-add-t8 c = search needs
+add-reply-at : tie.Need-add-reply-at
+add-reply-at c = search needs
+
+reply-at-requires : tie.Need-reply-at-requires
+reply-at-requires c κs = search needs
 
 returns-2 : tie.Need-returns-2
 unfolding judged
 returns-2 c =
-    let at-if1 = c .before .before .before .before in
-    simp (le-ltb _ _ (at-if1 .if1 .left)) (whole-refused _ _ _ _ (c .before .before .before .judge-lines .ensures) (c .before .if2 .taken))
+    let at-judge-lines = c .before .before .before .before in
+    let refused = whole-refused _ _ _ _ (at-judge-lines .judge-lines .ensures) (c .before .before .if2 .taken) in
+    c .reply-at .ensures ∙ simp (le-ltb _ _ (at-judge-lines .before .if1 .left)) refused
 
 sub-finish : tie.Need-sub-finish
 sub-finish c = search needs
@@ -51,9 +58,11 @@ pub judge-spec : {M : Type 1} → statement M
 judge-spec =
     tie.close
     (tie.spec
+    bare-reply-requires
     returns
     judge-lines-requires
-    add-t8
+    add-reply-at
+    reply-at-requires
     returns-2
     sub-finish
     part-finish-start

@@ -1,8 +1,7 @@
 -- `stream::lines_step` meets its contract.
-use mathlib.Core.Path.{refl, ap, _∙_}
+use mathlib.Core.Path.{refl}
 use Rattle.laws.specs.CutLaws.{tail-part}
-use Rattle.stream.specs.Stream.{squeezed}
-use Rattle.stream.specs.StreamLaws.{lines-refused, lines-going}
+use Rattle.stream.specs.StreamLaws.{lines-refused, lines-going, lines-refused-whole, lines-going-whole, none-held}
 use native.Mathlib.Omega.{arith}
 use borrow.Author.Needs.{needs}
 use Rattle.stream.proofs.lines_step.Statement.{statement}
@@ -13,34 +12,42 @@ judge-lines-requires c κs = (c .before .pre .0, omega (arith, c .before .pre))
 
 returns : tie.Need-returns
 returns c =
-    let at-pre = c .before .before .before .before .before in
-    (lines-refused _ _ _ _ _ (at-pre .pre .0) (at-pre .pre .1 .0) (at-pre .pre .1 .1) _ (c .before .before .before .judge-lines .ensures) _ (c .if1 .taken), refl)
+    let at-start = c .before .before .before .before .before in
+    let judged = c .before .before .before .judge-lines .ensures in
+    (lines-refused _ _ _ _ _ (at-start .pre .1) (at-start .pre .3) _ judged _ (c .if1 .taken), lines-refused-whole _ _ _ _ _ _ judged (c .if1 .taken))
 
-sub-push-all : tie.Need-sub-push-all
-sub-push-all c =
-    let at-judge-lines = c .before .before .before .before in
-    omega (arith, at-judge-lines .judge-lines .ensures .within)
+sub-rest : tie.Need-sub-rest
+sub-rest c = omega (arith, c .before .before .before .judge-lines .ensures .within)
 
-part-push-all-start : tie.Need-part-push-all-start
-part-push-all-start c =
-    let at-judge-lines = c .before .before .before .before in
-    omega (arith, at-judge-lines .judge-lines .ensures .within)
+part-rest-start : tie.Need-part-rest-start
+part-rest-start c = omega (arith, c .before .before .before .judge-lines .ensures .within)
 
-part-push-all-end : tie.Need-part-push-all-end
-part-push-all-end c = search needs
+part-rest-end : tie.Need-part-rest-end
+part-rest-end c = search needs
 
-push-all-requires : tie.Need-push-all-requires
-push-all-requires c κs = (search needs, refl)
+sub-held : tie.Need-sub-held
+sub-held c = omega (arith, c .before .before .before .before .judge-lines .ensures .within)
+
+push-requires : tie.Need-push-requires
+push-requires c κs = refl
+
+first-bad-requires : tie.Need-first-bad-requires
+first-bad-requires c κs = search needs
 
 returns-2 : tie.Need-returns-2
 returns-2 c =
-    let at-judge-lines = c .before .before .before .before .before .before in
-    let at-pre = at-judge-lines .before .before in
-    let pre = at-pre .pre in
+    let at-if1 = c .before .before .before .before in
+    let at-judge-lines = at-if1 .before .before .before in
+    let at-start = at-judge-lines .before .before in
+    let pre = at-start .pre in
     let judged = at-judge-lines .judge-lines in
-    let going = c .before .before .before .if1 .left in
-    let rest = c .push-all .ensures .2 ∙ ap squeezed (tail-part (at-pre .args .burst .now) (judged .result .at)) in
-    (lines-going _ _ _ _ _ (pre .0) (pre .1 .0) (pre .1 .1) _ (judged .ensures) _ _ going (c .push-all .ensures .0) rest, refl)
+    let rest = tail-part (at-start .args .burst .now) (judged .result .at) in
+    let going = at-if1 .if1 .left in
+    let pushed = c .before .push .ensures in
+    let found = c .first-bad .ensures in (
+      lines-going _ _ _ _ _ (pre .1) (pre .3) _ (judged .ensures) _ _ _ _ going (pre .2) none-held rest pushed found,
+      lines-going-whole _ _ _ _ _ _ (judged .ensures) _ _ _ going rest pushed found,
+    )
 
 pub lines-step-spec : {M : Type 1} → statement M
 lines-step-spec =
@@ -48,8 +55,10 @@ lines-step-spec =
     (tie.spec
     judge-lines-requires
     returns
-    sub-push-all
-    part-push-all-start
-    part-push-all-end
-    push-all-requires
+    sub-rest
+    part-rest-start
+    part-rest-end
+    sub-held
+    push-requires
+    first-bad-requires
     returns-2)

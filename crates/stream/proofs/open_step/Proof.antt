@@ -1,13 +1,12 @@
 -- `stream::open_step` meets its contract.
-use mathlib.Core.Path.{_≡_, refl, sym, ap, _∙_}
+use mathlib.Core.Path.{_≡_, sym, _∙_}
 use mathlib.Core.List.{List}
 use Prim.Native.Nat.{ℕ}
-use lib.ListN.{take, length-take}
+use lib.ListN.{length-take}
 use lib.Seq.{length-take-le}
 use Rattle.laws.specs.Cut.{lineLen}
 use Rattle.line.specs.LineLaws.{lineLen-most}
-use Rattle.stream.specs.Stream.{pushAll}
-use Rattle.stream.specs.StreamLaws.{burst-still, first-open, burst-next, burst-stops, open-part, openLen-most}
+use Rattle.stream.specs.StreamLaws.{burst-still, burst-next, burst-stops, burst-still-whole, burst-next-whole, burst-stops-whole}
 use native.Mathlib.Omega.{arith}
 use borrow.Author.Needs.{needs}
 use Rattle.stream.proofs.open_step.Statement.{statement}
@@ -16,115 +15,107 @@ use Rattle.stream.proofs.open_step.Tie as tie
 find-end-requires : tie.Need-find-end-requires
 find-end-requires c κs = search needs
 
-open-len-requires : tie.Need-open-len-requires
-open-len-requires c κs = search needs
+slice-aggregate-part : tie.Need-slice-aggregate-part
+slice-aggregate-part c =
+    let at-start = c .before .before .before .before .before in
+    sym (length-take-le _ _ (omega (arith, c .before .find-end .ensures, lineLen-most (at-start .args .burst .now))))
 
-slice-aggregate-push-all : tie.Need-slice-aggregate-push-all
-slice-aggregate-push-all c =
-    let at-start = c .before .before .before .before .before .before .before in
-    sym (length-take-le _ _ (omega (arith, c .before .before .before .find-end .ensures, lineLen-most (at-start .args .burst .now))))
+push-requires : tie.Need-push-requires
+push-requires c κs = search needs
 
-push-all-requires : tie.Need-push-all-requires
-push-all-requires c κs =
-    let at-start = c .before .before .before .before .before .before .before in
-    (omega (arith, c .before .open-len .ensures .0, openLen-most (at-start .args .c)), c .before .open-len .ensures .1)
+bad-column-requires : tie.Need-bad-column-requires
+bad-column-requires c κs =
+    let at-find-end = c .before .before .before in
+    let at-start = at-find-end .before .before .before .before in
+    omega (arith, at-start .pre, length-take (at-find-end .find-end .result) (at-start .args .burst .now))
+
+add-held : tie.Need-add-held
+add-held c =
+    let at-find-end = c .before .before .before .before .before in
+    let at-start = at-find-end .before .before .before .before in
+    omega (arith, at-start .pre, at-find-end .find-end .ensures, lineLen-most (at-start .args .burst .now))
 
 returns : tie.Need-returns
 returns c =
-    let at-open-len = c .before .before .before in
-    let at-find-end = at-open-len .before .before in
+    let at-bad-column = c .before .before in
+    let at-push = at-bad-column .before in
+    let at-find-end = at-push .before .before .before in
     let at-start = at-find-end .before .before .before .before in
     let burst : List ℕ = at-start .args .burst .now in
     let pre = at-start .pre in
-    let end : ℕ = at-find-end .find-end .result in
-    let ends : end ≡ lineLen burst = omega (arith, at-find-end .find-end .ensures) in
-    let held = open-part (at-start .args .c) (at-open-len .open-len .result) (at-open-len .open-len .ensures .0) in
-    let push = c .before .push-all in
-    let pushed = push .ensures .2 ∙ ap (λ (x : List ℕ). pushAll x (take end burst)) held in
-    (burst-still (at-start .args .c) burst (at-start .args .total) (pre .0) (pre .1) end ends _ (push .result) (push .ensures .0) pushed (c .if1 .taken), refl)
+    let ends : at-find-end .find-end .result ≡ lineLen burst = omega (arith, at-find-end .find-end .ensures) in
+    let found = at-bad-column .bad-column .ensures in (
+      burst-still (at-start .args .c) burst (at-start .args .total) (pre .0) (pre .1) (pre .2) _ ends _ _ (at-push .push .ensures) found (c .if1 .taken),
+      burst-still-whole (at-start .args .c) burst (at-start .args .total) (pre .0) (pre .1) (pre .2) _ ends _ _ (at-push .push .ensures) found (c .if1 .taken),
+    )
 
-array-share-prefix-line : tie.Need-array-share-prefix-line
-array-share-prefix-line c = omega (arith, c .before .push-all .ensures .0, c .before .push-all .ensures .1)
+open-outcome-requires : tie.Need-open-outcome-requires
+open-outcome-requires c κs = search needs
 
-slice-aggregate-judge-open : tie.Need-slice-aggregate-judge-open
-slice-aggregate-judge-open c =
-    let at-push-all = c .before .before in
-    sym (length-take-le _ _ (omega (arith, at-push-all .push-all .ensures .0, at-push-all .push-all .ensures .1)))
-
-judge-open-requires : tie.Need-judge-open-requires
-judge-open-requires c κs =
-    let at-push-all = c .before .before in
-    let at-open-len = at-push-all .before .before in
-    let at-find-end = at-open-len .before .before in
-    let at-pre = at-find-end .before .before .before .before in
-    let burst : List ℕ = at-pre .args .burst .now in
-    let pre = at-pre .pre in
-    let end : ℕ = at-find-end .find-end .result in
-    let ends : end ≡ lineLen burst = omega (arith, at-find-end .find-end .ensures) in
-    let held = open-part (at-pre .args .c) (at-open-len .open-len .result) (at-open-len .open-len .ensures .0) in
-    let push = at-push-all .push-all in
-    let pushed = push .ensures .2 ∙ ap (λ (x : List ℕ). pushAll x (take end burst)) held in
-    let first = first-open (at-pre .args .c) burst (at-pre .args .total) (pre .0) (pre .1) end ends _ (push .result) (push .ensures .0) pushed in
-    (omega (arith, pre), (simp length-take (omega (arith, push .ensures .0)), first))
-
-returns-2 : tie.Need-returns-2
-returns-2 c =
-    let at-if1 = c .before .before .before .before .before in
-    let at-push-all = at-if1 .before in
-    let at-open-len = at-push-all .before .before in
-    let at-find-end = at-open-len .before .before in
-    let at-start = at-find-end .before .before .before .before in
-    let burst : List ℕ = at-start .args .burst .now in
-    let pre = at-start .pre in
-    let end : ℕ = at-find-end .find-end .result in
-    let ends : end ≡ lineLen burst = omega (arith, at-find-end .find-end .ensures) in
-    let held = open-part (at-start .args .c) (at-open-len .open-len .result) (at-open-len .open-len .ensures .0) in
-    let push = at-push-all .push-all in
-    let pushed = push .ensures .2 ∙ ap (λ (x : List ℕ). pushAll x (take end burst)) held in
-    let judged = c .before .before .before .judge-open .ensures in
-    (burst-stops (at-start .args .c) burst (at-start .args .total) (pre .0) (pre .1) end ends _ (push .result) (push .ensures .0) pushed (at-if1 .if1 .left) _ judged _ (c .if2 .taken), refl)
+enum-known-next : tie.Need-enum-known-next
+enum-known-next c = search needs
 
 add-lines-step : tie.Need-add-lines-step
 add-lines-step c = search needs
 
-lines-step-requires : tie.Need-lines-step-requires
-lines-step-requires c κs =
-    let at-if1 = c .before .before .before .before .before in
-    let at-pre = at-if1 .before .before .before .before .before .before .before .before .before in
-    (omega (arith, at-if1 .if1 .left), (omega (arith, c .before .before .before .judge-open .ensures .few, at-if1 .if1 .left, at-pre .pre), at-pre .pre .1))
+add-lines-step-2 : tie.Need-add-lines-step-2
+add-lines-step-2 c = search needs
 
-returns-3 : tie.Need-returns-3
-returns-3 c =
-    let at-judge-open = c .before .before .before .before in
-    let at-if1 = at-judge-open .before .before in
-    let at-push-all = at-if1 .before in
-    let at-open-len = at-push-all .before .before in
-    let at-find-end = at-open-len .before .before in
+lines-step-requires : tie.Need-lines-step-requires
+lines-step-requires c κs = search needs
+
+enum-known-fault : tie.Need-enum-known-fault
+enum-known-fault c = search needs
+
+returns-2 : tie.Need-returns-2
+returns-2 c =
+    let at-outcome = c .before .before .before .before .before in
+    let at-if1 = at-outcome .before .before in
+    let at-bad-column = at-if1 .before .before in
+    let at-push = at-bad-column .before in
+    let at-find-end = at-push .before .before .before in
     let at-start = at-find-end .before .before .before .before in
     let burst : List ℕ = at-start .args .burst .now in
     let pre = at-start .pre in
-    let end : ℕ = at-find-end .find-end .result in
-    let ends : end ≡ lineLen burst = omega (arith, at-find-end .find-end .ensures) in
-    let held = open-part (at-start .args .c) (at-open-len .open-len .result) (at-open-len .open-len .ensures .0) in
-    let push = at-push-all .push-all in
-    let pushed = push .ensures .2 ∙ ap (λ (x : List ℕ). pushAll x (take end burst)) held in
-    let judged = at-judge-open .judge-open .ensures in
-    let next = burst-next (at-start .args .c) burst (at-start .args .total) (pre .0) (pre .1) end ends _ (push .result) (push .ensures .0) pushed (at-if1 .if1 .left) _ judged (c .before .if2 .left) in
-    (c .lines-step .ensures .0 ∙ next, c .lines-step .ensures .1)
+    let ends : at-find-end .find-end .result ≡ lineLen burst = omega (arith, at-find-end .find-end .ensures) in
+    let found = at-bad-column .bad-column .ensures in
+    let outcome = sym (at-outcome .open-outcome .ensures) ∙ c .before .before .before .next .given .1 in
+    let next = burst-next (at-start .args .c) burst (at-start .args .total) (pre .0) (pre .1) (pre .2) _ ends _ _ (at-push .push .ensures) found (at-if1 .if1 .left) _ outcome in
+    let whole = burst-next-whole (at-start .args .c) burst (at-start .args .total) (pre .0) (pre .1) (pre .2) _ ends _ _ (at-push .push .ensures) found (at-if1 .if1 .left) _ outcome in
+    (c .lines-step .ensures .0 ∙ next, c .lines-step .ensures .1 ∙ whole)
+
+returns-3 : tie.Need-returns-3
+returns-3 c =
+    let at-outcome = c .before .before .before in
+    let at-if1 = at-outcome .before .before in
+    let at-bad-column = at-if1 .before .before in
+    let at-push = at-bad-column .before in
+    let at-find-end = at-push .before .before .before in
+    let at-start = at-find-end .before .before .before .before in
+    let burst : List ℕ = at-start .args .burst .now in
+    let pre = at-start .pre in
+    let ends : at-find-end .find-end .result ≡ lineLen burst = omega (arith, at-find-end .find-end .ensures) in
+    let found = at-bad-column .bad-column .ensures in
+    let outcome = sym (at-outcome .open-outcome .ensures) ∙ c .before .fault .given .1 in (
+      burst-stops (at-start .args .c) burst (at-start .args .total) (pre .0) (pre .1) (pre .2) _ ends _ _ (at-push .push .ensures) found (at-if1 .if1 .left) _ outcome,
+      burst-stops-whole (at-start .args .c) burst (at-start .args .total) (pre .0) (pre .1) (pre .2) _ ends _ _ (at-push .push .ensures) found (at-if1 .if1 .left) _ outcome,
+    )
 
 pub open-step-spec : {M : Type 1} → statement M
 open-step-spec =
     tie.close
     (tie.spec
     find-end-requires
-    open-len-requires
-    slice-aggregate-push-all
-    push-all-requires
+    slice-aggregate-part
+    push-requires
+    bad-column-requires
+    add-held
     returns
-    array-share-prefix-line
-    slice-aggregate-judge-open
-    judge-open-requires
-    returns-2
+    open-outcome-requires
+    enum-known-next
     add-lines-step
+    add-lines-step-2
     lines-step-requires
+    enum-known-fault
+    returns-2
     returns-3)

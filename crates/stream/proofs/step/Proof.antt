@@ -1,5 +1,5 @@
 -- `stream::step` meets its contract.
-use Rattle.stream.specs.StreamLaws.{stepped-ended, stepped-past, stepped-refused, stepped-going, bounds}
+use Rattle.stream.specs.StreamLaws.{stepped-ended, stepped-past, stepped-refused, stepped-going, bounds, room}
 use native.Mathlib.Omega.{arith}
 use borrow.Author.Needs.{needs}
 use Rattle.stream.proofs.step.Statement.{statement}
@@ -40,7 +40,8 @@ open-step-requires c κs =
     let args = at-start .args in
     let run = at-running .running in
     let within = c .before .if2 .left in
-    (bounds (args .c) (args .burst .now) (c .before .before .before .if1 .left) (run .result) (run .ensures) within, within)
+    let asked = c .before .before .before .if1 .left in
+    (bounds (args .c) (args .burst .now) asked (run .result) (run .ensures) within, room (args .c) (args .burst .now) asked (run .result) (run .ensures) within, within)
 
 returns-4 : tie.Need-returns-4
 returns-4 c =

@@ -11,18 +11,28 @@ use Rattle.stream_c.proofs.burst.Tie as tie
 is-short-requires : tie.Need-is-short-requires
 is-short-requires c κs = search needs
 
+bare-reply-requires : tie.Need-bare-reply-requires
+bare-reply-requires c κs = search needs
+
 returns : tie.Need-returns
-returns c = burst-short _ _ _ (sym (c .before .is-short .ensures) ∙ c .if1 .taken)
+returns c =
+    let at-if1 = c .before in
+    rw (c .bare-reply .ensures) (burst-short _ _ _ (sym (at-if1 .before .is-short .ensures) ∙ at-if1 .if1 .taken))
 
 slice-read-if2 : tie.Need-slice-read-if2
 slice-read-if2 c =
     let at-start = c .before .before .before .before .before .before in
     omega (arith, room (length (at-start .args .numbers .now)) (length (at-start .args .line .now)) (sym (c .before .before .is-short .ensures) ∙ c .before .if1 .left) .0)
 
+bare-reply-requires-2 : tie.Need-bare-reply-requires-2
+bare-reply-requires-2 c κs = search needs
+
 returns-2 : tie.Need-returns-2
 returns-2 c =
-    let at-start = c .before .before .before .before .before .before .before in
-    burst-ended (at-start .args .numbers .now) (at-start .args .line .now) _ (sym (c .before .before .before .is-short .ensures) ∙ c .before .before .if1 .left) (omega (arith, c .if2 .taken))
+    let at-if2 = c .before in
+    let at-start = at-if2 .before .before .before .before .before .before .before in
+    let long = sym (at-if2 .before .before .before .is-short .ensures) ∙ at-if2 .before .before .if1 .left in
+    rw (c .bare-reply2 .ensures) (burst-ended (at-start .args .numbers .now) (at-start .args .line .now) _ long (omega (arith, at-if2 .if2 .taken)))
 
 record-in-requires : tie.Need-record-in-requires
 record-in-requires c κs =
@@ -70,8 +80,10 @@ burst-spec =
     tie.close
     (tie.spec
     is-short-requires
+    bare-reply-requires
     returns
     slice-read-if2
+    bare-reply-requires-2
     returns-2
     record-in-requires
     after-burst-requires

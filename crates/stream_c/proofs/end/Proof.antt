@@ -10,8 +10,13 @@ use Rattle.stream_c.proofs.end.Tie as tie
 is-short-requires : tie.Need-is-short-requires
 is-short-requires c κs = search needs
 
+bare-reply-requires : tie.Need-bare-reply-requires
+bare-reply-requires c κs = search needs
+
 returns : tie.Need-returns
-returns c = end-short _ _ (sym (c .before .is-short .ensures) ∙ c .if1 .taken)
+returns c =
+    let at-if1 = c .before in
+    rw (c .bare-reply .ensures) (end-short _ _ (sym (at-if1 .before .is-short .ensures) ∙ at-if1 .if1 .taken))
 
 record-in-requires : tie.Need-record-in-requires
 record-in-requires c κs = room _ _ (sym (c .before .before .is-short .ensures) ∙ c .before .if1 .left)
@@ -38,6 +43,7 @@ end-spec =
     tie.close
     (tie.spec
     is-short-requires
+    bare-reply-requires
     returns
     record-in-requires
     reply-requires

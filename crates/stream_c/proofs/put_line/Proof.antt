@@ -26,7 +26,7 @@ returns c =
     let at-put-text = at-put-text2 .before .before .before .before .before in
     let at-start = at-put-text .before .before .before .before in
     let pending : List ℕ = at-start .args .pending .now in
-    let room : length pending ≡ 82 = search needs in
+    let room : length pending ≡ 81 = search needs in
     (laid-line pending (at-start .args .line .now) _ _ _ room (at-put-text .put-text .ensures .0) (at-put-text .put-text .ensures .1) (at-put-text2 .put-text2 .ensures .1), room)
 
 pub put-line-spec : {M : Type 1} → statement M

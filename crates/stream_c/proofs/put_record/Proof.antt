@@ -30,17 +30,17 @@ part-put-six-end c = search needs
 put-six-requires : tie.Need-put-six-requires
 put-six-requires c κs = search needs
 
-sub-put-unused : tie.Need-sub-put-unused
-sub-put-unused c = search needs
+sub-put-column : tie.Need-sub-put-column
+sub-put-column c = search needs
 
-part-put-unused-start : tie.Need-part-put-unused-start
-part-put-unused-start c = search needs
+part-put-column-start : tie.Need-part-put-column-start
+part-put-column-start c = search needs
 
-part-put-unused-end : tie.Need-part-put-unused-end
-part-put-unused-end c = search needs
+part-put-column-end : tie.Need-part-put-column-end
+part-put-column-end c = search needs
 
-put-unused-requires : tie.Need-put-unused-requires
-put-unused-requires c κs = search needs
+put-column-requires : tie.Need-put-column-requires
+put-column-requires c κs = search needs
 
 put-line-requires : tie.Need-put-line-requires
 put-line-requires c κs = search needs
@@ -54,16 +54,16 @@ same-length-2 c = search needs
 returns : tie.Need-returns
 returns c =
     let at-put-line = c .before .before in
-    let at-put-unused = at-put-line .before .before .before .before .before in
-    let at-put-six = at-put-unused .before .before .before .before in
+    let at-put-column = at-put-line .before .before .before .before .before in
+    let at-put-six = at-put-column .before .before .before .before in
     let at-put-place = at-put-six .before .before .before .before in
     let at-flag = at-put-place .before .before .before in
     let at-start = at-flag .before .before .before .before .before .before in
     let fits = at-flag .before .struct-known2 .given in
     let place = at-put-place .put-place .ensures in
     let six = at-put-six .put-six .ensures in
-    let unused = at-put-unused .put-unused .ensures in
-    let numbers = laid-record (at-start .args .c) (at-start .args .numbers .now) _ _ _ place six (at-flag .flag .ensures) _ _ refl unused in
+    let column = at-put-column .put-column .ensures in
+    let numbers = laid-record (at-start .args .c) (at-start .args .numbers .now) _ _ _ place six (at-flag .flag .ensures) _ _ refl column in
     (numbers, at-put-line .put-line .ensures .0, record { sets = omega (arith, fits); number = omega (arith, fits); pending = at-put-line .put-line .ensures .1 })
 
 pub put-record-spec : {M : Type 1} → statement M
@@ -78,10 +78,10 @@ put-record-spec =
     part-put-six-start
     part-put-six-end
     put-six-requires
-    sub-put-unused
-    part-put-unused-start
-    part-put-unused-end
-    put-unused-requires
+    sub-put-column
+    part-put-column-start
+    part-put-column-end
+    put-column-requires
     put-line-requires
     same-length
     same-length-2

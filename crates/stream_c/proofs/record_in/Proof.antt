@@ -30,33 +30,36 @@ slice-aggregate-put-text c = search needs
 slice-aggregate-put-text-2 : tie.Need-slice-aggregate-put-text-2
 slice-aggregate-put-text-2 c =
     let at-pre = c .before .before .before .before .before .before .before .before in
-    sym (length-take-le 82 (at-pre .args .line .now) (search needs))
+    sym (length-take-le 81 (at-pre .args .line .now) (search needs))
 
 put-text-requires : tie.Need-put-text-requires
 put-text-requires c κs =
     let at-pre = c .before .before .before .before .before .before .before .before in
-    omega (arith, length-take-le 82 (at-pre .args .line .now) (search needs))
-
-shared-slice-read-t8 : tie.Need-shared-slice-read-t8
-shared-slice-read-t8 c = search needs
+    omega (arith, length-take-le 81 (at-pre .args .line .now) (search needs))
 
 shared-slice-read-t9 : tie.Need-shared-slice-read-t9
 shared-slice-read-t9 c = search needs
 
-shared-slice-read-t22 : tie.Need-shared-slice-read-t22
-shared-slice-read-t22 c = search needs
+shared-slice-read-t8 : tie.Need-shared-slice-read-t8
+shared-slice-read-t8 c = search needs
+
+shared-slice-read-t21 : tie.Need-shared-slice-read-t21
+shared-slice-read-t21 c = search needs
 
 shared-slice-read-t25 : tie.Need-shared-slice-read-t25
 shared-slice-read-t25 c = search needs
 
+shared-slice-read-t28 : tie.Need-shared-slice-read-t28
+shared-slice-read-t28 c = search needs
+
 returns : tie.Need-returns
 unfolding streamOf
 returns c =
-    let at-put-text = c .before .before .before .before .before in
+    let at-put-text = c .before .before .before .before .before .before in
     let at-byte-of = at-put-text .before .before .before in
     let at-place-in = at-byte-of .before .before .before in
     let at-pre = at-place-in .before .before .before in
-    let room : length (take 82 (at-pre .args .line .now)) ≡ 82 = length-take-le 82 (at-pre .args .line .now) (search needs) in
+    let room : length (take 81 (at-pre .args .line .now)) ≡ 81 = length-take-le 81 (at-pre .args .line .now) (search needs) in
     rw (at-place-in .place-in .ensures, at-byte-of .byte-of .ensures, at-put-text .put-text .ensures .1, placed-whole _ _ room) refl
 
 pub record-in-spec : {M : Type 1} → statement M
@@ -73,6 +76,7 @@ record-in-spec =
     put-text-requires
     shared-slice-read-t9
     shared-slice-read-t8
-    shared-slice-read-t22
+    shared-slice-read-t21
     shared-slice-read-t25
+    shared-slice-read-t28
     returns)

@@ -18,12 +18,16 @@ returns c =
 find-data-requires : tie.Need-find-data-requires
 find-data-requires c κs = search needs
 
+bare-reply-requires : tie.Need-bare-reply-requires
+bare-reply-requires c κs = search needs
+
 returns-2 : tie.Need-returns-2
 returns-2 c =
-    let at-judge = c .before .before .before .before .before in
+    let at-if2 = c .before in
+    let at-judge = at-if2 .before .before .before .before .before in
     let at-start = at-judge .before .before .before in
     let args = at-start .args in
-    none-there (args .file .now) (args .set) (args .out .now) _ (at-judge .judge .ensures) (c .before .before .before .if1 .left) _ (c .before .before .find-data .ensures) (c .if2 .taken)
+    rw (c .bare-reply .ensures) (none-there (args .file .now) (args .set) (args .out .now) _ (at-judge .judge .ensures) (at-if2 .before .before .before .if1 .left) _ (at-if2 .before .before .find-data .ensures) (at-if2 .if2 .taken))
 
 cast-stored : tie.Need-cast-stored
 cast-stored c = search needs
@@ -45,27 +49,35 @@ first-refusal-requires c κs =
     let at-start = at-find-data .before .before .before .before .before .before in
     data-inside (at-start .args .file .now) _ _ (at-find-data .find-data .ensures)
 
+bare-reply-requires-2 : tie.Need-bare-reply-requires-2
+bare-reply-requires-2 c κs = search needs
+
 returns-3 : tie.Need-returns-3
 returns-3 c =
-    let at-if2 = c .before .before .before .before in
+    let at-if3 = c .before in
+    let at-if2 = at-if3 .before .before .before .before in
     let at-find-data = at-if2 .before .before in
     let at-if1 = at-find-data .before in
     let at-judge = at-if1 .before .before in
     let at-start = at-judge .before .before .before in
     let args = at-start .args in
     let refused = one-refused (args .file .now) (args .set) (args .out .now) _ (at-judge .judge .ensures) (at-if1 .if1 .left) _ (at-find-data .find-data .ensures) (at-if2 .if2 .left) in
-    refused _ _ _ refl (c .before .before .numbers-of .ensures) (c .before .first-refusal .ensures) (c .if3 .taken)
+    rw (c .bare-reply2 .ensures) (refused _ _ _ refl (at-if3 .before .before .numbers-of .ensures) (at-if3 .before .first-refusal .ensures) (at-if3 .if3 .taken))
+
+bare-reply-requires-3 : tie.Need-bare-reply-requires-3
+bare-reply-requires-3 c κs = search needs
 
 returns-4 : tie.Need-returns-4
 returns-4 c =
-    let at-if2 = c .before .before .before .before .before in
+    let at-if4 = c .before in
+    let at-if2 = at-if4 .before .before .before .before .before in
     let at-find-data = at-if2 .before .before in
     let at-if1 = at-find-data .before in
     let at-judge = at-if1 .before .before in
     let at-start = at-judge .before .before .before in
     let args = at-start .args in
     let few = too-few (args .file .now) (args .set) (args .out .now) _ (at-judge .judge .ensures) (at-if1 .if1 .left) _ (at-find-data .find-data .ensures) (at-if2 .if2 .left) in
-    few _ _ _ refl (c .before .before .before .numbers-of .ensures) (c .before .before .first-refusal .ensures) (c .before .if3 .left) (c .if4 .taken)
+    rw (c .bare-reply3 .ensures) (few _ _ _ refl (at-if4 .before .before .before .numbers-of .ensures) (at-if4 .before .before .first-refusal .ensures) (at-if4 .before .if3 .left) (at-if4 .if4 .taken))
 
 fill-requires : tie.Need-fill-requires
 fill-requires c κs =
@@ -73,12 +85,16 @@ fill-requires c κs =
     let at-start = at-find-data .before .before .before .before .before .before in
     let i = data-inside (at-start .args .file .now) _ _ (at-find-data .find-data .ensures) in (i .0, (i .1, c .before .if4 .left))
 
+bare-reply-requires-4 : tie.Need-bare-reply-requires-4
+bare-reply-requires-4 c κs = search needs
+
 same-length : tie.Need-same-length
 same-length c = search needs
 
 returns-5 : tie.Need-returns-5
 returns-5 c =
-    let at-if4 = c .before .before .before .before in
+    let at-fill = c .before in
+    let at-if4 = at-fill .before .before .before .before in
     let at-if3 = at-if4 .before in
     let at-first-refusal = at-if3 .before in
     let at-numbers-of = at-first-refusal .before in
@@ -89,7 +105,7 @@ returns-5 c =
     let at-start = at-judge .before .before .before in
     let args = at-start .args in
     let filled = all-filled (args .file .now) (args .set) (args .out .now) _ (at-judge .judge .ensures) (at-if1 .if1 .left) _ (at-find-data .find-data .ensures) (at-if2 .if2 .left) in
-    filled _ _ _ refl (at-numbers-of .numbers-of .ensures) (at-first-refusal .first-refusal .ensures) (at-if3 .if3 .left) (at-if4 .if4 .left) _ (c .before .before .fill .ensures)
+    rw (c .bare-reply4 .ensures) (filled _ _ _ refl (at-numbers-of .numbers-of .ensures) (at-first-refusal .first-refusal .ensures) (at-if3 .if3 .left) (at-if4 .if4 .left) _ (at-fill .before .before .fill .ensures))
 
 pub values-spec : {M : Type 1} → statement M
 values-spec =
@@ -98,13 +114,17 @@ values-spec =
     judge-requires
     returns
     find-data-requires
+    bare-reply-requires
     returns-2
     cast-stored
     numbers-of-requires
     mul-stored
     first-refusal-requires
+    bare-reply-requires-2
     returns-3
+    bare-reply-requires-3
     returns-4
     fill-requires
+    bare-reply-requires-4
     same-length
     returns-5)
