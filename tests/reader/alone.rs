@@ -38,10 +38,10 @@ impl<'a> Alone<'a> {
 
     /// It is accepted at its last line; its row is the file's, counted from its opening line and first byte.
     fn same_row(&self) {
-        let [_, number, count, first, past, data] = self.row;
+        let [_, number, count, first, past, data, padding] = self.row;
         let judged = (Word::accepted(ends(self.bytes) as u32), Vec::<u32>::new());
         self.hold("uff_judge", &judged, &(uff::judge(self.bytes), Vec::new()));
-        let row = vec![1, number, count, 0, past - first, data.saturating_sub(first)];
+        let row = vec![1, number, count, 0, past - first, data.saturating_sub(first), padding];
         self.hold("uff_list", &(Word::accepted(1), row), &ask(ROW_NUMBERS, |rows| uff::list(self.bytes, rows)));
     }
 

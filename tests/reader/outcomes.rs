@@ -34,6 +34,8 @@ const LEAST_OF_ALL_VALUES: u32 = 5_000;
 const LEAST_AT_ONCE: u32 = 1_000;
 /// So many sets must be asked alone, and so many numbers and values of them shown.
 const LEAST_ALONE: u32 = 10_000;
+/// So many sets must have padding, beside the 4,096 of one file.
+const LEAST_PADDED: usize = 4_096 + 2_000;
 /// So many numbers and values that are answered must have an exponent without a letter.
 const LEAST_WITHOUT_LETTER: u32 = 1_000;
 
@@ -51,7 +53,9 @@ pub fn check_outcomes(run: &Run) {
     }
     println!("values of the four kinds: {:?}", &run.kinds[1..]);
     println!("numbers and values without a letter: {:?}", run.without_letter);
+    println!("sets with padding: {}", run.padded);
     let mut seldom = refusals_seldom(tallies);
+    seldom |= run.padded < LEAST_PADDED;
     seldom |= run.without_letter.iter().any(|&came| came < LEAST_WITHOUT_LETTER);
     seldom |= run.kinds[1..].iter().any(|&came| came < LEAST_OF_A_KIND);
     if !run.alone {

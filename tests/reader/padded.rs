@@ -10,7 +10,7 @@ use crate::run::Run;
 use crate::subject::{bits, numbers_of, Subject};
 
 /// Which of a row's numbers counts the padding.
-const SEVENTH: usize = 6;
+pub const SEVENTH: usize = 6;
 
 /// Every file with padding that is accepted, on the plain side; says how many there are.
 pub fn check_padded() -> usize {

@@ -2,6 +2,7 @@
 
 use crate::common::uff::{self, Row};
 use crate::fixed::Fixed;
+use crate::padded::SEVENTH;
 use crate::reader::{self, Accepted, Number};
 use crate::run::{Call, Run, LONG};
 use crate::subject::{numbers_of, Subject};
@@ -35,7 +36,7 @@ pub fn sound(subject: &Subject, rows: &[Row]) {
         _ => subject.fail("plain rewrite", &String::from_utf8_lossy(&text)),
     };
     let kept = |row: &Row| (row[1], row[2]);
-    if !again.list().iter().map(kept).eq(rows.iter().map(kept)) || again.list().iter().any(|row| row[6] > 0) {
+    if !again.list().iter().map(kept).eq(rows.iter().map(kept)) || again.list().iter().any(|row| row[SEVENTH] > 0) {
         subject.fail("plain rewrite", "the rewritten file has other sets, or padding");
     }
     if subject.file.len() > LONG {

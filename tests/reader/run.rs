@@ -6,6 +6,7 @@ use crate::common::uff::{Row, Word, NUMBER_BYTES, ROW_NUMBERS, VALUE_BYTES};
 use crate::fixed::Fixed;
 use crate::generate::Random;
 use crate::judge::Reply;
+use crate::padded::SEVENTH;
 use crate::subject::{numbers_of, Subject};
 use crate::value::BYTES;
 use crate::{list, number, rewrite, values};
@@ -55,6 +56,8 @@ pub struct Run {
     pub kinds: [u32; 5],
     /// Numbers and values with an exponent without a letter.
     pub without_letter: [u32; 2],
+    /// Sets with padding.
+    pub padded: usize,
     /// Sets whose values at once and one by one were held against each other: accepted, 21.
     pub at_once: [u32; 2],
     /// Sets that were asked alone, and how many of their numbers and values were shown.
@@ -70,6 +73,7 @@ impl Run {
             tallies: Default::default(),
             kinds: [0; 5],
             without_letter: [0; 2],
+            padded: 0,
             at_once: [0; 2],
             sets_alone: [0; 2],
         }
@@ -153,6 +157,7 @@ impl Run {
 
     fn take_accepted(&mut self, subject: &Subject, every: bool) {
         let rows = subject.accepted().list();
+        self.padded += rows.iter().filter(|row| row[SEVENTH] > 0).count();
         let long = subject.file.len() > LONG;
         self.take_places(subject, ROW_NUMBERS * rows.len(), long, Run::ask_list);
         self.take_places(subject, subject.accepted().rewrite().len(), long, Run::ask_rewrite);

@@ -2,7 +2,7 @@
 #include "canaries.h"
 
 static const uint64_t own_lines[2] = {6, 16};
-static const uint32_t own_rows[2][UFF_ROW_NUMBERS] = {{1, 164, 0, 0, 164, 0}, {1, 58, 7, 0, 508, 408}};
+static const uint32_t own_rows[2][UFF_ROW_NUMBERS] = {{1, 164, 0, 0, 164, 0, 0}, {1, 58, 7, 0, 508, 408, 0}};
 static const double own_values[7] = {0.1, -0.2, 0.3, -0.4, 0.5, -0.6, 0.7};
 
 /* Bytes 408 to 421 of the set, 100000 (186a0 in base 16), scale -6. */
