@@ -23,6 +23,7 @@ use Rattle.line.specs.declared.Refusal.{Refusal}
 use Rattle.line.specs.Line.{isAllowed, withoutReturn, columns, firstBad, lineFault, filled}
 use Rattle.delimiter.specs.Kind.{thenBlank, isDelimiter, datasetNumber}
 use Rattle.codes.specs.Rule.{keeps}
+use Rattle.codes.specs.Form.{Form}
 use Rattle.layout.specs.Columns as C
 use Rattle.layout.specs.Layout.{layouts, layoutOf, fieldsOf, caseFor, numbersOf}
 use Rattle.field.specs.Item.{Item}
@@ -59,9 +60,14 @@ unfoldable pub computed-real : List ℕ → Real
 unfolding run R.push R.next R.onCoefficient R.onExponent R.onDigit R.onSign R.onPoint R.onLetter R.onBlank R.isLetter R.scanStep R.realEnd R.realOf
 computed-real field = R.realOf field
 
+-- a field by its form
+unfoldable pub computed-field : Form → Bool → List ℕ → ℕ
+unfolding computed-integer computed-real trimmed keeps mayBlank fieldNumber
+computed-field form may field = fieldNumber form may field
+
 -- a line by its row
 unfoldable pub computed-refusal : Row → List ℕ → Refusal
-unfolding computed-integer computed-real trimmed keeps C.fieldStart mayBlank fieldNumber firstNotAbove breach fieldsFault firstNonBlank stray itemsOf conditionFault fieldsRefusal C.total taken takenRefusal rowRefusal
+unfolding computed-field C.fieldStart firstNotAbove breach fieldsFault firstNonBlank stray itemsOf conditionFault fieldsRefusal C.total taken takenRefusal rowRefusal
 computed-refusal row line = rowRefusal row line
 
 -- what is due after a line

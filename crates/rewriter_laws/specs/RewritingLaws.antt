@@ -21,7 +21,8 @@ use Rattle.rewriter.specs.RewriterLaws.{fair-passed, file-fair}
 use Rattle.rewriter_laws.specs.Form.{InForm, LfEnded, OwnLines, SameSets, KeepsSpellings}
 use Rattle.rewriter_laws.specs.OwnLaws.{own-only}
 use Rattle.rewriter_laws.specs.Laid.{bodyOf, keptIn, bodiesOf}
-use Rattle.rewriter_laws.specs.LaidLaws.{lf-ended, lf-joined, laid-joined, laid-ended, stand-own, laid-lines, laid-plain, laid-own, kept-same, laid-short, sets-same, plain-own, plain-only, plain-unpadded}
+use Rattle.rewriter_laws.specs.LaidLaws.{lf-ended, lf-joined, laid-joined, laid-ended, laid-lines, laid-plain, laid-own, laid-short}
+use Rattle.rewriter_laws.specs.LaidLaws.{stand-own, kept-same, sets-same, plain-own, plain-only, plain-unpadded}
 
 -- lines that pass are fair
 pass-fair : {ls : List (List ℕ)} → AllPass ls → FairLines ls

@@ -27,6 +27,11 @@ use Rattle.stream.specs.declared.Answer.the-variants.{SoFar, Refused}
 use Rattle.stream.specs.declared.Stream.{Stream}
 use Rattle.stream.specs.Stream.{openOf, longer, columnsOf, faultOf, openOutcome, Seen, inLimit, past, stepOf, seen, Stepped, answerOf, endReply, closed}
 
+-- a burst's step as it is computed: to open this name is to open every definition that it computes with, but those of a set's lines
+unfoldable computed-step : Seen → List ℕ → Seen
+unfolding stepOf answerOf openOf longer columnsOf faultOf openOutcome over cut isAllowed withoutReturn columns firstBad lineFault lineStep
+computed-step seen burst = stepOf seen burst
+
 abbrev bytes : String → List ℕ
 bytes S.[] = []
 bytes (S._∷_ c s) = code c ∷ bytes s
@@ -57,27 +62,27 @@ abbrev returns : List (List ℕ)
 returns = (bytes "    -1" ++ (13 ∷ [])) ∷ ((10 ∷ bytes "  2420") ++ (13 ∷ [])) ∷ ((10 ∷ bytes "    -1") ++ (13 ∷ [])) ∷ (10 ∷ []) ∷ [] ∷ []
 
 pub returns-accepted : (answers fresh returns ≡ SoFar 0 ∷ SoFar 1 ∷ SoFar 2 ∷ SoFar 3 ∷ SoFar 3 ∷ []) × (ends fresh returns ≡ reply 0 3)
-unfolding stepOf answerOf openOf longer columnsOf faultOf openOutcome over cut run allBlank isDigit I.push stepInteger endInteger integerOf isAllowed withoutReturn columns firstBad lineFault filled thenBlank isDelimiter datasetNumber kindOf isTyped typedSets opened outsideStep numberStep plainStep W.stepOf lineStep
+unfolding computed-step run allBlank isDigit I.push stepInteger endInteger integerOf filled thenBlank isDelimiter datasetNumber kindOf isTyped typedSets opened outsideStep numberStep plainStep W.stepOf
 returns-accepted = (refl, refl)
 
 -- a CR that ends a burst and has no LF after it is a byte not allowed. A judge that drops it at once accepts the line.
 pub return-alone : answers fresh ((bytes "    -" ++ (13 ∷ [])) ∷ (bytes "1" ++ (10 ∷ [])) ∷ []) ≡ SoFar 0 ∷ Refused (replyAt 2 1 6) ∷ []
-unfolding stepOf answerOf openOf longer columnsOf faultOf openOutcome over cut isAllowed withoutReturn columns firstBad lineFault lineStep
+unfolding computed-step
 return-alone = refl
 
 -- a line of 85 bytes, the 83rd of them not allowed. A judge that keeps only its first bytes answers 3, and one that counts from a burst's first byte column 1.
 pub late-byte : answers fresh (replicate 82 32 ∷ (9 ∷ []) ∷ (32 ∷ 32 ∷ []) ∷ (10 ∷ []) ∷ []) ≡ SoFar 0 ∷ SoFar 0 ∷ SoFar 0 ∷ Refused (replyAt 2 1 83) ∷ []
-unfolding stepOf answerOf openOf longer columnsOf faultOf openOutcome over cut isAllowed withoutReturn columns firstBad lineFault lineStep
+unfolding computed-step
 late-byte = refl
 
 -- 84 blanks, then CR LF: 3, since the CR belongs to the end
 pub late-return : answers fresh (replicate 84 32 ∷ (13 ∷ []) ∷ (10 ∷ []) ∷ []) ≡ SoFar 0 ∷ SoFar 0 ∷ Refused (replyAt 3 1 1) ∷ []
-unfolding stepOf answerOf openOf longer columnsOf faultOf openOutcome over cut isAllowed withoutReturn columns firstBad lineFault lineStep
+unfolding computed-step
 late-return = refl
 
 -- 84 blanks and a CR, then CR LF: the first CR is a byte not allowed, at its own column; and so it is where the file ends with it
 pub late-returns : answers fresh (replicate 84 32 ∷ (13 ∷ []) ∷ (13 ∷ 10 ∷ []) ∷ []) ≡ SoFar 0 ∷ SoFar 0 ∷ Refused (replyAt 2 1 85) ∷ []
-unfolding stepOf answerOf openOf longer columnsOf faultOf openOutcome over cut isAllowed withoutReturn columns firstBad lineFault lineStep
+unfolding computed-step
 late-returns = refl
 
 pub last-return : ends fresh (replicate 84 32 ∷ (13 ∷ []) ∷ []) ≡ replyAt 2 1 85

@@ -1,7 +1,8 @@
 -- A file judged while it arrives is judged as the whole file, however it is cut into bursts. A burst takes what a record says of the bytes so far to
 -- what those bytes with the burst give; so bursts bring a fresh record to what their joined bytes give. A burst's answer is 1 past the limit and
 -- otherwise that of the finished lines, and "so far" counts them. The end's answer is the whole file's, asked again too. A refusal that a burst has told
--- is the end's, unless the file gets too long. After the end was asked, a burst is answered 23 and changes nothing. Of any record that is not ended, one made up otherwise too: a burst adds its length to the running length, and past the limit is past for good.
+-- is the end's, unless the file gets too long. After the end was asked, a burst is answered 23 and changes nothing. Of any record that is not ended,
+-- one made up otherwise too: a burst adds its length to the running length, and past the limit is past for good.
 use mathlib.Core.Path.{_≡_, refl, sym, ap, _∙_}
 use mathlib.Core.Bool.{Bool, true, false}
 use mathlib.Core.List.{List, [], _∷_, _++_, append-nil, append-assoc}

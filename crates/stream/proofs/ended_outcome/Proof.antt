@@ -72,7 +72,9 @@ returns-2 c =
     let at-columns-len = at-line-fault .before .before in
     let at-start = at-columns-len .before .before .before in
     let most = ended-most (at-start .args .line .now) (at-start .args .n) _ (at-columns-len .columns-len .ensures) in
-    let judged = ended-refused (at-start .args .state) (at-start .args .line .now) (at-start .args .n) _ (at-columns-len .columns-len .ensures) _ (at-line-fault .line-fault .ensures) (at-if1 .if1 .left) in
+    let columns = at-columns-len .columns-len .ensures in
+    let fault = at-line-fault .line-fault .ensures in
+    let judged = ended-refused (at-start .args .state) (at-start .args .line .now) (at-start .args .n) _ columns _ fault (at-if1 .if1 .left) in
     judged (omega (arith, most, at-start .pre)) _ (at-judge-lines .judge-lines .ensures) (c .if2 .taken)
 
 returns-3 : tie.Need-returns-3
@@ -83,7 +85,9 @@ returns-3 c =
     let at-columns-len = at-line-fault .before .before in
     let at-start = at-columns-len .before .before .before in
     let most = ended-most (at-start .args .line .now) (at-start .args .n) _ (at-columns-len .columns-len .ensures) in
-    let judged = ended-next (at-start .args .state) (at-start .args .line .now) (at-start .args .n) _ (at-columns-len .columns-len .ensures) _ (at-line-fault .line-fault .ensures) (at-if1 .if1 .left) in
+    let columns = at-columns-len .columns-len .ensures in
+    let fault = at-line-fault .line-fault .ensures in
+    let judged = ended-next (at-start .args .state) (at-start .args .line .now) (at-start .args .n) _ columns _ fault (at-if1 .if1 .left) in
     judged (omega (arith, most, at-start .pre)) _ (at-judge-lines .judge-lines .ensures) (c .if2 .left)
 
 pub ended-outcome-spec : {M : Type 1} → statement M

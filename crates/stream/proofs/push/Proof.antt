@@ -66,10 +66,11 @@ loop-again c =
     let from = at-least .least .ensures in
     let count = at-least2 .least2 .ensures in
     let next = lay-next (at-start .args .line .now) (at-start .args .held) (at-start .args .bytes .now) _ from (at-start .pre) in
+    let laid = next (at-loop .loop .line) (at-loop .loop .i) (inv .pasted) in
     record {
       within = search needs;
       wide = simp length-set (inv .wide);
-      pasted = next (at-loop .loop .line) (at-loop .loop .i) (inv .pasted) (omega (arith, more, count)) (omega (arith, more, from, count)) (omega (arith, more, from, count)) (omega (arith, more, count));
+      pasted = laid (omega (arith, more, count)) (omega (arith, more, from, count)) (omega (arith, more, from, count)) (omega (arith, more, count));
     }
 
 sub-line : tie.Need-sub-line Inv-loop μ-loop
