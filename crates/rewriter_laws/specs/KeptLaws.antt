@@ -105,7 +105,7 @@ body-trimmed (l ∷ ls) = Trimmed.more (unpadded-text (kept-in l)) (body-trimmed
 -- Lines of which the last is cut.
 
 -- what is kept of a fair line that is cut
-kept-cut : (k : ℕ) (l : List ℕ) → Fair l → keptOf (take k l) ≡ trimmed (take k (columns true l))
+pub kept-cut : (k : ℕ) (l : List ℕ) → Fair l → keptOf (take k l) ≡ trimmed (take k (columns true l))
 unfolding keptOf
 kept-cut k l f = ap trimmed (cut-columns k l f)
 
@@ -178,7 +178,7 @@ whole-cut Inner.none = refl
 whole-cut (Inner.more {l} f c Inner.none) = rw (whole-line l f) refl
 whole-cut (Inner.more {l} f c (Inner.more g d i)) = ap (_∷_ (keptOf l)) (whole-cut (Inner.more g d i))
 
-stored-58 : (s : Set) → eqb (storedCount s) 0 ≡ false → s .number ≡ 58
+pub stored-58 : (s : Set) → eqb (storedCount s) 0 ≡ false → s .number ≡ 58
 unfolding storedCount declared
 stored-58 s h = by (eqb (s .number) 58) refl h
   where

@@ -111,7 +111,7 @@ module _ {s : Set} {p : Part} (h : Holds s p) where
 
 -- The sets of a list, as they stand in a text.
 
-own-columns : (before : List (List ℕ)) (o v : List ℕ) (body : List (List ℕ)) (c : List ℕ) (after : List (List ℕ))
+pub own-columns : (before : List (List ℕ)) (o v : List ℕ) (body : List (List ℕ)) (c : List ℕ) (after : List (List ℕ))
     → columnsOf (before ++ (o ∷ v ∷ (body ++ (c ∷ after)))) ≡ columnsOf before ++ (columns true o ∷ columns true v ∷ (columnsOf body ++ (columns true c ∷ columnsOf after)))
 own-columns before o v body c after =
     map-append (columns true) before (o ∷ v ∷ (body ++ (c ∷ after)))

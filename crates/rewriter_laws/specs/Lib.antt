@@ -1,7 +1,9 @@
 pub mod Form
 pub mod NumberLaws
 pub mod OwnLaws
+pub mod Differ
 pub mod KeptLaws
 pub mod Laid
 pub mod LaidLaws
+pub mod DifferLaws
 pub mod RewritingLaws

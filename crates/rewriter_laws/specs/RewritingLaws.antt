@@ -1,16 +1,18 @@
 -- The rewriter gives a proper writing of the same list, and the one text in rewritten form that keeps the file's spellings.
-use mathlib.Core.Path.{_≡_, sym, ap, _∙_}
+use mathlib.Core.Path.{_≡_, refl, sym, ap, _∙_}
+use mathlib.Core.Bool.{true}
 use mathlib.Core.List.{List, [], map, append-nil}
 use Prim.Native.Nat.{ℕ, _≤_}
 use native.Mathlib.Omega.{arith}
-use lib.ListN.{length}
+use lib.ListN.{length, length-map}
 use Rattle.laws.specs.Cut.{cut}
+use Rattle.line.specs.Line.{columns}
 use Rattle.theory.specs.Sets.{Set}
 use Rattle.theory.specs.Proper.{Proper}
 use Rattle.line_laws.specs.Ends.{AllPass, joined}
 use Rattle.line_laws.specs.EndsLaws.{ended-complete}
 use Rattle.line_laws.specs.ShortLaws.{ended-short}
-use Rattle.parts.specs.Parts.{bytesIn, partsOf}
+use Rattle.parts.specs.Parts.{bytesIn, Part, partsOf}
 use Rattle.parts.specs.PartsLaws.{lines-past}
 use Rattle.parts.specs.Padding.{paddingOf}
 use Rattle.parts_laws.specs.Holds.{AtPlaces}
@@ -20,6 +22,8 @@ use Rattle.rewriter.specs.Fair.{FairLines, FairSets, laid}
 use Rattle.rewriter.specs.RewriterLaws.{fair-passed, file-fair}
 use Rattle.rewriter_laws.specs.Form.{InForm, LfEnded, OwnLines, SameSets, KeepsSpellings}
 use Rattle.rewriter_laws.specs.OwnLaws.{own-only}
+use Rattle.rewriter_laws.specs.Differ.{PaddingAside}
+use Rattle.rewriter_laws.specs.DifferLaws.{file-many, Alike, alike-laid, alike-lines, sets-alike}
 use Rattle.rewriter_laws.specs.Laid.{bodyOf, keptIn, bodiesOf}
 use Rattle.rewriter_laws.specs.LaidLaws.{lf-ended, lf-joined, laid-joined, laid-ended, laid-lines, laid-plain, laid-own, laid-short}
 use Rattle.rewriter_laws.specs.LaidLaws.{stand-own, kept-same, sets-same, plain-own, plain-only, plain-unpadded}
@@ -97,3 +101,23 @@ module _ {sets : List Set} {bytes : List ℕ} (p : Proper sets bytes) where
   rewritten-same f =
       let b : List (List (List ℕ)) = map bodyOf (partsOf bytes) in
       sym (rewritten-only bytes f (record { before = b; after = b; in-old = proper-own; in-new = proper-own; same = sets-same proper-stand }))
+
+-- PADDING: two files that differ in padding alone are rewritten to the same bytes, and each set opens on the same line.
+module _ {a b : List Set} {x y : List ℕ} (p : Proper a x) (q : Proper b y) (d : PaddingAside a x y) where
+  alike : Alike a (partsOf x) (partsOf y)
+  alike = sets-alike refl (d .same) (proper-stand p) (proper-stand q) (ended-complete (d .old-ends) .same) (ended-complete (d .new-ends) .same)
+
+  pub aside-rewritten : rewrittenFile x ≡ rewrittenFile y
+  aside-rewritten =
+      laid-joined (partsOf x)
+      ∙ ap (λ (css : List (List ℕ)). joined css []) (alike-laid (proper-stand p) (proper-stand q) (proper-fair p) (proper-fair q) alike)
+      ∙ sym (laid-joined (partsOf y))
+
+  pub aside-opening : map (λ (r : Part). r .lines) (partsOf x) ≡ map (λ (r : Part). r .lines) (partsOf y)
+  aside-opening = alike-lines alike
+
+  pub aside-lines : length (cut x .lines) ≡ length (cut y .lines)
+  aside-lines =
+      let old : map (columns true) (cut x .lines) ≡ d .old = ended-complete (d .old-ends) .same in
+      let new : map (columns true) (cut y .lines) ≡ d .new = ended-complete (d .new-ends) .same in
+      sym (length-map (cut x .lines) (columns true)) ∙ ap length old ∙ file-many (d .same) ∙ sym (ap length new) ∙ length-map (cut y .lines) (columns true)

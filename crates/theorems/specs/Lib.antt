@@ -27,6 +27,8 @@ pub mod Rounded
 pub mod RoundedLaws
 pub mod ValuesLaws
 pub mod RewriterLaws
+pub mod Same
+pub mod SameLaws
 pub mod Alone
 pub mod AloneLaws
 pub mod LaidOut

@@ -47,7 +47,7 @@ module _ {sets : List Set} {bytes : List ℕ} (p : Proper sets bytes) where
     there = set-somewhere p (a .at)
 
     -- stored number j, by the list
-    number-of-list : (j : ℕ) → j < storedCount s → storedNumber bytes (suc k) j ≡ shownOf (firstByte q j) (pastByte q j) (realOfItem (storedItem s j))
+    pub number-of-list : (j : ℕ) → j < storedCount s → storedNumber bytes (suc k) j ≡ shownOf (firstByte q j) (pastByte q j) (realOfItem (storedItem s j))
     unfolding setsFrom
     number-of-list j l = number-asked bytes (suc k) j (accepted-zero p) ∙ rw (a .at .stands) (number-answered bytes (a .at .others) there holds (a .number) j l)
 
