@@ -6,7 +6,7 @@ use mathlib.Core.Bool.{Bool, true, false, _||_}
 use mathlib.Core.List.{List, [], _∷_}
 use Prim.Native.Nat.{ℕ, zero, suc, _<_, _≤_}
 use native.Mathlib.Omega.{arith}
-use borrow.Author.Tests.{eqb-true, leb-true}
+use borrow.Author.Tests.{eqb-true, leb-true, lt-ltb}
 use lib.Dec.{eqb, leb}
 use lib.IntN.{ℤ, pos, negsuc}
 use lib.ListN.{length, getD}
@@ -144,3 +144,8 @@ declared-some l e = declared-counted l e .0
 
 pub declared-most : {s : Set} {css : List (List ℕ)} → SetLines s css → s .number ≡ 58 → declared s ≤ 65536
 declared-most l e = declared-counted l e .1
+
+-- a value stores one number at least
+pub numbersOf-some : (c : ℕ) → c < 8 → 0 < Layout.numbersOf c
+unfolding Layout.numbersOf
+numbersOf-some c h = rw (lt-ltb c 8 h) (omega arith)

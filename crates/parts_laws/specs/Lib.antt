@@ -14,7 +14,7 @@ pub mod BytesLaws
 pub mod ShownLaws
 pub mod Cover
 pub mod CoverLaws
-pub mod OrderLaws
 pub mod Whole
 pub mod PaddedLaws
+pub mod OrderLaws
 pub mod WholeLaws

@@ -1,4 +1,4 @@
--- The own columns of the stored numbers of a 58: inside the set's lines, in order, and apart.
+-- The own columns of the stored numbers of a 58 and of its padding: inside the set's lines, in order, and apart.
 use mathlib.Core.Path.{_≡_, refl, sym, subst, _∙_}
 use mathlib.Core.Logic.{⊎-elim}
 use mathlib.Core.Bool.{true}
@@ -19,11 +19,13 @@ use Rattle.theory.specs.Sets.{Set}
 use Rattle.theory.specs.Due.{linesFor}
 use Rattle.parts.specs.Parts as Parts
 use Rattle.parts.specs.Function as Function
+use Rattle.parts.specs.Padding.{paddingOf}
 use Rattle.parts_laws.specs.Holds.{Holds}
 use Rattle.parts_laws.specs.Declared.{setCase}
 use Rattle.parts_laws.specs.DeclaredLaws.{case-held}
-use Rattle.parts_laws.specs.Stored.{storedCount, storedItem, ownColumns}
-use Rattle.parts_laws.specs.StoredLaws.{stored-spelled, stored-case, set-data, line-enough}
+use Rattle.parts_laws.specs.Stored.{storedCount, ownColumns}
+use Rattle.parts_laws.specs.StoredLaws.{stored-case, set-data}
+use Rattle.parts_laws.specs.PaddedLaws.{stored-some, number-line, number-spelled}
 use Rattle.parts_laws.specs.Field.{Spelled}
 use Rattle.parts_laws.specs.BytesLaws.{reaches, value-some}
 
@@ -64,8 +66,12 @@ module _ (p : Parts.Part) where
       let m : Parts.bytesIn (take (suc a) (p .body)) ≤ Parts.bytesIn (p .body) = bytesIn-all (suc a) (p .body) in
       omega arith
 
--- a stored number of a 58 in a text: its line is there, and its columns are columns of that line
+-- a number of a 58 in a text, stored or padding: its line is there, and its columns are columns of that line
 module _ {s : Set} {p : Parts.Part} (h : Holds s p) (e : s .number ≡ 58) where
+  -- how many there are
+  abbrev numbers : ℕ
+  numbers = storedCount s + paddingOf p
+
   pub record Seated (j : ℕ) : Type 0 where
     pub line : headerLines + lineOf (fieldsOf (Function.partCase p)) j < length (p .body)
     pub past : fieldPast (layoutOf (Function.partCase p) .widths) (fieldOf (fieldsOf (Function.partCase p)) j) ≤ length (getD (p .body) (headerLines + lineOf (fieldsOf (Function.partCase p)) j) [])
@@ -82,14 +88,14 @@ module _ {s : Set} {p : Parts.Part} (h : Holds s p) (e : s .number ≡ 58) where
       let m : Parts.bytesIn (take headerLines b) ≤ Parts.bytesIn (take (headerLines + k) b) = bytesIn-rise headerLines (headerLines + k) b (omega arith) in
       omega arith
 
-  pub seated : (j : ℕ) → j < storedCount s → Seated j
+  pub seated : (j : ℕ) → j < numbers → Seated j
   unfolding ownColumns Parts.lineOf fieldPast
   seated j l =
       let q : Function.partCase p ≡ setCase s = case-held h e in
-      let b : 0 < fieldsOf (setCase s) = fieldsOf-some (setCase s) (stored-case s j l) in
-      let m : lineOf (fieldsOf (setCase s)) j < linesFor (fieldsOf (setCase s)) (storedCount s) = line-enough (fieldsOf (setCase s)) (storedCount s) j b l in
+      let m : lineOf (fieldsOf (setCase s)) j < linesFor (fieldsOf (setCase s)) (storedCount s) = number-line h e (stored-some (h .lines) e) j l in
       let n : lineOf (fieldsOf (Function.partCase p)) j ≡ lineOf (fieldsOf (setCase s)) j = rw q refl in
-      let x : Spelled (storedItem s j) (ownColumns (Function.partCase p) p j) = subst (λ (y : ℕ). Spelled (storedItem s j) (ownColumns y p j)) (sym q) (stored-spelled h e j l) in
+      let y = number-spelled h e (stored-some (h .lines) e) j l in
+      let x : Spelled (y .0) (ownColumns (Function.partCase p) p j) = subst (λ (c : ℕ). Spelled (y .0) (ownColumns c p j)) (sym q) (y .1) in
       let v = realOf-complete (x .spelling) in
       let w : 0 < getD (layoutOf (Function.partCase p) .widths) (fieldOf (fieldsOf (Function.partCase p)) j) 0 = value-some _ _ _ v in
       let c : ℕ = Function.partCase p in
@@ -104,7 +110,7 @@ module _ {s : Set} {p : Parts.Part} (h : Holds s p) (e : s .number ≡ 58) where
       }
 
   -- some columns, inside the set's data lines
-  pub columns-inside : (j : ℕ) → j < storedCount s
+  pub columns-inside : (j : ℕ) → j < numbers
       → (Parts.lineStart p headerLines ≤ Function.firstByte p j) × ((Function.firstByte p j < Function.pastByte p j) × (Function.pastByte p j ≤ Parts.closingStart p))
   unfolding Function.firstByte Function.pastByte Function.dataLine
   columns-inside j l =
@@ -112,20 +118,18 @@ module _ {s : Set} {p : Parts.Part} (h : Holds s p) (e : s .number ≡ 58) where
       let c : Parts.lineStart p headerLines ≤ Parts.lineStart p (headerLines + lineOf (fieldsOf (Function.partCase p)) j) = start-rise (lineOf (fieldsOf (Function.partCase p)) j) in
       (omega arith, (omega (arith, t .some), omega (arith, t .past, line-closing p (headerLines + lineOf (fieldsOf (Function.partCase p)) j) (t .line))))
 
-  -- in order, and apart: of any number after it, one of the padding too
-  pub columns-before : (i j : ℕ) → i < j → i < storedCount s → Function.pastByte p i ≤ Function.firstByte p j
+  -- in order, and apart
+  pub columns-apart : (i j : ℕ) → i < j → j < numbers → Function.pastByte p i ≤ Function.firstByte p j
   unfolding Function.firstByte Function.pastByte Function.dataLine fieldsOf
-  columns-before i j o l =
-      let b : 0 < length (layoutOf (Function.partCase p) .widths) = subst (λ (y : ℕ). 0 < length (layoutOf y .widths)) (sym (case-held h e)) (fieldsOf-some (setCase s) (stored-case s i l)) in
-      let t = seated i l in
+  columns-apart i j o l =
+      let b : 0 < fieldsOf (setCase s) = fieldsOf-some (setCase s) (stored-case s 0 (stored-some (h .lines) e)) in
+      let m : 0 < length (layoutOf (Function.partCase p) .widths) = subst (λ (y : ℕ). 0 < length (layoutOf y .widths)) (sym (case-held h e)) b in
+      let t = seated i (omega arith) in
       let n : ℕ = length (layoutOf (Function.partCase p) .widths) in
       ⊎-elim
       (λ q. omega (arith, t .past, lines-apart p (headerLines + lineOf n i) (headerLines + lineOf n j) (t .line) (omega arith)))
       (λ q. rw (q .0) (omega (arith, q .1)))
-      (stored-apart (layoutOf (Function.partCase p) .widths) i j b o)
-
-  pub columns-apart : (i j : ℕ) → i < j → j < storedCount s → Function.pastByte p i ≤ Function.firstByte p j
-  columns-apart i j o l = columns-before i j o (omega arith)
+      (stored-apart (layoutOf (Function.partCase p) .widths) i j m o)
 
 -- the first stored number begins the data lines
 pub first-column : (p : Parts.Part) → Function.firstByte p 0 ≡ Parts.lineStart p headerLines

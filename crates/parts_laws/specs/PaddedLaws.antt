@@ -1,21 +1,22 @@
 -- Padding in a text: where a byte of the last data line past the stored numbers is no blank, every field that is left is padding, and each spells
 -- a real.
 use mathlib.Core.Path.{_≡_, refl, sym, _∙_}
+use mathlib.Core.Logic.{⊎-elim}
 use mathlib.Core.Bool.{Bool, true, false}
 use mathlib.Core.List.{List, [], _++_}
 use Prim.Native.Nat.{ℕ, suc, _+_, _-_, _*_, _<_, _≤_}
-use native.Mathlib.Nat.{mul-pos, suc-mul, add-mul-div-right, add-mul-mod-self-right, div-eq-of-lt, mod-eq-of-lt, zero-add}
+use native.Mathlib.Nat.{div-lt-iff-lt-mul, mul-pos, suc-mul, add-mul-div-right, add-mul-mod-self-right, div-eq-of-lt, mod-eq-of-lt, zero-add}
 use native.Mathlib.Omega.{arith}
-use borrow.Author.Tests.{lt-ltb, ne-eqb}
+use borrow.Author.Tests.{ne-eqb}
 use lib.ListN.{getD, take, drop}
 use lib.Seq.{getD-take, getD-drop}
 use Rattle.laws.specs.Choice.{pick}
-use Rattle.laws.specs.ChoiceLaws.{false-not-true}
+use Rattle.laws.specs.ChoiceLaws.{false-not-true, below-or-not}
 use Rattle.text.specs.Blank.{Blanks, allBlank}
 use Rattle.text.specs.BlankLaws.{allBlank-complete, allBlank-sound}
 use Rattle.layout.specs.Columns.{lineOf, fieldOf, fieldStart, total}
 use Rattle.layout.specs.ColumnsLaws.{stored-at, fieldOf-inside}
-use Rattle.layout.specs.Layout.{layoutOf, fieldsOf, numbersOf}
+use Rattle.layout.specs.Layout.{layoutOf, fieldsOf}
 use Rattle.layout.specs.LayoutLaws.{fieldsOf-some}
 use Rattle.field.specs.Item.{Item}
 use Rattle.record_table.specs.Row.{span, firstFields}
@@ -36,11 +37,11 @@ use Rattle.parts.specs.Padding.{lastField, countedPast, remainder, paddingIn, p
 use Rattle.parts_laws.specs.Holds.{Holds}
 use Rattle.parts_laws.specs.Declared.{setCase}
 use Rattle.parts_laws.specs.DeclaredLaws.{case-held, lineOf-columns}
-use Rattle.parts_laws.specs.CaseLaws.{case-eight, declared-some}
-use Rattle.parts_laws.specs.Stored.{storedCount, ownColumns}
+use Rattle.parts_laws.specs.CaseLaws.{numbersOf-some, case-eight, declared-some}
+use Rattle.parts_laws.specs.Stored.{storedCount, storedItem, ownColumns}
 use Rattle.parts_laws.specs.Field.{Spelled}
 use Rattle.parts_laws.specs.FieldLaws.{field-at}
-use Rattle.parts_laws.specs.StoredLaws.{line-enough, set-data, stored-case}
+use Rattle.parts_laws.specs.StoredLaws.{line-enough, set-data, stored-case, stored-spelled}
 use Rattle.parts_laws.specs.PaddingLaws.{stored-held, last-of, last-held, counted-span}
 use Rattle.parts_laws.specs.Whole.{fieldCount}
 
@@ -59,10 +60,6 @@ stored-place n k f h =
     (add-mul-div-right f k (omega arith) ∙ rw (div-eq-of-lt h, zero-add) refl, add-mul-mod-self-right f k n ∙ mod-eq-of-lt h)
 
 -- a 58 stores a number
-pub numbersOf-some : (c : ℕ) → c < 8 → 0 < numbersOf c
-unfolding numbersOf
-numbersOf-some c h = rw (lt-ltb c 8 h) (omega arith)
-
 pub stored-some : {s : Set} {css : List (List ℕ)} → SetLines s css → s .number ≡ 58 → 0 < storedCount s
 unfolding storedCount
 stored-some {s} l e = mul-pos (declared-some l e) (numbersOf-some (setCase s) (case-eight l e))
@@ -112,6 +109,15 @@ module _ {s : Set} {p : Part} (h : Holds s p) (e : s .number ≡ 58) (some : 0 <
           absurd (n (rw k at (sym cut ∙ blanks-at (a - at) (allBlank-sound (take (total (layoutOf c .widths) - at) (drop at line)) z))))
       by false z = fields-left
 
+  -- the padding numbers are on the last line too
+  padding-few : t + paddingOf p ≤ fieldCount s
+  unfolding paddingIn
+  padding-few = rw padding-held (by (allBlank (remainder c t line)))
+    where
+      by : (b : Bool) → t + pick b 0 (fieldsOf c - suc (lastField c t)) ≤ fieldCount s
+      by true = omega (arith, fields-left)
+      by false = omega (arith, fields-left)
+
   -- each of them spells a real
   pub padding-spelled : (j : ℕ) → t ≤ j → j < t + paddingOf p → (i : Item) × Spelled i (ownColumns c p j)
   unfolding ownColumns paddingIn remainder
@@ -134,3 +140,12 @@ module _ {s : Set} {p : Part} (h : Holds s p) (e : s .number ≡ 58) (some : 0 <
           = λ b. false-not-true (sym z ∙ allBlank-complete (blanks-take (total (layoutOf c .widths) - countedPast c t) (rw (counted-span c t) at b))) in
           let x = padded-field c (suc (lastField c t)) own filled field g in
           rw (← k, place .0, place .1) x
+
+  -- the line of any number, stored or padding, is there, and its columns spell a real
+  pub number-line : (j : ℕ) → j < t + paddingOf p → lineOf (fieldsOf c) j < linesFor (fieldsOf c) t
+  unfolding lineOf fieldCount
+  number-line j l = div-lt-iff-lt-mul (fieldsOf-some c (stored-case s 0 some)) .1 (omega (arith, padding-few))
+
+  pub number-spelled : (j : ℕ) → j < t + paddingOf p → (i : Item) × Spelled i (ownColumns c p j)
+  number-spelled j l =
+      ⊎-elim (λ (q : j < t). (storedItem s j, stored-spelled h e j q)) (λ (q : t ≤ j). padding-spelled j q l) (below-or-not j t)

@@ -1,17 +1,19 @@
--- The last line of a 58 of a list as it stands in a text: it is that of the last stored number, which of its columns count, and that it
+-- Which lines have padding. The last line of a 58 of a list as it stands in a text: it is that of the last stored number, which of its columns count, and that it
 -- is no delimiter by these alone.
 use mathlib.Core.Path.{_≡_, refl, sym, ap, _∙_}
+use mathlib.Core.Logic.{⊎-elim}
 use mathlib.Core.Bool.{Bool, true, false}
 use mathlib.Core.List.{List, [], _∷_, _++_}
 use Prim.Native.Nat.{ℕ, zero, suc, _+_, _-_, _*_, _≤_, _<_}
-use native.Mathlib.Nat.{zero-mul, suc-mul, div-lt-iff-lt-mul}
+use native.Mathlib.Nat.{zero-mul, suc-mul, le-div-iff-mul-le, div-lt-iff-lt-mul}
 use native.Mathlib.Omega.{arith}
 use borrow.Author.Tests.{eqb-true}
 use lib.Dec.{eqb}
 use lib.IntN.{ℤ}
 use lib.Seq.{drop-at, drop-drop, getD-take, getD-append-add}
-use lib.ListN.{length, getD, drop, replicate, length-map, length-append, length-take}
+use lib.ListN.{length, getD, drop, drop-of-length-le, replicate, length-map, length-append, length-take}
 use Rattle.laws.specs.Choice.{pick}
+use Rattle.laws.specs.ChoiceLaws.{below-or-not}
 use Rattle.text.specs.Blank.{Blanks, none, one}
 use Rattle.text.specs.BlankLaws.{allBlank-complete, blanks-replicate}
 use Rattle.real.specs.Spelling.{RealSpelling, spelled}
@@ -23,15 +25,16 @@ use Rattle.layout.specs.ColumnsLaws.{stored-at, fieldOf-inside, fieldStart-next
 use Rattle.layout.specs.Layout.{layoutOf, fieldsOf, numbersOf}
 use Rattle.layout.specs.LayoutLaws.{fieldsOf-some, total-inside}
 use Rattle.field.specs.Item.{Item}
-use Rattle.record_table.specs.Row.{span, firstFields}
-use Rattle.record_table.specs.Records.{plain, dataRow}
+use Rattle.record_table.specs.Row.{Field, span, filling, paddingFields, firstFields}
+use Rattle.record_table.specs.Records.{plain, recordOf, dataRow}
+use Rattle.record_table.specs.PaddingLaws.{recordOf-unpadded, first-unpadded, data-padding}
 use Rattle.record_table.specs.TypedSets.{headerLines}
 use Rattle.record.specs.Written.{InColumns}
 use Rattle.record.specs.TakenLaws.{span-first}
 use Rattle.walk.specs.DueLaws.{dataRow-length}
 use Rattle.record_laws.specs.GroupLaws.{blanks-at}
 use Rattle.theory.specs.Sets.{Set}
-use Rattle.theory.specs.Due.{linesFor, setRows}
+use Rattle.theory.specs.Due.{linesFor, rowsHolding, setRows}
 use Rattle.line_laws.specs.LineTestsLaws.{blanks-take}
 use Rattle.parts.specs.Parts.{Part, lastLine}
 use Rattle.parts.specs.Parts as Parts
@@ -42,7 +45,29 @@ use Rattle.parts_laws.specs.Holds.{columnsOf, Holds}
 use Rattle.parts_laws.specs.Declared.{declared, setCase}
 use Rattle.parts_laws.specs.DeclaredLaws.{case-held, declared-held}
 use Rattle.parts_laws.specs.Stored.{storedCount}
-use Rattle.parts_laws.specs.StoredLaws.{line-enough, data-row, data-field, lists-58, set-data, stored-case}
+use Rattle.parts_laws.specs.StoredLaws.{numberRows-at, numberRows-length, line-enough, data-row, data-field, lists-58, set-data, stored-case}
+
+-- a line before the last is full, and has no padding
+rows-left : (n left k : ℕ) → suc k < linesFor n left → n ≤ left - k * n
+unfolding linesFor
+rows-left n left k h = ⊎-elim full (λ (z : n ≤ 0). omega arith) (below-or-not 0 n)
+  where
+    full : 0 < n → n ≤ left - k * n
+    full p =
+        let m : suc (suc k) * n ≤ left + (n - 1) = le-div-iff-mul-le p .0 h in
+        omega (arith, suc-mul (suc k) n, suc-mul k n)
+
+pub full-unpadded : (c left k : ℕ) → suc k < length (rowsHolding (dataRow c) left) → paddingFields (getD (rowsHolding (dataRow c) left) k (plain [])) ≡ []
+full-unpadded c left k h =
+    let fs : List Field = dataRow c .fields in
+    let n : ℕ = length fs in
+    let m : length (rowsHolding (dataRow c) left) ≡ linesFor n left = numberRows-length (dataRow c) (linesFor n left) left in
+    let l : n ≤ left - k * n = rows-left n left k (omega arith) in
+    ap paddingFields (numberRows-at (dataRow c) (linesFor n left) left k (omega arith)) ∙ data-padding (left - k * n) c ∙ drop-of-length-le fs l
+
+-- nor has any other record, however it is cut
+pub record-unpadded : (n k : ℕ) → paddingFields (firstFields n (recordOf k)) ≡ []
+record-unpadded n k = ap filling (first-unpadded n (recordOf k) (recordOf-unpadded k))
 
 -- as many numbers are stored in the text as in the list
 stored-if : (t : Bool) (n a b : ℕ) → (t ≡ true → a ≡ b) → pick t n 0 * numbersOf a ≡ pick t n 0 * numbersOf b

@@ -33,7 +33,7 @@ use Rattle.parts_laws.specs.Field.{Spelled}
 use Rattle.parts_laws.specs.FieldLaws.{field-at}
 
 -- row k of the lines that hold what is left
-numberRows-at : (r : Row) (m left k : ℕ) → k < m → getD (numberRows r m left) k (plain []) ≡ firstFields (left - k * length (r .fields)) r
+pub numberRows-at : (r : Row) (m left k : ℕ) → k < m → getD (numberRows r m left) k (plain []) ≡ firstFields (left - k * length (r .fields)) r
 unfolding numberRows
 numberRows-at r zero left k h = absurd (omega arith)
 numberRows-at r (suc m) left zero h = let z : left - 0 * length (r .fields) ≡ left = rw zero-mul (omega arith) in rw z refl
@@ -41,7 +41,7 @@ numberRows-at r (suc m) left (suc k) h =
     let z : left - length (r .fields) - k * length (r .fields) ≡ left - suc k * length (r .fields) = rw suc-mul (omega arith) in
     numberRows-at r m (left - length (r .fields)) k (omega arith) ∙ rw z refl
 
-numberRows-length : (r : Row) (m left : ℕ) → length (numberRows r m left) ≡ m
+pub numberRows-length : (r : Row) (m left : ℕ) → length (numberRows r m left) ≡ m
 unfolding numberRows
 numberRows-length r zero left = refl
 numberRows-length r (suc m) left = ap suc (numberRows-length r m (left - length (r .fields)))

@@ -110,7 +110,8 @@ pub data TakenFault (r : Row) (line : List ℕ) : Refusal → Type 0 where
   condition : (k : ℕ) → AllPass line (r .fields) → ((c : ℕ) → Stray line (r .fields) c → ⊥)
       → First (Breaks line (r .fields) (r .condition)) k → TakenFault r line (refusal 14 (leftOf (r .fields) k + 1))
 
--- the refusal of a line by a row (02, C-13): its own fields are taken where the remainder is blank, otherwise those of its padding after them
+-- the refusal of a line by a row (02, C-13: "a remainder neither blank nor well-formed is 12 at its first blank or bad field"): its own
+-- fields are taken first, then, where the remainder is not blank, those of its padding, and 13 is for a byte past them
 pub data RowFault (r : Row) (line : List ℕ) (f : Refusal) : Type 0 where
   alone : Blanks (remainderIn r line) → TakenFault r line f → RowFault r line f
   padded : (Blanks (remainderIn r line) → ⊥) → TakenFault (withPadding r) line f → RowFault r line f

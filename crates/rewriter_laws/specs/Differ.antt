@@ -17,7 +17,7 @@ pub data SameBut (k : ℕ) : List (List ℕ) → List (List ℕ) → Type 0 wher
   last : {a b : List ℕ} → take k a ≡ take k b → SameBut k (a ∷ []) (b ∷ [])
   more : {a b c d : List ℕ} {old new : List (List ℕ)} → a ≡ b → SameBut k (c ∷ old) (d ∷ new) → SameBut k (a ∷ c ∷ old) (b ∷ d ∷ new)
 
--- the same lines of two files, but for those of each set past the counted columns of its last: of a set that is no 58 all 80 count
+-- the lines of two files, the same but for what stands past the counted columns of each set's last: of a set that is no 58 all 80 count
 pub data SameFile : List Set → List (List ℕ) → List (List ℕ) → Type 0 where
   end : {css : List (List ℕ)} → BlankLines css → SameFile [] css css
   more : {s : Set} {ss : List Set} (first number last : List ℕ) (before a b old new : List (List ℕ))

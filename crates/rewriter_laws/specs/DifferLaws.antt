@@ -1,8 +1,8 @@
 -- Two files that differ in padding alone have one dataset number, one opening line and one rewritten text a set.
-use mathlib.Core.Path.{_≡_, refl, sym, ap, subst, _∙_}
+use mathlib.Core.Path.{_≡_, refl, sym, ap, _∙_}
 use mathlib.Core.Bool.{Bool, true, false}
 use mathlib.Core.List.{List, [], _∷_, _++_, map}
-use Prim.Native.Nat.{ℕ, zero, suc, _+_, _*_, _<_}
+use Prim.Native.Nat.{ℕ, zero, suc, _+_, _<_}
 use native.Mathlib.Nat.{zero-mul}
 use native.Mathlib.Omega.{arith}
 use borrow.Author.Tests.{eqb-true}
@@ -12,7 +12,7 @@ use Rattle.laws.specs.Choice.{pick}
 use Rattle.text.specs.Text.{trimmed}
 use Rattle.line.specs.Line.{columns, filled}
 use Rattle.delimiter.specs.Kind.{datasetNumber}
-use Rattle.layout.specs.Layout.{fieldsOf, numbersOf}
+use Rattle.layout.specs.Layout.{fieldsOf}
 use Rattle.layout.specs.LayoutLaws.{fieldsOf-some}
 use Rattle.record_table.specs.TypedSets.{headerLines, lineSeven}
 use Rattle.record.specs.Declared.{caseIn}
@@ -24,14 +24,14 @@ use Rattle.parts.specs.Parts.{Part, throughOf, datasetOf, lineOf}
 use Rattle.parts.specs.Function.{partCase, storedOf, countOf}
 use Rattle.parts.specs.Padding.{countedPast}
 use Rattle.parts_laws.specs.Holds.{columnsOf, Holds, AtPlaces}
-use Rattle.parts_laws.specs.Declared.{declared, setCase}
+use Rattle.parts_laws.specs.Declared.{setCase}
 use Rattle.parts_laws.specs.DeclaredLaws.{number-held, case-held, lineOf-columns}
 use Rattle.parts_laws.specs.Stored.{storedCount}
 use Rattle.parts_laws.specs.StoredLaws.{stored-case, set-data, line-enough}
 use Rattle.parts_laws.specs.PaddingLaws.{stored-held}
 use Rattle.parts_laws.specs.PaddedLaws.{stored-some}
-use Rattle.rewriter.specs.Rewriter.{plainNumber, keptOf, cutLast, unpadded}
-use Rattle.rewriter.specs.Fair.{Inner, FairSets, laid, plainDelimiter}
+use Rattle.rewriter.specs.Rewriter.{keptOf, cutLast}
+use Rattle.rewriter.specs.Fair.{Inner, FairSets, laid}
 use Rattle.rewriter_laws.specs.Form.{countedColumns}
 use Rattle.rewriter_laws.specs.Differ.{SameBut, SameFile}
 use Rattle.rewriter_laws.specs.OwnLaws.{Opens, not-open, one-way}

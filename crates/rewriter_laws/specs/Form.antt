@@ -1,6 +1,6 @@
 -- What a file is rewritten to (01, "Rewriter": "LF ends, no blanks at line ends, no lines outside sets, delimiters and dataset numbers
--- spelled plainly; all else keeps its spelling"; 02, C-13: padding is "dropped by the rewriter"). Stated from texts and a list of sets alone: nothing here runs the rewriter. A line is
--- given by its columns, its end left out.
+-- spelled plainly; all else keeps its spelling"; 02, C-13: padding is "dropped by the rewriter"). Stated from texts and a list of sets
+-- alone: nothing here runs the rewriter. A line is given by its columns, its end left out.
 use mathlib.Core.Path.{_≡_}
 use mathlib.Core.List.{List, [], _∷_, _++_}
 use Prim.Native.Nat.{ℕ, _≤_}

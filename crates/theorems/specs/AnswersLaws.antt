@@ -43,7 +43,7 @@ use Rattle.theorems.specs.ColumnsLaws.{value-number}
 -- a 58 of the list as it stands in a text
 module _ {s : Set} {p : Parts.Part} (bytes : List ℕ) (ps : List Parts.Part) (w : Somewhere bytes p ps) (h : Holds s p) (e : s .number ≡ 58) where
   pub past-within : (j : ℕ) → j < storedCount s → Function.pastByte p j ≤ length bytes
-  past-within j l = omega (arith, columns-inside h e j l .1 .1, w .stands .later, w .stands .past)
+  past-within j l = omega (arith, columns-inside h e j (omega arith) .1 .1, w .stands .later, w .stands .past)
 
   -- what stands in a stored number's columns
   pub realIn-held : (j : ℕ) → j < storedCount s → realIn bytes p j ≡ realOfItem (storedItem s j)

@@ -23,11 +23,11 @@ pub record Columns (bytes : List ℕ) (s : Set) (q : Part) : Type 0 where
   pub eight : setCase s < 8
   -- the values are there: the bytes of each stored number's own columns spell the list's item
   pub spelled : (j : ℕ) → j < storedCount s → Spelled (storedItem s j) (ownBytes bytes q j)
-  -- some columns each, in the data lines, which the first number's columns begin, between the delimiters
+  -- some columns each, those of padding numbers too, in the data lines, which the first number's columns begin, between the delimiters
   pub begins : firstByte q 0 ≡ dataStart q
-  pub inside : (j : ℕ) → j < storedCount s → (dataStart q ≤ firstByte q j) × ((firstByte q j < pastByte q j) × (pastByte q j ≤ closingStart q))
+  pub inside : (j : ℕ) → j < storedCount s + paddingOf q → (dataStart q ≤ firstByte q j) × ((firstByte q j < pastByte q j) × (pastByte q j ≤ closingStart q))
   -- in order, and apart
-  pub apart : (i j : ℕ) → i < j → j < storedCount s → pastByte q i ≤ firstByte q j
+  pub apart : (i j : ℕ) → i < j → j < storedCount s + paddingOf q → pastByte q i ≤ firstByte q j
 
 -- byte x is one of the data lines, and no blank, LF or CR
 pub record DataByte (bytes : List ℕ) (q : Part) (x : ℕ) : Type 0 where

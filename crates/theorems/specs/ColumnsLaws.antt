@@ -25,11 +25,11 @@ use Rattle.parts_laws.specs.Stored.{storedCount, ownColumns}
 use Rattle.parts_laws.specs.Field.{Spelled}
 use Rattle.parts_laws.specs.Whole.{Owned}
 use Rattle.parts_laws.specs.PaddingLaws.{stored-held, last-held}
-use Rattle.parts_laws.specs.PaddedLaws.{numbersOf-some, stored-some, padding-held, padding-spelled}
+use Rattle.parts_laws.specs.PaddedLaws.{stored-some, padding-held, padding-spelled}
 use Rattle.parts_laws.specs.WholeLaws.{byte-owned}
 use Rattle.parts_laws.specs.ShownLaws.{own-bytes, stored-shown}
-use Rattle.parts_laws.specs.OrderLaws.{columns-inside, columns-before, columns-apart, first-column}
-use Rattle.parts_laws.specs.CaseLaws.{case-eight, declared-some}
+use Rattle.parts_laws.specs.OrderLaws.{columns-inside, columns-apart, first-column}
+use Rattle.parts_laws.specs.CaseLaws.{numbersOf-some, case-eight, declared-some}
 use Rattle.theorems.specs.Answers.{ownBytes}
 use Rattle.theorems.specs.Stands.{SetAt, At58}
 use Rattle.theorems.specs.ListerLaws.{set-holds, set-somewhere}
@@ -95,13 +95,13 @@ one-value s p x apart a b =
     (within-once p (storedCount s) apart x _ _ (below a) (below b) (a .within) (b .within))
 
 -- no byte is a value's and padding's
-module _ (s : Set) (p : Part) (x : ℕ) (apart : (i j : ℕ) → i < j → i < storedCount s → pastByte p i ≤ firstByte p j) where
+module _ (s : Set) (p : Part) (x : ℕ) (apart : (i j : ℕ) → i < j → j < storedCount s + paddingOf p → pastByte p i ≤ firstByte p j) where
   not-both : OfValue s p x → OfPadding s p x → ⊥
   unfolding storedCount
   not-both v f =
       let n : ℕ = numbersOf (setCase s) in
       let i : v .value * n + v .number < declared s * n = value-number (v .value) (v .number) n (declared s) (v .some) (v .few) in
-      omega (arith, apart (v .value * n + v .number) (f .number) (omega (arith, i, f .from)) i, v .within .past, f .within .from)
+      omega (arith, apart (v .value * n + v .number) (f .number) (omega (arith, i, f .from)) (f .below), v .within .past, f .within .from)
 
   -- a field's byte, by its number
   belongs : setCase s < 8 → Owned p (storedCount s + paddingOf p) x → Belongs s p x
@@ -139,7 +139,7 @@ module _ {sets : List Set} {bytes : List ℕ} (p : Proper sets bytes) {k : ℕ} 
   bytes-of-values x d =
       let start = data-start holds (a .number) in
       let owned = byte-owned bytes (a .at .others) (set-somewhere p (a .at)) holds (a .number) x (rw start at (d .from)) (d .past) (d .no-blank) (d .no-lf) (d .no-cr) in
-      belongs s q x (columns-before holds (a .number)) (case-eight (holds .lines) (a .number)) owned
+      belongs s q x (columns-apart holds (a .number)) (case-eight (holds .lines) (a .number)) owned
 
   some-stored : 0 < storedCount s
   some-stored = stored-some (holds .lines) (a .number)

@@ -9,7 +9,7 @@ use Rattle.parts.specs.Parts.{partsOf}
 use Rattle.parts.specs.Padding.{paddingOf}
 use Rattle.rewriter.specs.Rewriter.{rewrittenFile, rewriteReply, rewriteOut}
 use Rattle.rewriter_laws.specs.Form.{InForm, KeepsSpellings}
-use Rattle.rewriter_laws.specs.RewritingLaws.{rewritten-proper, rewritten-form, rewritten-keeps, rewritten-only, rewritten-same, form-unpadded}
+use Rattle.rewriter_laws.specs.RewritingLaws.{rewritten-short, rewritten-proper, rewritten-form, rewritten-keeps, rewritten-only, rewritten-same, form-unpadded}
 use Rattle.theory.specs.Sets.{Set}
 use Rattle.theory.specs.Proper.{Proper}
 use Rattle.theorems.specs.Answers.{Filled}
@@ -31,6 +31,9 @@ module _ {sets : List Set} {bytes : List ℕ} (p : Proper sets bytes) where
 
   pub rewriter-again : rewrittenFile (rewrittenFile bytes) ≡ rewrittenFile bytes
   rewriter-again = rewritten-same (rewritten-proper p) (rewritten-form p)
+
+  pub rewriter-no-longer : length (rewrittenFile bytes) ≤ length bytes
+  rewriter-no-longer = rewritten-short p
 
   pub rewriter-answers : (out : List ℕ) → length (rewrittenFile bytes) ≤ length out → Filled (rewrittenFile bytes) (rewriteReply bytes (length out)) out (rewriteOut bytes out)
   unfolding rewriteOut rewriteReply

@@ -18,7 +18,7 @@ use Rattle.parts.specs.Function.{countOf, firstByte, pastByte}
 use Rattle.reader.specs.Reader.{shownOf, storedNumber, valueOf}
 use Rattle.values.specs.Values.{allValues, allReply, allPlaces}
 use Rattle.rewriter.specs.Rewriter.{rewrittenFile, rewriteReply, rewriteOut}
-use Rattle.lister.specs.Lister.{rowNumbers, entry, listReply}
+use Rattle.lister.specs.Lister.{entry, listReply}
 use Rattle.theory.specs.Sets.{Set}
 use Rattle.theory.specs.Proper.{Proper}
 use Rattle.parts_laws.specs.Declared.{declared}

@@ -17,6 +17,8 @@ use Rattle.exact.specs.Bits.{bitsOf}
 use Rattle.layout.specs.Layout.{numbersOf}
 use Rattle.line.specs.declared.Refusal.{Refusal}
 use Rattle.field.specs.Item.{Item}
+use Rattle.record_table.specs.Row.{paddingFields, firstFields}
+use Rattle.record_table.specs.Records.{plain, recordOf, dataRow}
 use Rattle.record_table.specs.TypedSets.{headerLines}
 use Rattle.judge.specs.declared.Reply.{Reply}
 use Rattle.judge.specs.Judge.{judged, reply, replyAt, atLine}
@@ -36,6 +38,7 @@ use Rattle.lister.specs.Lister.{rowNumbers, rowsOf, listReply, listRows}
 use Rattle.host.specs.Packed.{InWord, word, numberIn, Carries}
 use Rattle.host.specs.Answer.{numberBytes, valueBytes, numberAnswer, valueAnswer, replyFor, bytesAfter}
 use Rattle.theory.specs.Sets.{Set}
+use Rattle.theory.specs.Due.{rowsHolding}
 use Rattle.theory.specs.Proper.{Proper}
 use Rattle.line_laws.specs.Ends as Ends
 use Rattle.parts_laws.specs.Holds.{AtPlaces}
@@ -44,6 +47,7 @@ use Rattle.parts_laws.specs.Declared.{declared, setCase}
 use Rattle.parts_laws.specs.Stored.{storedCount, storedItem}
 use Rattle.parts_laws.specs.Field.{Spelled}
 use Rattle.rewriter_laws.specs.Form.{InForm, KeepsSpellings}
+use Rattle.rewriter_laws.specs.Differ.{PaddingAside}
 use Rattle.writer_laws.specs.Reply.{Coefficients}
 use Rattle.writer_laws.specs.HeaderRefused.{twelfthFault}
 use Rattle.walk_laws.specs.Fault.{InLine}
@@ -55,10 +59,13 @@ use Rattle.theorems.specs.Stands.{SetAt, At58}
 use Rattle.theorems.specs.Answers.{Answered, NoSuch, AsJudged, InTurn, Filled, FilledBy, valueSaid, allSaid, ownBytes}
 use Rattle.theorems.specs.Rounded.{OnceOr21}
 use Rattle.theorems.specs.Columns.{Columns, DataByte, Belongs}
+use Rattle.theorems.specs.Same.{SameAnswers}
 use Rattle.theorems.specs.Alone.{aloneIn, setsAlone, together, Alone}
 use Rattle.theorems.specs.LaidOut.{writtenText, Writable, LaidOut, ReadAs}
 use Rattle.exact.specs.ExactLaws as ExactLaws
+use Rattle.record_table.specs.PaddingLaws as RowLaws
 use Rattle.host.specs.PackedLaws as PackedLaws
+use Rattle.parts_laws.specs.PaddingLaws as PaddingLaws
 use Rattle.writer_laws.specs.HeaderRefusedLaws as HeaderRefusedLaws
 use Rattle.walk_laws.specs.FaultColumnLaws as FaultColumnLaws
 use Rattle.walk_laws.specs.FileFaultLaws as FileFaultLaws
@@ -74,6 +81,7 @@ use Rattle.theorems.specs.LentLaws as LentLaws
 use Rattle.theorems.specs.RoundedLaws as RoundedLaws
 use Rattle.theorems.specs.ValuesLaws as ValuesLaws
 use Rattle.theorems.specs.RewriterLaws as RewriterLaws
+use Rattle.theorems.specs.SameLaws as SameLaws
 use Rattle.theorems.specs.AloneLaws as AloneLaws
 use Rattle.theorems.specs.WriterLaws as WriterLaws
 use Rattle.theorems.specs.KeptLaws as KeptLaws
@@ -105,11 +113,12 @@ module _ {sets : List Set} {bytes : List ℕ} (p : Proper sets bytes) where
   pub reader-not-58 : {k : ℕ} {s : Set} {q : Part} → SetAt sets bytes k s q → (s .number ≡ 58 → ⊥) → (i : ℕ) → NoSuch bytes (suc k) i
   reader-not-58 = ReaderLaws.reader-not-58 p
 
+  -- 02, C-13: padding is "never located, never shown": the numbers of a set end with its last counted one
   pub reader-past : {k : ℕ} {s : Set} {q : Part} → At58 sets bytes k s q → (i : ℕ)
       → (storedCount s ≤ i → storedNumber bytes (suc k) i ≡ refused 18 0) × (declared s ≤ i → valueOf bytes (suc k) i ≡ refused 18 0)
   reader-past = ReaderLaws.reader-past p
 
-  -- 17 and 20, where an answer has less room than it takes; 1 is `refusal-too-long` below
+  -- 17 and 20, where an answer has less room than it takes ("17 counts seven places", 02, C-13); 1 is `refusal-too-long` below
   pub lister-short : (room : ℕ) → room < rowNumbers * length sets → listReply bytes room ≡ reply 17 0
   lister-short = ListerLaws.lister-short p
 
@@ -194,6 +203,18 @@ module _ {header : List ℕ} {xs ss : List ℤ} (l : LaidOut header xs ss) where
   writer-read = WriterLaws.writer-read l
 
 -- DEMAND 3. "Document 01 says from a list of sets, without the judge, which texts are proper writings of it.": `Proper`.
+-- 02, C-13: "In the last data line the full line's columns past the counted numbers are either all blank or all filled with well-formed reals up to the full
+-- line. Those are padding": `InColumns` (`record` Written) says so of a line and its row's padding, which is what is cut off from a data line that holds
+-- only what is left; lines before the last have none, and no line of any other record, however few of its fields are due
+pub padding-of-row : (n c : ℕ) → paddingFields (firstFields n (dataRow c)) ≡ drop n (dataRow c .fields)
+padding-of-row = RowLaws.data-padding
+
+pub padding-last : (c left k : ℕ) → suc k < length (rowsHolding (dataRow c) left) → paddingFields (getD (rowsHolding (dataRow c) left) k (plain [])) ≡ []
+padding-last = PaddingLaws.full-unpadded
+
+pub padding-none : (n k : ℕ) → paddingFields (firstFields n (recordOf k)) ≡ []
+padding-none = PaddingLaws.record-unpadded
+
 -- "Whatever string of bytes a file is, it is accepted exactly when it is a proper writing of some list."
 pub accepted-proper : (bytes : List ℕ) (n : ℕ) → judged bytes ≡ reply 0 n → (sets : List Set) × Proper sets bytes
 accepted-proper = JudgeLaws.accepted-proper
@@ -267,8 +288,12 @@ module _ {sets : List Set} {bytes : List ℕ} (p : Proper sets bytes) where
   pub rewriter-unpadded : map paddingOf (partsOf (rewrittenFile bytes)) ≡ map (λ (s : Set). 0) sets
   rewriter-unpadded = RewriterLaws.rewriter-unpadded p
 
+  -- what is rewritten stays so, and is no longer than the file
   pub rewriter-again : rewrittenFile (rewrittenFile bytes) ≡ rewrittenFile bytes
   rewriter-again = RewriterLaws.rewriter-again p
+
+  pub rewriter-no-longer : length (rewrittenFile bytes) ≤ length bytes
+  rewriter-no-longer = RewriterLaws.rewriter-no-longer p
 
   pub rewriter-answers : (out : List ℕ) → length (rewrittenFile bytes) ≤ length out → Filled (rewrittenFile bytes) (rewriteReply bytes (length out)) out (rewriteOut bytes out)
   rewriter-answers = RewriterLaws.rewriter-answers p
@@ -294,7 +319,7 @@ module _ {sets : List Set} {bytes : List ℕ} (p : Proper sets bytes) where
     bytes-of-values = ColumnsLaws.bytes-of-values p a
 
     -- 02, C-13: "the seventh number, which counts the text's padding": the fields of the full line past the counted ones where a byte of them is no
-    -- blank, 0 otherwise (`paddingIn`); each of them is one of the "well-formed reals". `cases` Examples has two files of one list with different ones.
+    -- blank, 0 otherwise (`paddingIn`); each of them is one of the "well-formed reals"
     pub padding-counted : paddingOf q ≡ paddingIn (setCase s) (storedCount s) (lineOf q (lastLine q))
     padding-counted = ColumnsLaws.padding-counted p a
 
@@ -308,11 +333,6 @@ module _ {sets : List Set} {bytes : List ℕ} (p : Proper sets bytes) where
     pub value-by-bytes : (i : ℕ) → i < declared s → valueOf bytes (suc k) i ≡ valueWith (λ (j : ℕ). realOf (ownBytes bytes q j)) (setCase s) i
     value-by-bytes = ReaderLaws.value-by-bytes p a
 
--- "the seventh number .. is neither of the list nor among the numbers shown": files that the rewriter gives the same bytes for, as it does where they
--- differ in padding alone, have one list
-pub one-list : {a b : List Set} {x y : List ℕ} → Proper a x → Proper b y → rewrittenFile x ≡ rewrittenFile y → a ≡ b
-one-list = RewriterLaws.one-list
-
 -- so of two 58s, of one file or of two
 module _ {sets sets′ : List Set} {bytes bytes′ : List ℕ} (p : Proper sets bytes) (p′ : Proper sets′ bytes′) {k k′ : ℕ} {s s′ : Set} {q q′ : Part}
     (a : At58 sets bytes k s q) (a′ : At58 sets′ bytes′ k′ s′ q′) where
@@ -323,6 +343,19 @@ module _ {sets sets′ : List Set} {bytes bytes′ : List ℕ} (p : Proper sets 
       → ((r : ℕ) → r < numbersOf (setCase s) → ownBytes bytes q (i * numbersOf (setCase s) + r) ≡ ownBytes bytes′ q′ (i′ * numbersOf (setCase s) + r))
       → valueOf bytes (suc k) i ≡ valueOf bytes′ (suc k′) i′
   own-bytes-decide = ReaderLaws.own-bytes-decide p p′ a a′
+
+-- 02, C-13: "the seventh number .. is neither of the list nor among the numbers shown": two files that differ in padding alone, line ends aside, have one list,
+-- the same rewritten bytes and the same answers to every question, byte places and sevenths aside; two with different sevenths are in `cases` Examples
+module _ {a b : List Set} {x y : List ℕ} (p : Proper a x) (q : Proper b y) (d : PaddingAside a x y) where
+  pub padding-aside : (a ≡ b) × (rewrittenFile x ≡ rewrittenFile y)
+  padding-aside = SameLaws.padding-aside p q d
+
+  pub padding-answers : SameAnswers x y
+  padding-answers = SameLaws.padding-answers p q d
+
+-- no two lists have a rewritten text in common
+pub one-list : {a b : List Set} {x y : List ℕ} → Proper a x → Proper b y → rewrittenFile x ≡ rewrittenFile y → a ≡ b
+one-list = RewriterLaws.one-list
 
 -- the bytes that C is given of an answer, which `reader-numbers` and `reader-values` say by the list: of a stored number 20, of a value the bit patterns of its
 -- f64, the lowest byte first
@@ -392,7 +425,9 @@ module _ {A : Type 0} {form : Reply → A} (ns bs : List ℕ) (s : isShort ns bs
 
 -- C-14. "Every refusal of a line now carries the column too: of the first such byte for 2 and 13, the field's first column for 10, 11, 12, 14, 24 and 25,
 -- otherwise 1.", "For 14 it is the earliest offending field.", "24, integer field blank, and 25, real field blank, in the places of 10 and 12, which keep the
--- rest": a reply that names a line is the refusal of the earliest bad line, and `walk_laws` Fault says from that line what is wrong there, and at which column
+-- rest": a reply that names a line is the refusal of the earliest bad line, and `walk_laws` Fault says from that line what is wrong there, and at which column.
+-- 02, C-13: "13 no longer covers the full line's fields; a remainder neither blank nor well-formed is 12 at its first blank or bad field", and 25 there for "a
+-- blank field in a remainder too": by `RowFault` (`record_laws` Fault) the counted fields come first, then those of a remainder that is not blank, then 13
 pub refusal-sound : (bytes : List ℕ) → length bytes ≤ 16777216 → Judged bytes (judged bytes)
 refusal-sound = FileFaultLaws.judged-fault
 

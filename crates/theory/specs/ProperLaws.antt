@@ -1,5 +1,5 @@
 -- What every proper writing keeps: the limits on its sets and bytes, and that no line inside a set is a delimiter.
-use mathlib.Core.List.{List, [], _∷_}
+use mathlib.Core.List.{List, []}
 use Prim.Native.Nat.{ℕ, zero, suc, _≤_, _<_}
 use native.Mathlib.Omega.{arith}
 use lib.ListN.{length, getD}

@@ -15,7 +15,7 @@ use Rattle.laws.specs.RangesLaws.{in-range}
 use Rattle.laws.specs.Cut.{cut, over, judge}
 use Rattle.line.specs.declared.Refusal.{Refusal}
 use Rattle.line.specs.Line.{refusal, columns, firstBad, lineFault, filled}
-use Rattle.layout.specs.Layout.{layouts, layoutOf, numbersOf}
+use Rattle.layout.specs.Layout.{numbersOf}
 use Rattle.field.specs.Item.{Item}
 use Rattle.record_table.specs.Row.{span, withPadding}
 use Rattle.record_table.specs.Records.{records, recordOf, noRecord, dataForm}
@@ -44,16 +44,8 @@ use Rattle.record.specs.DeclaredLaws.{declares-items}
 use Rattle.record.specs.Written.{Written}
 use Rattle.record_laws.specs.RowGroupLaws.{recordOf-readable}
 use Rattle.record_laws.specs.LineReadingLaws.{written-sound}
-use Rattle.parts_laws.specs.CaseLaws.{record-case, record-counted}
+use Rattle.parts_laws.specs.CaseLaws.{numbersOf-some, record-case, record-counted}
 use Rattle.writer_laws.specs.HeaderRun.{Says, Passed, Bounds, Stood, Taken, Met, ended, taken, stopped}
-
--- a value stores one number at least
-abbrev stores : ℕ → Bool
-stores c = ltb 0 (numbersOf c)
-
-numbersOf-some : (c : ℕ) → c < 8 → 0 < numbersOf c
-unfolding numbersOf layoutOf layouts
-numbersOf-some c h = ltb-true 0 _ (in-range stores true 0 8 c refl (omega arith) (omega arith))
 
 stored-bounds : (c n : ℕ) → c < 8 → 1 ≤ n → n ≤ 65536 → Bounds c (n * numbersOf c)
 stored-bounds c n e l u =
