@@ -36,7 +36,8 @@ use Rattle.rewriter_laws.specs.Form.{countedColumns}
 use Rattle.rewriter_laws.specs.Differ.{SameBut, SameFile}
 use Rattle.rewriter_laws.specs.OwnLaws.{Opens, not-open, one-way}
 use Rattle.rewriter_laws.specs.Laid.{bodyOf, keptIn}
-use Rattle.rewriter_laws.specs.KeptLaws.{kept-cut, stored-58, unpadded-cut}
+use Rattle.rewriter_laws.specs.CutLaws.{stored-58}
+use Rattle.rewriter_laws.specs.KeptLaws.{kept-cut, unpadded-cut}
 use Rattle.rewriter_laws.specs.LaidLaws.{own-columns}
 
 -- Lines that are the same but for the last.

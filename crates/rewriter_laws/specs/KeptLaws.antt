@@ -1,50 +1,38 @@
 -- What is kept of the lines of a set: lines of the same set, with no blanks at line ends, spelled the same.
 use mathlib.Core.Path.{_≡_, refl, sym, ap, subst, _∙_}
-use mathlib.Core.Logic.{⊎-elim}
 use mathlib.Core.Bool.{Bool, true, false}
-use mathlib.Core.List.{List, [], _∷_, _++_, map, append-nil}
-use Prim.Native.Nat.{ℕ, zero, suc, _+_, _-_, _*_, _≤_, _<_}
-use native.Mathlib.Nat.{zero-mul}
+use mathlib.Core.List.{List, [], _∷_, map, append-nil}
+use Prim.Native.Nat.{ℕ, suc, _-_, _≤_}
 use native.Mathlib.Omega.{arith}
-use borrow.Author.Tests.{eqb-true}
 use lib.Dec.{eqb}
-use lib.ListN.{length, getD, take, drop, replicate, length-map, length-take, take-append-drop, List·getD-map}
-use lib.Seq.{take-all, take-append-le}
+use lib.ListN.{length, getD, take, length-map, length-take, List·getD-map}
+use lib.Seq.{take-all}
 use Rattle.laws.specs.Choice.{pick}
-use Rattle.laws.specs.ChoiceLaws.{false-not-true, below-or-not}
-use Rattle.text.specs.Blank.{Blanks}
-use Rattle.text.specs.BlankLaws.{blanks-replicate}
+use Rattle.text.specs.Blank.{Blanks.none as no-blank}
 use Rattle.text.specs.Text.{Unpadded, TextIn, text-in, trimmed}
 use Rattle.text.specs.TextLaws.{trimmed-complete, trimmed-sound}
 use Rattle.line.specs.Line.{columns, withoutReturn, filled}
-use Rattle.line.specs.LineLaws.{filled-short}
 use Rattle.field.specs.Item.{Item}
-use Rattle.record_table.specs.Row.{Row, span, firstFields}
-use Rattle.record_table.specs.Records.{plain, dataRow}
-use Rattle.record_table.specs.TypedSets.{headerLines}
-use Rattle.record.specs.Written.{InColumns, Written}
-use Rattle.record.specs.CutLaws.{in-columns-cut}
+use Rattle.record_table.specs.Row.{Row}
+use Rattle.record_table.specs.Records.{plain}
+use Rattle.record.specs.Written.{Written}
 use Rattle.theory.specs.Sets.{Set}
 use Rattle.theory.specs.Proper.{Inside, TypedLines, PlainLines, SetLines}
 use Rattle.line_laws.specs.Short.{Short}
-use Rattle.layout.specs.Columns.{lineOf}
-use Rattle.layout.specs.Layout.{fieldsOf, numbersOf}
-use Rattle.record.specs.Declared.{countBy}
 use Rattle.parts.specs.Parts.{Part}
 use Rattle.parts.specs.Function.{partCase, storedOf}
-use Rattle.parts.specs.Padding.{lastField, countedPast, paddingOf}
+use Rattle.parts.specs.Padding.{countedPast, paddingOf}
 use Rattle.parts_laws.specs.Holds.{columnsOf, Holds}
-use Rattle.parts_laws.specs.Declared.{seventhOf, declared, setCase}
-use Rattle.parts_laws.specs.DeclaredLaws.{case-held, typed-58}
+use Rattle.parts_laws.specs.Declared.{setCase}
+use Rattle.parts_laws.specs.DeclaredLaws.{case-held}
 use Rattle.parts_laws.specs.Stored.{storedCount}
-use Rattle.parts_laws.specs.StoredLaws.{stored-case}
-use Rattle.parts_laws.specs.PaddingLaws.{stored-held, last-held, last-row, counted-span, data-inside, blank-past, ended-unpadded}
+use Rattle.parts_laws.specs.PaddingLaws.{stored-held, ended-unpadded}
 use Rattle.rewriter.specs.Rewriter.{keptOf, cutLast, unpadded}
 use Rattle.rewriter.specs.BodyLaws.{trimmed-most, keptOf-most}
 use Rattle.rewriter.specs.Fair.{Fair, FairLines, Inner}
 use Rattle.rewriter.specs.RewriterLaws.{filled-text, cut-columns, cut-fair}
 use Rattle.rewriter_laws.specs.Form.{Trimmed, countedColumns, EndsBy, SameLines}
-use Rattle.text.specs.Blank.{Blanks.none as no-blank}
+use Rattle.rewriter_laws.specs.CutLaws.{stored-58, cut-short, cut-lines}
 
 -- One line.
 
@@ -178,14 +166,6 @@ whole-cut Inner.none = refl
 whole-cut (Inner.more {l} f c Inner.none) = rw (whole-line l f) refl
 whole-cut (Inner.more {l} f c (Inner.more g d i)) = ap (_∷_ (keptOf l)) (whole-cut (Inner.more g d i))
 
-pub stored-58 : (s : Set) → eqb (storedCount s) 0 ≡ false → s .number ≡ 58
-unfolding storedCount declared
-stored-58 s h = by (eqb (s .number) 58) refl h
-  where
-    by : (t : Bool) → eqb (s .number) 58 ≡ t → eqb (pick t (countBy (seventhOf s)) 0 * numbersOf (setCase s)) 0 ≡ false → s .number ≡ 58
-    by true e g = eqb-true (s .number) 58 e
-    by false e g = false-not-true (sym g ∙ rw (zero-mul (numbersOf (setCase s))) refl)
-
 pub unpadded-cut : {s : Set} {p : Part} → Holds s p → Inner (p .body) → map keptOf (unpadded p) ≡ map keptOf (cutLast (countedColumns s) (p .body))
 unfolding unpadded countedColumns
 unpadded-cut {s} {p} h i = rw (stored-held h) (by (eqb (storedCount s) 0) refl)
@@ -215,70 +195,18 @@ unpadded-fair p i = by (eqb (storedOf p) 0)
     by true = inner-fair i
     by false = cut-fair-lines (countedPast (partCase p) (storedOf p)) i
 
--- a line that is cut and filled with blanks: its first columns, and blanks
-cut-filled : (P : List ℕ → Type 0) (k : ℕ) (cs : List ℕ) → length cs ≤ 80 → ((bl : List ℕ) → Blanks bl → P (take k (filled cs) ++ bl)) → P (filled (take k cs))
-cut-filled P k cs h f = ⊎-elim short long (below-or-not (length cs) k)
-  where
-    short : length cs < k → P (filled (take k cs))
-    short l = rw (take-all k cs (omega arith)) (subst P (take-append-drop k (filled cs)) (f (drop k (filled cs)) (blank-past cs k (omega arith) h)))
-
-    long : k ≤ length cs → P (filled (take k cs))
-    long l =
-        let m : length (take k cs) ≤ 80 = omega (arith, length-take k cs) in
-        let same : take k (filled cs) ≡ take k cs = ap (take k) (filled-short cs h) ∙ take-append-le k cs (replicate (80 - length cs) 32) l in
-        rw (filled-short (take k cs) m) (rw same at (f (replicate (80 - length (take k cs)) 32) (blanks-replicate (80 - length (take k cs)))))
-
--- a data line that is cut behind its due fields keeps its items, and is no delimiter
-module _ (c m : ℕ) (below : c < 8) where
-  abbrev row : Row
-  row = firstFields (suc m) (dataRow c)
-
-  in-cut : {is : List Item} (l : List ℕ) → Fair l → InColumns row is (filled (columns true l)) → InColumns row is (filled (keptOf (take (span (row .fields)) l)))
-  in-cut {is} l f w =
-      let cs : List ℕ = columns true l in
-      let k : ℕ = span (row .fields) in
-      let few : length (take k cs) ≤ 80 = omega (arith, length-take k cs, f .short) in
-      rw (kept-cut k l f, filled-text (trimmed-sound (take k cs)) few) (cut-filled (InColumns row is) k cs (f .short) (λ bl b. in-columns-cut w b))
-
-  cut-written : {is : List Item} (l : List ℕ) → Fair l → Written row is (filled (columns true l)) → Written row is (filled (keptOf (take (span (row .fields)) l)))
-  cut-written l f w = record { in-columns = in-cut l f (w .in-columns); together = w .together; kept = w .kept }
-
-  typed-cut : {rs : List Row} {iss : List (List Item)} (ls : List (List ℕ)) → TypedLines rs iss (columnsOf ls) → Inner ls
-      → getD rs (length ls - 1) (plain []) ≡ row → TypedLines rs iss (map keptOf (cutLast (span (row .fields)) ls))
-  unfolding cutLast
-  typed-cut [] TypedLines.none i e = TypedLines.none
-  typed-cut (l ∷ []) (TypedLines.more {r = r} {is = is} w n TypedLines.none) (Inner.more f d Inner.none) e =
-      let own : Written row is (filled (columns true l)) = subst (λ (x : Row). Written x is (filled (columns true l))) e w in
-      let cut = cut-written l f own in
-      subst (λ (x : Row). TypedLines (x ∷ []) (is ∷ []) (keptOf (take (span (row .fields)) l) ∷ [])) (sym e)
-      (TypedLines.more cut (data-inside c m below (cut .in-columns)) TypedLines.none)
-  typed-cut (l ∷ a ∷ ls) (TypedLines.more w n t) (Inner.more f d i) e =
-      let z : suc (suc (length ls)) - 1 ≡ suc (suc (length ls) - 1) = omega arith in
-      TypedLines.more (written-kept l (f .short) w) (inside-kept l (f .short) n) (typed-cut (a ∷ ls) t i (rw z at e))
-
-last-cut : {s : Set} (ls : List (List ℕ)) → SetLines s (columnsOf ls) → Inner ls → s .number ≡ 58 → 0 < storedCount s
-    → length ls - 1 ≡ headerLines + lineOf (fieldsOf (setCase s)) (storedCount s - 1)
-    → SetLines s (map keptOf (cutLast (countedPast (setCase s) (storedCount s)) ls))
-last-cut {s} ls (SetLines.typed t l) i e some q =
-    let c : ℕ = setCase s in
-    let m : ℕ = lastField c (storedCount s) in
-    SetLines.typed t (rw (counted-span c (storedCount s)) at (typed-cut c m (stored-case s 0 some) ls l i (rw q (last-row s e some))))
-last-cut ls (SetLines.plain t l) i e some q = false-not-true (sym (rw e at t) ∙ typed-58)
-
-not-zero : (n : ℕ) → eqb n 0 ≡ false → 0 < n
-not-zero zero e = false-not-true (sym e)
-not-zero (suc n) e = omega arith
-
 -- lines of the same set
+columns-cut : (k : ℕ) {ls : List (List ℕ)} → Inner ls → columnsOf (cutLast k ls) ≡ cutLast k (columnsOf ls)
+unfolding cutLast
+columns-cut k Inner.none = refl
+columns-cut k (Inner.more {l} f c Inner.none) = rw (cut-columns k l f) refl
+columns-cut k (Inner.more {l} f c (Inner.more g d i)) = ap (_∷_ (columns true l)) (columns-cut k (Inner.more g d i))
+
 pub lines-kept : {s : Set} {p : Part} → Holds s p → Inner (p .body) → SetLines s (map keptOf (unpadded p))
-unfolding countedColumns
-lines-kept {s} {p} h i = rw (unpadded-cut h i) (by (eqb (storedCount s) 0) refl)
-  where
-    by : (t : Bool) → eqb (storedCount s) 0 ≡ t → SetLines s (map keptOf (cutLast (pick t 80 (countedPast (setCase s) (storedCount s))) (p .body)))
-    by true e = rw (whole-cut i) (set-kept (p .body) (h .lines) (h .short))
-    by false e =
-        let some : 0 < storedCount s = not-zero (storedCount s) e in
-        last-cut (p .body) (h .lines) i (stored-58 s e) some (last-held h (stored-58 s e) some)
+lines-kept {s} {p} h i =
+    let k : ℕ = countedColumns s in
+    let cut = columns-cut k i in
+    rw (unpadded-cut h i) (set-kept (cutLast k (p .body)) (rw cut (cut-lines (h .lines) (h .short))) (rw cut (cut-short k (h .short))))
 
 -- Lines of which the last ends with its last counted column at the latest have no padding.
 

@@ -2,8 +2,10 @@ pub mod Form
 pub mod NumberLaws
 pub mod OwnLaws
 pub mod Differ
+pub mod CutLaws
 pub mod KeptLaws
 pub mod Laid
 pub mod LaidLaws
 pub mod DifferLaws
 pub mod RewritingLaws
+pub mod UnpaddedLaws

@@ -39,12 +39,12 @@ bytes-most file = omega (arith, lines-past file 0 (cut file .lines) [] (omega ar
 
 module _ {sets : List Set} {bytes : List ℕ} (p : Proper sets bytes) where
   -- the sets of a proper writing as they stand in it
-  proper-stand : AtPlaces 0 0 sets (partsOf bytes) (cut bytes .lines)
+  pub proper-stand : AtPlaces 0 0 sets (partsOf bytes) (cut bytes .lines)
   unfolding partsOf
   proper-stand = lines-stand (p .lines) (ended-short (p .ends)) 0 0 (cut bytes .lines) (ended-complete (p .ends) .same)
 
   -- their own lines
-  proper-own : OwnLines (map bodyOf (partsOf bytes)) bytes
+  pub proper-own : OwnLines (map bodyOf (partsOf bytes)) bytes
   proper-own = record { columns = p .columns; ends = p .ends; own = rw (ended-complete (p .ends) .same) at (stand-own proper-stand) }
 
   -- fair ones

@@ -66,6 +66,7 @@ use Rattle.exact.specs.ExactLaws as ExactLaws
 use Rattle.record_table.specs.PaddingLaws as RowLaws
 use Rattle.host.specs.PackedLaws as PackedLaws
 use Rattle.parts_laws.specs.PaddingLaws as PaddingLaws
+use Rattle.rewriter_laws.specs.UnpaddedLaws as UnpaddedLaws
 use Rattle.writer_laws.specs.HeaderRefusedLaws as HeaderRefusedLaws
 use Rattle.walk_laws.specs.FaultColumnLaws as FaultColumnLaws
 use Rattle.walk_laws.specs.FileFaultLaws as FileFaultLaws
@@ -352,6 +353,11 @@ module _ {a b : List Set} {x y : List ℕ} (p : Proper a x) (q : Proper b y) (d 
 
   pub padding-answers : SameAnswers x y
   padding-answers = SameLaws.padding-answers p q d
+
+-- and every file has one without padding that differs from it in padding alone
+pub padding-out : {sets : List Set} {bytes : List ℕ} → Proper sets bytes
+    → (bare : List ℕ) × (Proper sets bare × (PaddingAside sets bytes bare × (map paddingOf (partsOf bare) ≡ map (λ (s : Set). 0) sets)))
+padding-out = UnpaddedLaws.without-padding
 
 -- no two lists have a rewritten text in common
 pub one-list : {a b : List Set} {x y : List ℕ} → Proper a x → Proper b y → rewrittenFile x ≡ rewrittenFile y → a ≡ b
