@@ -34,6 +34,7 @@ use Rattle.record.specs.TakenLaws.{span-first}
 use Rattle.walk.specs.DueLaws.{dataRow-length}
 use Rattle.record_laws.specs.GroupLaws.{blanks-at}
 use Rattle.theory.specs.Sets.{Set}
+use Rattle.theory.specs.Proper.{SetLines}
 use Rattle.theory.specs.Due.{linesFor, rowsHolding, setRows}
 use Rattle.line_laws.specs.LineTestsLaws.{blanks-take}
 use Rattle.parts.specs.Parts.{Part, lastLine}
@@ -41,7 +42,7 @@ use Rattle.parts.specs.Parts as Parts
 use Rattle.parts.specs.Function as Function
 use Rattle.parts.specs.Padding.{lastField, countedPast, remainder, paddingIn, paddingOf}
 use Rattle.parts.specs.CountedLaws.{past-inside}
-use Rattle.parts_laws.specs.Holds.{columnsOf, Holds}
+use Rattle.parts_laws.specs.Holds.{Holds}
 use Rattle.parts_laws.specs.Declared.{declared, setCase}
 use Rattle.parts_laws.specs.DeclaredLaws.{case-held, declared-held}
 use Rattle.parts_laws.specs.Stored.{storedCount}
@@ -90,14 +91,17 @@ last-most n t p h =
 pub last-of : (n t : ℕ) → 0 < n → 0 < t → linesFor n t ≡ suc (lineOf n (t - 1))
 last-of n t p h = omega (arith, line-enough n t (t - 1) p (omega arith), last-most n t p h)
 
-pub last-held : {s : Set} {p : Part} → Holds s p → s .number ≡ 58 → 0 < storedCount s
-    → lastLine p ≡ headerLines + lineOf (fieldsOf (setCase s)) (storedCount s - 1)
-last-held {s} {p} h e some =
-    let c : length (columnsOf (p .body)) ≡ headerLines + linesFor (fieldsOf (setCase s)) (storedCount s) = set-data (h .lines) e .count in
-    let n : length (columnsOf (p .body)) ≡ length (p .body) = length-map (p .body) (columns true) in
+pub last-line : {s : Set} {css : List (List ℕ)} → SetLines s css → s .number ≡ 58 → 0 < storedCount s
+    → length css - 1 ≡ headerLines + lineOf (fieldsOf (setCase s)) (storedCount s - 1)
+last-line {s} {css} h e some =
+    let c : length css ≡ headerLines + linesFor (fieldsOf (setCase s)) (storedCount s) = set-data h e .count in
     let l : linesFor (fieldsOf (setCase s)) (storedCount s) ≡ suc (lineOf (fieldsOf (setCase s)) (storedCount s - 1))
     = last-of (fieldsOf (setCase s)) (storedCount s) (fieldsOf-some (setCase s) (stored-case s 0 some)) some in
     omega arith
+
+pub last-held : {s : Set} {p : Part} → Holds s p → s .number ≡ 58 → 0 < storedCount s
+    → lastLine p ≡ headerLines + lineOf (fieldsOf (setCase s)) (storedCount s - 1)
+last-held {s} {p} h e some = rw (length-map (p .body) (columns true)) at (last-line (h .lines) e some)
 
 -- it is written by the fields up to that of the last stored number, which are the columns that count
 pub last-row : (s : Set) → s .number ≡ 58 → 0 < storedCount s

@@ -1,46 +1,44 @@
 -- The lines of a set, the last of them cut behind its last counted number, are lines of the same set.
 use mathlib.Core.Path.{_≡_, refl, sym, ap, subst, _∙_}
+use mathlib.Core.Logic.{⊎-elim}
 use mathlib.Core.Bool.{Bool, true, false}
 use mathlib.Core.List.{List, [], _∷_, _++_}
 use Prim.Native.Nat.{ℕ, zero, suc, _+_, _-_, _*_, _≤_, _<_}
+use native.Mathlib.Nat.{zero-mul}
 use native.Mathlib.Omega.{arith}
+use borrow.Author.Tests.{eqb-true}
 use lib.Dec.{eqb}
 use lib.ListN.{length, getD, take, length-take, drop, replicate, take-append-drop}
 use lib.Seq.{take-all, take-append-le}
 use Rattle.laws.specs.Choice.{pick}
 use Rattle.laws.specs.ChoiceLaws.{false-not-true, below-or-not}
+use Rattle.text.specs.Blank.{Blanks}
+use Rattle.text.specs.BlankLaws.{blanks-replicate}
 use Rattle.line.specs.Line.{filled}
+use Rattle.line.specs.LineLaws.{filled-short}
 use Rattle.layout.specs.Columns.{lineOf}
 use Rattle.layout.specs.Layout.{fieldsOf, numbersOf}
-use Rattle.layout.specs.LayoutLaws.{fieldsOf-some}
 use Rattle.field.specs.Item.{Item}
 use Rattle.record_table.specs.Row.{Row, span, firstFields}
 use Rattle.record_table.specs.Records.{plain, dataRow}
 use Rattle.record_table.specs.TypedSets.{headerLines}
+use Rattle.record.specs.Declared.{countBy}
 use Rattle.record.specs.Written.{InColumns, Written}
 use Rattle.record.specs.CutLaws.{in-columns-cut}
 use Rattle.theory.specs.Sets.{Set}
-use Rattle.theory.specs.Due.{linesFor}
 use Rattle.theory.specs.Proper.{TypedLines, SetLines}
 use Rattle.line_laws.specs.Short.{Short}
 use Rattle.parts.specs.Padding.{lastField, countedPast}
 use Rattle.parts_laws.specs.Declared.{setCase, seventhOf, declared}
 use Rattle.parts_laws.specs.DeclaredLaws.{typed-58}
 use Rattle.parts_laws.specs.Stored.{storedCount}
-use Rattle.parts_laws.specs.StoredLaws.{set-data, stored-case}
-use Rattle.parts_laws.specs.PaddingLaws.{last-of, last-row, counted-span, data-inside, blank-past}
+use Rattle.parts_laws.specs.StoredLaws.{stored-case}
+use Rattle.parts_laws.specs.PaddingLaws.{last-line, last-row, counted-span, data-inside, blank-past}
 use Rattle.rewriter.specs.Rewriter.{cutLast}
 use Rattle.rewriter_laws.specs.Form.{countedColumns}
-use mathlib.Core.Logic.{⊎-elim}
-use native.Mathlib.Nat.{zero-mul}
-use borrow.Author.Tests.{eqb-true}
-use Rattle.text.specs.Blank.{Blanks}
-use Rattle.text.specs.BlankLaws.{blanks-replicate}
-use Rattle.line.specs.LineLaws.{filled-short}
-use Rattle.record.specs.Declared.{countBy}
 
 -- a line that is cut and filled with blanks: its first columns, and blanks
-pub cut-filled : (P : List ℕ → Type 0) (k : ℕ) (cs : List ℕ) → length cs ≤ 80 → ((bl : List ℕ) → Blanks bl → P (take k (filled cs) ++ bl)) → P (filled (take k cs))
+cut-filled : (P : List ℕ → Type 0) (k : ℕ) (cs : List ℕ) → length cs ≤ 80 → ((bl : List ℕ) → Blanks bl → P (take k (filled cs) ++ bl)) → P (filled (take k cs))
 cut-filled P k cs h f = ⊎-elim short long (below-or-not (length cs) k)
   where
     short : length cs < k → P (filled (take k cs))
@@ -84,7 +82,7 @@ stored-58 s h = by (eqb (s .number) 58) refl h
     by true e g = eqb-true (s .number) 58 e
     by false e g = false-not-true (sym g ∙ rw (zero-mul (numbersOf (setCase s))) refl)
 
-pub not-zero : (n : ℕ) → eqb n 0 ≡ false → 0 < n
+not-zero : (n : ℕ) → eqb n 0 ≡ false → 0 < n
 not-zero zero e = false-not-true (sym e)
 not-zero (suc n) e = omega arith
 
@@ -100,14 +98,6 @@ unfolding cutLast
 cut-short k Short.none = Short.none
 cut-short k (Short.more {cs} h Short.none) = Short.more {cs = take k cs} (omega (arith, length-take k cs)) Short.none
 cut-short k (Short.more h (Short.more g s)) = Short.more h (cut-short k (Short.more g s))
-
-last-line : {s : Set} {css : List (List ℕ)} → SetLines s css → s .number ≡ 58 → 0 < storedCount s
-    → length css - 1 ≡ headerLines + lineOf (fieldsOf (setCase s)) (storedCount s - 1)
-last-line {s} {css} l e some =
-    let c : length css ≡ headerLines + linesFor (fieldsOf (setCase s)) (storedCount s) = set-data l e .count in
-    let m : linesFor (fieldsOf (setCase s)) (storedCount s) ≡ suc (lineOf (fieldsOf (setCase s)) (storedCount s - 1))
-    = last-of (fieldsOf (setCase s)) (storedCount s) (fieldsOf-some (setCase s) (stored-case s 0 some)) some in
-    omega arith
 
 cut-58 : {s : Set} {css : List (List ℕ)} → SetLines s css → Short css → s .number ≡ 58 → 0 < storedCount s
     → length css - 1 ≡ headerLines + lineOf (fieldsOf (setCase s)) (storedCount s - 1)
