@@ -1,5 +1,6 @@
 pub mod Parts
 pub mod PartsLaws
+pub mod ShownLaws
 pub mod Scan
 pub mod Function
 pub mod Padding

@@ -11,6 +11,10 @@ use Rattle.laws.specs.Cut.{cut}
 use Rattle.line.specs.Line.{columns, filled}
 use Rattle.delimiter.specs.Kind.{isDelimiter, datasetNumber}
 
+-- the columns of a line that it has bytes for
+abbrev pub shown : List ℕ → List ℕ
+shown l = take 80 (columns true l)
+
 -- the 80 columns of a line
 abbrev pub columnsIn : List ℕ → List ℕ
 columnsIn l = filled (columns true l)

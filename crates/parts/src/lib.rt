@@ -6,7 +6,7 @@ ghost use lib.Dec.{eqb};
 ghost use Rattle.delimiter.specs.Kind.{datasetNumber};
 ghost use lib.ListN.{length, drop};
 ghost use Rattle.laws.specs.Cut.{cut};
-ghost use Rattle.parts.specs.Parts.{columnsIn, closes, outside, partsFrom};
+ghost use Rattle.parts.specs.Parts.{shown, columnsIn, closes, outside, partsFrom};
 ghost use Rattle.record_table.specs.TypedSets.{lineSeven};
 ghost use Rattle.record.specs.Declared.{caseIn, countIn};
 ghost use Rattle.parts.specs.Scan.{lineFrom, firstOf, seenStep, skipTo, columnsAt};
@@ -14,6 +14,7 @@ ghost use Rattle.parts.specs.Padding.{lastField, paddingIn};
 ghost use Rattle.parts.specs.Counted.{declaredAt, paddingAt, countedAt};
 use layout::field_start;
 use layout::fields_of;
+use text::is_blank;
 
 // Where the next set is looked for: 0 outside sets, 1 after its opening delimiter, 2 inside it; how many lines and bytes
 // come before it, its number, and the first byte of its lines and of the last of them so far.
@@ -74,19 +75,45 @@ pub fn put_columns(row: &mut [u8; 80], line: &[u8])
     line::fill_line(row, &line[..n]);
 }
 
+// How many of the bytes before a line's LF are its columns, of which there are at most 80.
+fn shown_len(line: &[u8]) -> usize
+    ensures { λ r. ⌜ (r ≡ length (shown (now (line .entry)))) × (r ≤ length (now (line .entry))) ⌝ }
+{
+    let n = line::columns_len(line, true);
+    if 80 < n {
+        return 80;
+    }
+    n
+}
+
 // Whether a line is a delimiter.
 pub fn is_delimiter_line(line: &[u8]) -> bool
     ensures { λ r. ⌜ r ≡ closes (now (line .entry)) ⌝ }
 {
-    let mut row = [32u8; 80];
-    put_columns(&mut row, line);
-    delimiter::is_delimiter(&row)
+    let n = shown_len(line);
+    if n < 6 {
+        return false;
+    }
+    if line[4] != 45 {
+        return false;
+    }
+    if line[5] != 49 {
+        return false;
+    }
+    if !is_blank(&line[0..4]) {
+        return false;
+    }
+    is_blank(&line[6..n])
 }
 
 // The number of a number line; 0 where it is none.
 pub fn line_number(line: &[u8]) -> u32
     ensures { λ r. ⌜ r ≡ datasetNumber (columnsIn (now (line .entry))) ⌝ }
 {
+    let n = shown_len(line);
+    if n == 6 {
+        return delimiter::positive(integer::integer_field(&line[0..6]));
+    }
     let mut row = [32u8; 80];
     put_columns(&mut row, line);
     delimiter::dataset_number(&row)
@@ -277,7 +304,7 @@ fn padding_in(row: &[u8; 80], case: usize, stored: usize) -> usize
     let from = field_start(case, counted);
     let past = field_start(case, fields);
     let columns: &[u8] = row;
-    if text::is_blank(&columns[from..past]) {
+    if is_blank(&columns[from..past]) {
         return 0;
     }
     fields - counted
