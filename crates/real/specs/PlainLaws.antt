@@ -1,7 +1,7 @@
 -- A field of the usual spelling spells what its columns say, so that is what is read in it.
 use mathlib.Core.Path.{_≡_, refl, sym, ap, _∙_}
 use mathlib.Core.Bool.{Bool, true, false, not, _||_}
-use mathlib.Core.List.{List, [], _∷_, _++_}
+use mathlib.Core.List.{List, [], _∷_, _++_, append-nil, append-assoc}
 use Prim.Native.Nat.{ℕ, _+_, _-_, _*_, _≤_, _<_}
 use native.Mathlib.Numerals.{add-one}
 use native.Mathlib.Omega.{arith}
@@ -9,8 +9,10 @@ use borrow.Author.Tests.{eqb-true}
 use lib.Dec.{eqb}
 use lib.ListN.{length, getD, take, drop, take-append-drop, length-drop}
 use lib.Seq.{take-suc, take-all, drop-cons, drop-drop, length-take-le}
+use Rattle.laws.specs.Choice.{pick}
 use Rattle.laws.specs.ChoiceLaws.{and-left, and-right}
-use Rattle.text.specs.Blank.{none, one}
+use Rattle.text.specs.Blank.{Blanks, none, one, blanksBefore}
+use Rattle.text.specs.BlankLaws.{blanksBefore-blank}
 use Rattle.text.specs.Parts.{Digits, more, Sign, isDigit}
 use Rattle.text.specs.PartsLaws.{isDigit-low, isDigit-high, digits-join}
 use Rattle.real.specs.Spelling.{ExponentSign, plus, minus, two, ExponentSpelling, lettered, bare, scale, RealSpelling, spelled}
@@ -19,7 +21,7 @@ use Rattle.real.specs.EndLaws.{realEnd-value}
 use Rattle.real.specs.ByteLaws.{isLetter-sound}
 use Rattle.real.specs.RestLaws.{digits-length}
 use Rattle.real.specs.RealLaws.{realOf-complete}
-use Rattle.real.specs.Plain.{between, isPlain, isLettered, isBare, Few}
+use Rattle.real.specs.Plain.{between, isPlain, isLettered, isBare, signLength, Few, Lead, lead, Front}
 
 -- a loop over columns of digits: one digit more
 pub digits-next : {m v : ℕ} (l : List ℕ) (i : ℕ) → i < length l → isDigit (getD l i 0) ≡ true
@@ -37,16 +39,6 @@ columns-first l a e h q =
 
 length-between : (l : List ℕ) (a e : ℕ) → e ≤ length l → length (between a e l) ≡ e - a
 length-between l a e h = length-take-le (e - a) (drop a l) (simp length-drop (omega arith))
-
--- the columns of a field whose exponent begins at column e
-columns : (l : List ℕ) (e : ℕ) → 4 ≤ e → e ≤ length l
-    → l ≡ getD l 0 0 ∷ getD l 1 0 ∷ (between 2 3 l ++ (getD l 3 0 ∷ (between 4 e l ++ drop e l)))
-columns l e low high =
-    column-first l 0 1 (omega arith) refl
-    (column-first l 1 2 (omega arith) refl
-    (columns-first l 2 3 (omega arith)
-    (column-first l 3 4 (omega arith) refl
-    (columns-first l 4 e low refl))))
 
 -- a byte that is one of two
 either : (P : ℕ → Type 0) (b x y : ℕ) → eqb b x || eqb b y ≡ true → P x → P y → P b
@@ -82,26 +74,75 @@ module _ {x : ℕ} (l : List ℕ) (low : 9 ≤ length l) where
       rw (column-last l (length l - 4) (length l - 3) (omega arith) (omega arith)) (bare _ (exponent-sign _ (and-right (not (isLetter b)) _ t)) (fx .digits) n)
 
 -- two blanks and no sign, or a blank and a minus
-plain-spelled : {w c x : ℕ} {xn : Bool} (first second point : ℕ) (whole part exponent : List ℕ) → isPlain first second point ≡ true
-    → length whole ≡ 1 → Few 0 whole w → Few w part c → ExponentSpelling xn x exponent
-    → RealSpelling (eqb second 45) c (scale xn x (length part)) (first ∷ second ∷ (whole ++ (point ∷ (part ++ exponent))))
+pub plain-front : (l : List ℕ) → 9 ≤ length l → isPlain (getD l 0 0) (getD l 1 0) (getD l 3 0) ≡ true → Front (eqb (getD l 1 0) 45) 2 3 l
 unfolding isPlain
-plain-spelled {c = c} {x = x} {xn = xn} first second point whole part exponent h lw fw fc xx =
-    let rest = and-right (eqb first 32) _ h in
-    let n = digits-length whole part in
-    let d = digits-join (fw .digits) (fc .digits) in
-    let low : 1 ≤ length (whole ++ part) = omega arith in
-    let high : length (whole ++ part) ≤ 18 = omega (arith, fc .few) in
-    rw (eqb-true first 32 (and-left (eqb first 32) _ h), eqb-true point 46 (and-right (eqb second 32 || eqb second 45) _ rest))
-    (either (λ (b : ℕ). RealSpelling (eqb b 45) c (scale xn x (length part)) (32 ∷ b ∷ (whole ++ (46 ∷ (part ++ exponent))))) second 32 45 (and-left _ _ rest)
-    (spelled (32 ∷ 32 ∷ []) [] whole part _ (one (one none)) Sign.bare d low high xx)
-    (spelled (32 ∷ []) (45 ∷ []) whole part _ (one none) Sign.minus d low high xx))
+plain-front l low h =
+    let first = eqb-true (getD l 0 0) 32 (and-left (eqb (getD l 0 0) 32) _ h) in
+    let rest = and-right (eqb (getD l 0 0) 32) _ h in
+    let two : take 2 l ≡ 32 ∷ getD l 1 0 ∷ [] = take-suc l 1 0 (omega arith) ∙ rw (take-suc l 0 0 (omega arith), first) refl in
+    record {
+      wide = low;
+      before = omega arith;
+      room = omega arith;
+      dot = eqb-true (getD l 3 0) 46 (and-right (eqb (getD l 1 0) 32 || eqb (getD l 1 0) 45) _ rest);
+      leads =
+          rw two
+          (either (λ (b : ℕ). Lead (eqb b 45) (32 ∷ b ∷ [])) (getD l 1 0) 32 45 (and-left _ _ rest)
+          (lead (32 ∷ 32 ∷ []) [] (one (one none)) Sign.bare)
+          (lead (32 ∷ []) (45 ∷ []) (one none) Sign.minus));
+    }
 
--- what is read in a field of the usual spelling: the end of a field after its exponent digits
-pub plain-real : {w c x : ℕ} {xn : Bool} (k : ℕ) (l : List ℕ) → 9 ≤ length l
-    → isPlain (getD l 0 0) (getD l 1 0) (getD l 3 0) ≡ true
-    → Few 0 (between 2 3 l) w → Few w (between 4 (length l - 4) l) c → ExponentSpelling xn x (drop (length l - 4) l) → x ≤ 999
-    → realEnd (at 7 (eqb (getD l 1 0) 45) c k (length (between 4 (length l - 4) l)) xn x) ≡ realOf l
-plain-real k l h t fw fc xx small =
+-- blanks in so many columns, and the sign past them, if there is one
+lead-sign : (l : List ℕ) (k : ℕ) → k < length l → Blanks (take k l) → Lead (eqb (getD l k 0) 45) (take (k + signLength (getD l k 0)) l)
+unfolding signLength
+lead-sign l k h bl = go (eqb (getD l k 0) 43) (eqb (getD l k 0) 45) refl refl
+  where
+    signed : {n : Bool} (b : ℕ) → getD l k 0 ≡ b → Sign n (b ∷ []) → Lead n (take (k + 1) l)
+    signed b e s = rw (add-one, take-suc l k 0 h, e) (lead (take k l) (b ∷ []) bl s)
+
+    go : (p m : Bool) → eqb (getD l k 0) 43 ≡ p → eqb (getD l k 0) 45 ≡ m → Lead m (take (k + pick (p || m) 1 0) l)
+    go true true e f =
+        let plus = eqb-true (getD l k 0) 43 e in
+        let minus = eqb-true (getD l k 0) 45 f in
+        absurd (omega (arith, plus, minus))
+    go true false e f = signed 43 (eqb-true (getD l k 0) 43 e) Sign.plus
+    go false true e f = signed 45 (eqb-true (getD l k 0) 45 f) Sign.minus
+    go false false e f =
+        let none-more : k + 0 ≡ k = omega arith in
+        rw none-more (rw (append-nil (take k l)) at (lead (take k l) [] bl Sign.bare))
+
+-- a number that begins in any column, with a sign of either kind
+pub shifted-front : (l : List ℕ) (k n point : ℕ) → 9 ≤ length l → k ≡ blanksBefore l → k < length l → n ≡ signLength (getD l k 0)
+    → k + n ≤ point → point + 5 ≤ length l → getD l point 0 ≡ 46 → Front (eqb (getD l k 0) 45) (k + n) point l
+shifted-front l k n point low q h m before room dot =
+    let bl : Blanks (take k l) = rw q (blanksBefore-blank l) in
+    record { wide = low; before = before; room = room; dot = dot; leads = rw m (lead-sign l k h bl) }
+
+-- the columns of a field past its front
+columns-past : (l : List ℕ) (from point : ℕ) → from ≤ point → point + 5 ≤ length l
+    → drop from l ≡ between from point l ++ (getD l point 0 ∷ (between (point + 1) (length l - 4) l ++ drop (length l - 4) l))
+columns-past l from point h room =
+    columns-first l from point h
+    (column-first l point (point + 1) (omega arith) refl
+    (columns-first l (point + 1) (length l - 4) (omega arith) refl))
+
+lead-spelled : {w c x : ℕ} {n xn : Bool} (front whole part exponent : List ℕ) → Lead n front
+    → Few 0 whole w → Few w part c → 1 ≤ length whole + length part → length whole + length part ≤ 18 → ExponentSpelling xn x exponent
+    → RealSpelling n c (scale xn x (length part)) (front ++ (whole ++ (46 ∷ (part ++ exponent))))
+lead-spelled front whole part exponent (lead bl sg b s) fw fc low high xx =
+    let n = digits-length whole part in
+    rw (append-assoc bl sg (whole ++ (46 ∷ (part ++ exponent))))
+    (spelled bl sg whole part exponent b s (digits-join (fw .digits) (fc .digits)) (omega arith) (omega arith) xx)
+
+-- what is read in a field by its columns: the end of a field after its exponent digits
+pub columns-real : {w c x : ℕ} {n xn : Bool} {from point : ℕ} (k : ℕ) (l : List ℕ) → Front n from point l
+    → 1 ≤ length (between from point l) + length (between (point + 1) (length l - 4) l)
+    → length (between from point l) + length (between (point + 1) (length l - 4) l) ≤ 18
+    → Few 0 (between from point l) w → Few w (between (point + 1) (length l - 4) l) c → ExponentSpelling xn x (drop (length l - 4) l) → x ≤ 999
+    → realEnd (at 7 n c k (length (between (point + 1) (length l - 4) l)) xn x) ≡ realOf l
+columns-real {from = from} {point = point} k l f low high fw fc xx small =
+    let past = columns-past l from point (f .before) (f .room) in
+    let whole : l ≡ take from l ++ (between from point l ++ (46 ∷ (between (point + 1) (length l - 4) l ++ drop (length l - 4) l))) =
+    sym (take-append-drop from l) ∙ ap (λ (r : List ℕ). take from l ++ r) (rw (f .dot) at past) in
     realEnd-value _ (omega arith) (omega arith) small refl refl
-    ∙ sym (ap realOf (columns l (length l - 4) (omega arith) (omega arith)) ∙ realOf-complete (plain-spelled _ _ _ _ _ _ t (length-between l 2 3 (omega arith)) fw fc xx))
+    ∙ sym (ap realOf whole ∙ realOf-complete (lead-spelled _ _ _ _ (f .leads) fw fc low high xx))

@@ -6,7 +6,7 @@ ghost use lib.ListN.{length, drop};
 ghost use Rattle.real.specs.Real.{malformed, push, next, onCoefficient, exponentDigit, onExponent, onDigit};
 ghost use Rattle.real.specs.Real.{afterCoefficient, onSign, onPoint, onLetter, onBlank, isLetter, scanStep, scaled, realEnd, realOf};
 ghost use Rattle.real.specs.Spelling.{ExponentSpelling};
-ghost use Rattle.real.specs.Plain.{isPlain, isLettered, isBare, Few};
+ghost use Rattle.real.specs.Plain.{isPlain, isLettered, isBare, Few, Front, signLength};
 use laws::wide;
 use text::blanks_before;
 use text::is_digit;
@@ -396,6 +396,41 @@ fn plain_exponent(s: &[u8]) -> Exponent
     }
 }
 
+// What a field holds whose blanks and sign reach up to column `from` and whose point is in column `point`, by its columns; Malformed where the
+// rest is no digit, no exponent of four columns, or has too many digits, whatever it then holds.
+fn by_columns(s: &[u8], minus: bool, from: usize, point: usize) -> Real
+    requires { ⌜ Front minus from point (now s) ⌝ }
+    ensures { λ r. ⌜ (r ≡ Real.Malformed) ⊎ (r ≡ realOf (now (s .entry))) ⌝ }
+{
+    let e = plain_exponent(s);
+    if 999 < e.size {
+        return Real::Malformed;
+    }
+    let past = s.len() - 4;
+    let whole = &s[from..point];
+    let part = &s[point + 1..past];
+    let c = push_digits(push_digits(0, whole), part);
+    if NO_COEFFICIENT <= c {
+        return Real::Malformed;
+    }
+    let digits = whole.len() + part.len();
+    if digits == 0 {
+        return Real::Malformed;
+    }
+    if 18 < digits {
+        return Real::Malformed;
+    }
+    finish(Scan {
+        phase: 7,
+        minus,
+        coefficient: c,
+        digits: digits as u8,
+        after: part.len() as u8,
+        down: e.down,
+        exponent: e.size as u16,
+    })
+}
+
 // What a field of the usual spelling holds; Malformed where it is spelled otherwise, whatever it then holds.
 fn plain_field(s: &[u8]) -> Real
     ensures { λ r. ⌜ (r ≡ Real.Malformed) ⊎ (r ≡ realOf (now (s .entry))) ⌝ }
@@ -429,6 +464,55 @@ fn plain_field(s: &[u8]) -> Real
     })
 }
 
+// How many columns a sign in this one takes; 0 where it holds none.
+fn sign_len(b: u8) -> usize
+    ensures { λ r. ⌜ (r ≡ signLength b) × (r ≤ 1) ⌝ }
+{
+    if (b == 43) | (b == 45) {
+        return 1;
+    }
+    0
+}
+
+// The first column from `at` on that holds no digit.
+fn past_digits(s: &[u8], at: usize) -> usize
+    requires { ⌜ at ≤ length (now s) ⌝ }
+    ensures { λ r. ⌜ (at ≤ r) × (r ≤ length (now (s .entry))) ⌝ }
+{
+    let mut i = at;
+    while i < s.len() {
+        if !is_digit(s[i]) {
+            return i;
+        }
+        i += 1;
+    }
+    i
+}
+
+// What a field holds whose number begins in another column than the usual one, or has a plus; Malformed where it is spelled otherwise,
+// whatever it then holds.
+fn shifted_field(s: &[u8]) -> Real
+    ensures { λ r. ⌜ (r ≡ Real.Malformed) ⊎ (r ≡ realOf (now (s .entry))) ⌝ }
+{
+    if s.len() < 9 {
+        return Real::Malformed;
+    }
+    let blanks = blanks_before(s);
+    if s.len() <= blanks {
+        return Real::Malformed;
+    }
+    let sign = s[blanks];
+    let from = blanks + sign_len(sign);
+    let point = past_digits(s, from);
+    if s.len() - 4 <= point {
+        return Real::Malformed;
+    }
+    if s[point] != 46 {
+        return Real::Malformed;
+    }
+    by_columns(s, sign == 45, from, point)
+}
+
 // The real in these columns, byte by byte.
 fn scan_field(s: &[u8]) -> Real
     ensures { λ r. ⌜ r ≡ realOf (now (s .entry)) ⌝ }
@@ -450,7 +534,18 @@ fn scan_field(s: &[u8]) -> Real
     finish(st)
 }
 
-// The real in these columns. The usual spelling is read by its columns, any other byte by byte.
+// The real in these columns where its spelling is not the usual one: by its columns where they are found, otherwise byte by byte.
+fn odd_field(s: &[u8]) -> Real
+    ensures { λ r. ⌜ r ≡ realOf (now (s .entry)) ⌝ }
+{
+    let r = shifted_field(s);
+    if let Real::Value(number) = r {
+        return Real::Value(number);
+    }
+    scan_field(s)
+}
+
+// The real in these columns. The usual spelling is read by its columns, any other one more slowly.
 pub fn real_field(s: &[u8]) -> Real
     ensures { λ r. ⌜ r ≡ realOf (now (s .entry)) ⌝ }
 {
@@ -458,5 +553,5 @@ pub fn real_field(s: &[u8]) -> Real
     if let Real::Value(number) = r {
         return Real::Value(number);
     }
-    scan_field(s)
+    odd_field(s)
 }

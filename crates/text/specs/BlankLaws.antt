@@ -7,7 +7,7 @@ use native.Mathlib.Numerals.{add-one}
 use borrow.Author.Tests.{eqb-true, eq-eqb, ne-eqb}
 use native.Mathlib.Omega.{arith}
 use lib.Dec.{eqb}
-use lib.ListN.{length, getD, drop, replicate, drop-of-length-le}
+use lib.ListN.{length, getD, take, drop, replicate, drop-of-length-le}
 use lib.Seq.{drop-cons}
 use Rattle.laws.specs.Run.{run}
 use Rattle.laws.specs.Choice.{pick}
@@ -71,6 +71,15 @@ blanksBefore-most (b ∷ l) = most (eqb b 32) (blanksBefore-most l)
     most : (t : Bool) → blanksBefore l ≤ length l → pick t (suc (blanksBefore l)) 0 ≤ suc (length l)
     most true h = omega arith
     most false h = omega arith
+
+pub blanksBefore-blank : (l : List ℕ) → Blanks (take (blanksBefore l) l)
+unfolding blanksBefore
+blanksBefore-blank [] = none
+blanksBefore-blank (b ∷ l) = front (eqb b 32) refl (blanksBefore-blank l)
+  where
+    front : (t : Bool) → eqb b 32 ≡ t → Blanks (take (blanksBefore l) l) → Blanks (take (pick t (suc (blanksBefore l)) 0) (b ∷ l))
+    front true e r = blank-first b _ (eqb-true b 32 e) r
+    front false e r = none
 
 -- a reader that a blank leaves at its start may begin past the blanks
 module _ {S : Type 0} (f : S → ℕ → S) (s : S) (h : f s 32 ≡ s) where
