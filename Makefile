@@ -38,7 +38,7 @@ target/uff: $(COMMAND_NEEDS)
 # The archive as it is: its code may stand anywhere, and a relocation that would change that code is an error.
 $(SHARED): $(ARCHIVE) uff.map
 	$(CC) -shared -Wl,-soname,libuff.so.1 -Wl,--version-script=uff.map -Wl,-z,text,-z,defs,-z,relro,-z,now \
-		-o $@ -Wl,--whole-archive $(ARCHIVE) -Wl,--no-whole-archive $(LDFLAGS)
+		-o $@ -Wl,--whole-archive $(ARCHIVE) -Wl,--no-whole-archive $(filter-out -static,$(LDFLAGS))
 
 CANARIES = $(wildcard tests/host/canaries/*.c)
 
@@ -50,8 +50,8 @@ target/uff-strict: $(COMMAND_NEEDS)
 	$(CC) $(STRICT) $(CFLAGS) $(CPPFLAGS) -Iinclude -o $@ $(COMMAND) $(ARCHIVE) $(LDFLAGS)
 
 check: all target/uff-strict target/canaries $(DIST)
-	$(CC) -std=c99 -pedantic -Wall -Wextra -Werror -fsyntax-only -x c include/uff.h -x none
-	$(if $(FOUND_CXX),$(CXX) -std=c++11 -Wall -Wextra -Werror -fsyntax-only -x c++ include/uff.h -x none,@echo 'no C++ compiler: the header was not tried with one')
+	echo '#include <uff.h>' | $(CC) -std=c99 -pedantic -Wall -Wextra -Werror -Iinclude -fsyntax-only -x c -
+	$(if $(FOUND_CXX),echo '#include <uff.h>' | $(CXX) -std=c++11 -pedantic -Wall -Wextra -Werror -Iinclude -fsyntax-only -x c++ -,@echo 'no C++ compiler: the header was not tried with one')
 	target/canaries samples/bearing.uff
 	$(if $(VALGRIND),$(VALGRIND) -q --error-exitcode=1 --leak-check=full target/canaries samples/bearing.uff,@echo 'no valgrind: canaries were run without it')
 	bash tests/host/command target/uff
