@@ -96,7 +96,7 @@ target/uff-static: $(COMMAND_NEEDS)
 $(DIST): target/uff-static $(SHARED) uff.pc.in cmd/uff.1 docs/FORMAT.md samples/host.c $(wildcard cmd/completion/*)
 	rm -rf target/dist
 	umask 022 && $(MAKE) --no-print-directory install INSTALLED=target/uff-static DESTDIR=target/dist PREFIX=/$(PACKED) LIBDIR=/$(PACKED)/lib STANDS='$$$${pcfiledir}/../..'
-	tar -C target/dist --sort=name --owner=0 --group=0 --numeric-owner --mtime=@$(SOURCE_DATE_EPOCH) -cf - $(PACKED) | gzip -9n >$@.new
+	tar -C target/dist --sort=name --owner=0 --group=0 --numeric-owner --mtime=@$(SOURCE_DATE_EPOCH) -I 'gzip -9n' -cf '$(CURDIR)/$@.new' $(PACKED)
 	mv $@.new $@
 
 # The speeds of the calls beside plain Rust, C's strtod and, where there is gfortran, its formatted READ; with BEFORE=ARCHIVE also beside
