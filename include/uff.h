@@ -1,6 +1,7 @@
 /*
- * Universal Files for C and C++: a judge, a lister, a reader, a writer, a rewriter, and a judge of
- * files that are still arriving. Every call is proved for all inputs; no call has a precondition
+ * Universal Files for C99 and C++11, or later: a judge, a lister, a reader, a writer, a rewriter, and a
+ * judge of files that are still arriving. What a file must look like is in docs/FORMAT.md, which is
+ * installed as share/doc/uff/FORMAT.md. Every call is proved for all inputs; no call has a precondition
  * but those of C itself:
  *
  * - A slice is a pointer and a count of elements, and lies in memory that the caller may use. A null
@@ -10,6 +11,13 @@
  * A refusal leaves every lent buffer untouched. A buffer longer than the answer keeps the rest. (The
  * record of the streaming calls is told apart below.) No call allocates, keeps a pointer or has state
  * of its own; calls on separate buffers may run at the same time.
+ *
+ * 16 KB of stack are enough for every call, measured by the archive's instructions for any input, and
+ * by running (tests/host/stack).
+ *
+ * A call takes time in proportion to the bytes that it is given. Each question judges the whole file
+ * again before it answers, uff_number and uff_value for one number too: ask for all values of a set at
+ * once, and read many sets by their rows ("A set alone", below).
  *
  * Lines, sets and columns are counted from 1; bytes, stored numbers and values from 0.
  */
