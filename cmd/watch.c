@@ -16,31 +16,20 @@
 #define LOOK 250
 #define NEWS 1000
 
-/* The option -t: the milliseconds without a byte after which a file has ended. */
-static int64_t quiet_time = 10000;
-
-/* The option -w: a file that is not there yet is waited for. */
-static bool is_awaited;
-
-bool take_quiet_time(const char *word)
+bool parse_seconds(const char *word, int64_t *milliseconds)
 {
     char *end;
     double seconds = strtod(word, &end);
     if (*word == '\0' || *end != '\0' || word[strspn(word, "0123456789.")] != '\0' || seconds > UINT32_MAX)
         return false;
-    quiet_time = (int64_t)(seconds * 1000 + 0.5);
+    *milliseconds = (int64_t)(seconds * 1000 + 0.5);
     return true;
 }
 
-bool take_awaited(const char *word)
-{
-    (void)word;
-    is_awaited = true;
-    return true;
-}
-
-/* A capture that is watched: the replies so far, and what was shown of them. */
+/* A capture that is watched: the options, its name, the replies so far, and what was shown of them. */
 struct watch {
+    const struct choices *o;
+    const char *name;
     struct uff_stream record;
     size_t total;
     uint64_t lines;
@@ -52,9 +41,11 @@ struct watch {
 
 static uint8_t burst[BURST];
 
-static void start(struct watch *w)
+static void start(struct watch *w, const struct choices *o, const char *name)
 {
     memset(w, 0, sizeof *w);
+    w->o = o;
+    w->name = name;
     uff_stream_start(&w->record);
     w->reply = w->shown = uff_stream_burst(&w->record, NULL, 0);
     w->next = now() + NEWS;
@@ -77,7 +68,11 @@ static size_t room_left(const struct watch *w)
 
 static void show(struct watch *w)
 {
-    print_reply(stdout, w->reply, w->lines + (w->open ? 1 : 0));
+    struct verdict v = verdict_on(w->reply, w->total, w->lines + (w->open ? 1 : 0));
+    if (w->o->is_json)
+        print_json_verdict(stdout, w->name, &v);
+    else
+        print_words(stdout, &v);
     flush_output();
     w->shown = w->reply;
     w->next = now() + NEWS;
@@ -222,10 +217,10 @@ static enum found look_at_name(struct followed *f)
 }
 
 /* Judges the file once more from its start, as it stands. */
-static bool judge_again(struct watch *again, int fd)
+static bool judge_again(struct watch *again, const struct watch *w, int fd)
 {
     ssize_t n;
-    start(again);
+    start(again, w->o, w->name);
     while (room_left(again) > 0) {
         n = pread(fd, burst, room_left(again), (off_t)again->total);
         if (n <= 0)
@@ -242,7 +237,7 @@ static bool judge_again(struct watch *again, int fd)
 static enum found look_at_end(const struct followed *f, struct watch *w)
 {
     static struct watch again;
-    if (!judge_again(&again, f->fd))
+    if (!judge_again(&again, w, f->fd))
         return FAILED;
     if (again.total != w->total)
         return again.total > w->total ? MORE : SHORTER;
@@ -266,9 +261,12 @@ static enum found look(struct followed *f, struct watch *w, bool is_quiet)
 /* Says what became of a file, and watches it from its start. */
 static bool start_again(struct watch *w, int fd, const char *what)
 {
-    printf("from the start: %s\n", what);
+    if (w->o->is_json)
+        print_json_note(stdout, w->name, "from the start", what);
+    else
+        printf("from the start: %s\n", what);
     flush_output();
-    start(w);
+    start(w, w->o, w->name);
     return lseek(fd, 0, SEEK_SET) == 0;
 }
 
@@ -286,7 +284,7 @@ static bool follow(struct watch *w, struct followed *f)
             return true;
         if (was_written(f) || w->total > before)
             last = now();
-        found = look(f, w, now() - last >= quiet_time);
+        found = look(f, w, now() - last >= w->o->quiet_time);
         if (found == ENDED || found == FAILED)
             return found == ENDED;
         if (found != NOTHING) {
@@ -297,7 +295,7 @@ static bool follow(struct watch *w, struct followed *f)
         }
         if (w->reply != w->shown && now() >= w->next)
             show(w);
-        due = last + quiet_time;
+        due = last + w->o->quiet_time;
         wait_for_notice(f->notice, w->reply != w->shown && w->next < due ? w->next : due);
     }
 }
@@ -310,17 +308,17 @@ static bool is_input(const char *name)
 }
 
 /* Whether it is followed past its present end: a regular file that has a name of its own. */
-static bool is_followed(const char *name, const struct stat *s)
+static bool is_followed(const struct watch *w, const struct stat *s)
 {
-    return quiet_time > 0 && S_ISREG(s->st_mode) && !is_input(name);
+    return w->o->quiet_time > 0 && S_ISREG(s->st_mode) && !is_input(w->name);
 }
 
 /* Opens what is watched, and with -w waits until it is there. */
-static int open_watched(const char *name)
+static int open_watched(const struct choices *o, const char *name)
 {
     bool told = false;
     int fd;
-    while ((fd = open_input(name)) < 0 && errno == ENOENT && is_awaited && *name != '\0') {
+    while ((fd = open_input(name)) < 0 && errno == ENOENT && o->is_awaited && *name != '\0') {
         if (!told)
             tell(name, "not there yet", 0);
         told = true;
@@ -330,26 +328,26 @@ static int open_watched(const char *name)
 }
 
 /* Takes in all that comes from what was opened, which stays open until the command ends. */
-static bool take_all(struct watch *w, const char *name, int fd)
+static bool take_all(struct watch *w, int fd)
 {
-    struct followed f = {.name = name};
+    struct followed f = {.name = w->name};
     struct stat s;
     if (fstat(fd, &s) != 0)
         return false;
-    if (!is_followed(name, &s))
+    if (!is_followed(w, &s))
         return take_in(w, fd);
     attach(&f, fd, &s);
     return follow(w, &f);
 }
 
-int run_watch(int count, char **words)
+int run_watch(const struct choices *o, int count, char **words)
 {
     static struct watch w;
-    int fd = open_watched(words[0]);
+    int fd = open_watched(o, words[0]);
     (void)count;
     if (fd >= 0)
-        start(&w);
-    if (fd < 0 || !take_all(&w, words[0], fd))
+        start(&w, o, words[0]);
+    if (fd < 0 || !take_all(&w, fd))
         return trouble(shown_name(words[0]), strerror(errno));
     w.reply = uff_stream_end(&w.record);
     if (w.reply != w.shown)
