@@ -1,17 +1,15 @@
 /* The shortest digits that read back as the same double. */
 #include "command.h"
 
-#include <stdlib.h>
 #include <string.h>
 
-/* The most digits that a double needs, those that every double keeps, and the largest power of ten that is a double. */
-#define DIGITS 17
+/* The digits that every double keeps, and the largest power of ten that is a double. */
 #define KEPT 15
 #define POWERS 22
 
 /* Digits that mean d.ddd times ten to the exponent. */
 struct digits {
-    char text[DIGITS + 1];
+    char text[24];
     int count;
     int exponent;
 };
@@ -27,17 +25,23 @@ static int estimate_exponent(double x)
     return (((int)(bits >> 52) - 1023) * 1233 + 4096 * 400) / 4096 - 400;
 }
 
-static void drop_zeros(struct digits *d)
-{
-    while (d->count > 1 && d->text[d->count - 1] == '0')
-        d->count--;
-}
-
+/* The digits of n times ten to the scale, without zeros at their end. */
 static void set_digits(struct digits *d, uint64_t n, int scale)
 {
-    d->count = snprintf(d->text, sizeof d->text, "%llu", (unsigned long long)n);
+    int at = (int)sizeof d->text;
+    for (; n % 10 == 0; n /= 10)
+        scale++;
+    for (; n > 0; n /= 10)
+        d->text[--at] = (char)('0' + n % 10);
+    d->count = (int)sizeof d->text - at;
+    memmove(d->text, d->text + at, (size_t)d->count);
     d->exponent = d->count - 1 + scale;
-    drop_zeros(d);
+}
+
+/* x divided by ten to the scale, with one rounding. */
+static double unscale(double x, int scale)
+{
+    return scale < 0 ? x * powers[-scale] : x / powers[scale];
 }
 
 /*
@@ -45,86 +49,48 @@ static void set_digits(struct digits *d, uint64_t n, int scale)
  * for one rounding, so it holds just where the digits read back as x; and then no fewer do, since different numbers of
  * up to 15 digits are different doubles.
  */
-static bool find_few(struct digits *d, double x)
+static bool find_digits(struct digits *d, double x)
 {
     int scale = estimate_exponent(x) - (KEPT - 1);
     uint64_t n;
-    for (;; scale++) {
-        double scaled;
-        if (scale < -POWERS || scale > POWERS)
-            return false;
-        scaled = scale < 0 ? x * powers[-scale] : x / powers[scale];
-        if (scaled < powers[KEPT] - 1) {
-            n = (uint64_t)(scaled + 0.5);
-            break;
-        }
-    }
-    if ((scale < 0 ? (double)n / powers[-scale] : (double)n * powers[scale]) != x)
+    if (scale < -POWERS)
+        scale = -POWERS;
+    if (scale <= POWERS && unscale(x, scale) > powers[KEPT] - 1)
+        scale++;
+    if (scale > POWERS)
+        return false;
+    n = (uint64_t)(unscale(x, scale) + 0.5);
+    if (n == 0 || (scale < 0 ? (double)n / powers[-scale] : (double)n * powers[scale]) != x)
         return false;
     set_digits(d, n, scale);
     return true;
 }
 
-static double read_back(const struct digits *d)
-{
-    char text[DOUBLE_ROOM];
-    snprintf(text, sizeof text, "%c.%.*se%d", d->text[0], d->count - 1, d->text + 1, d->exponent);
-    return strtod(text, NULL);
-}
-
-/* One more in the last place, where that is not a nine. */
-static void step_up(struct digits *d)
-{
-    if (d->text[d->count - 1] != '9')
-        d->text[d->count - 1]++;
-}
-
-/*
- * Finds digits by the C library, as many as are needed. Above a power of two doubles lie twice as far apart as below it,
- * so that the next number of 16 digits may read back where the nearest does not.
- */
-static void find_all(struct digits *d, double x)
-{
-    for (int count = KEPT;; count++) {
-        char text[DOUBLE_ROOM];
-        snprintf(text, sizeof text, "%.*e", count - 1, x);
-        d->text[0] = text[0];
-        memcpy(d->text + 1, text + 2, (size_t)count - 1);
-        d->count = count;
-        d->exponent = atoi(strchr(text, 'e') + 1);
-        if (count == DIGITS || read_back(d) == x)
-            break;
-        step_up(d);
-        if (read_back(d) == x)
-            break;
-    }
-    drop_zeros(d);
-}
-
 /* Lays the digits out as %.17g does. */
 static int lay_out(char *to, const struct digits *d)
 {
+    static const char zeros[] = "0000000000000000";
     int whole = d->exponent + 1;
-    if (d->exponent < -4 || d->exponent >= DIGITS)
+    if (whole < -3 || whole > 17)
         return sprintf(to, "%c%s%.*se%+03d", d->text[0], d->count > 1 ? "." : "", d->count - 1, d->text + 1, d->exponent);
     if (whole <= 0)
-        return sprintf(to, "0.%.*s%.*s", -whole, "0000", d->count, d->text);
+        return sprintf(to, "0.%.*s%.*s", -whole, zeros, d->count, d->text);
     if (whole >= d->count)
-        return sprintf(to, "%.*s%.*s", d->count, d->text, whole - d->count, "0000000000000000");
+        return sprintf(to, "%.*s%.*s", d->count, d->text, whole - d->count, zeros);
     return sprintf(to, "%.*s.%.*s", whole, d->text, d->count - whole, d->text + whole);
 }
 
+/* A field of a 58 has room for 15 digits, so that no value needs the last line's 17. */
 int spell_double(char *to, double x)
 {
-    struct digits d = {"0", 1, 0};
+    struct digits d;
     uint64_t bits;
-    int sign;
     memcpy(&bits, &x, sizeof bits);
-    sign = (int)(bits >> 63);
-    if (sign)
+    if (x == 0)
+        return sprintf(to, "%s", bits >> 63 ? "-0" : "0");
+    if (!find_digits(&d, x < 0 ? -x : x))
+        return sprintf(to, "%.17g", x);
+    if (x < 0)
         *to++ = '-';
-    x = sign ? -x : x;
-    if (x > 0 && !find_few(&d, x))
-        find_all(&d, x);
-    return sign + lay_out(to, &d);
+    return (x < 0) + lay_out(to, &d);
 }

@@ -129,7 +129,7 @@ static const char *nearest(const char *word)
     for (size_t i = 0; i <= COMMANDS; i++) {
         const char *name = i < COMMANDS ? commands[i].name : "help";
         size_t far = strncmp(word, name, strlen(word)) == 0 ? 0 : distance(word, name);
-        if (far < best && far < strlen(word)) {
+        if (far < best && far * 2 <= strlen(name)) {
             best = far;
             found = name;
         }
