@@ -64,19 +64,24 @@ TIMED = target/bench$(if $(BEFORE),-before)
 target/libbefore.a: $(BEFORE) FORCE
 	objcopy $$(nm -g --defined-only $(BEFORE) | sed -n 's/.* T \(uff_[a-z_]*\)$$/--redefine-sym \1=before_\1/p') $(BEFORE) $@
 
-$(TIMED): $(BENCH) $(ARCHIVE) $(if $(BEFORE),target/libbefore.a)
+# All values of all sets of a file, beside a plain reader in C; with BEFORE_UFF=COMMAND set by set by that command.
+target/bench-values: bench/values.c bench/plain.c bench/plain.h include/uff.h $(ARCHIVE)
+	$(CC) $(WARN) -O2 -Iinclude -o $@ bench/values.c bench/plain.c $(ARCHIVE)
+
+$(TIMED): $(BENCH) $(ARCHIVE) target/bench-values $(if $(BEFORE),target/libbefore.a)
 	$(CC) $(WARN) -O2 -c -o target/strtod.o bench/strtod.c
 	$(if $(GFORTRAN),$(GFORTRAN) -std=f2018 -Wall -Wextra -Werror -O2 -c -o target/read.o bench/read.f90)
 	rustc --edition 2021 -O -D warnings -L target/staticlib -l static=host -C link-arg=target/strtod.o \
 		$(if $(BEFORE),--cfg before -L target -l static=before) \
 		$(if $(GFORTRAN),--cfg fortran -C link-arg=target/read.o -C link-arg=$(shell $(GFORTRAN) -print-file-name=libgfortran.so)) -o $@ bench/bench.rs
 
-bench: $(TIMED)
+bench: $(TIMED) target/uff
 	$(TIMED)
+	target/bench-values target/uff $(BEFORE_UFF)
 
 # The archive stays: its proofs take long, and `rt` made it.
 clean:
-	rm -f target/uff target/canaries target/bench target/bench-before target/libbefore.a target/strtod.o target/read.o
+	rm -f target/uff target/canaries target/bench target/bench-before target/bench-values target/libbefore.a target/strtod.o target/read.o
 
 FORCE:
 

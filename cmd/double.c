@@ -66,18 +66,30 @@ static bool find_digits(struct digits *d, double x)
     return true;
 }
 
+static char *put(char *to, const char *from, int count)
+{
+    memcpy(to, from, (size_t)count);
+    return to + count;
+}
+
 /* Lays the digits out as %.17g does. */
 static int lay_out(char *to, const struct digits *d)
 {
     static const char zeros[] = "0000000000000000";
     int whole = d->exponent + 1;
+    char *at = to;
     if (whole < -3 || whole > 17)
         return sprintf(to, "%c%s%.*se%+03d", d->text[0], d->count > 1 ? "." : "", d->count - 1, d->text + 1, d->exponent);
-    if (whole <= 0)
-        return sprintf(to, "0.%.*s%.*s", -whole, zeros, d->count, d->text);
-    if (whole >= d->count)
-        return sprintf(to, "%.*s%.*s", d->count, d->text, whole - d->count, zeros);
-    return sprintf(to, "%.*s.%.*s", whole, d->text, d->count - whole, d->text + whole);
+    if (whole <= 0) {
+        at = put(put(at, "0.", 2), zeros, -whole);
+        at = put(at, d->text, d->count);
+    } else if (whole >= d->count)
+        at = put(put(at, d->text, d->count), zeros, whole - d->count);
+    else {
+        at = put(put(at, d->text, whole), ".", 1);
+        at = put(at, d->text + whole, d->count - whole);
+    }
+    return (int)(at - to);
 }
 
 /* A field of a 58 has room for 15 digits, so that no value needs the last line's 17. */

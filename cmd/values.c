@@ -6,12 +6,13 @@
 /* What a value is made of, by the kind that the reader answers. */
 static const char *const kinds[] = {"", "real", "real imaginary", "abscissa real", "abscissa real imaginary"};
 
-/* The kind of a set whose values were read. */
-static const char *kind_of(const struct text *own)
+/* The kind of a set whose values, of so many numbers each, were read. Only of two numbers is it asked: which they are. */
+static const char *kind_of(const struct text *own, uint32_t width)
 {
     uint8_t value[UFF_VALUE_BYTES];
-    uint32_t kind = UFF_PLACE(uff_value(own->bytes, own->count, 1, 0, value, sizeof value));
-    return kinds[kind < sizeof kinds / sizeof *kinds ? kind : 0];
+    if (width != 2)
+        return kinds[width == 1 ? 1 : 4];
+    return kinds[UFF_PLACE(uff_value(own->bytes, own->count, 1, 0, value, sizeof value)) == 2 ? 2 : 3];
 }
 
 /* Prints the values one a line. How many numbers a value has is found by division. */
@@ -66,7 +67,7 @@ static int show_set(const struct shown *s, uint32_t set)
         return refuse_set(s, set, &v);
     values = row_of(set)[2];
     if (s->is_headed)
-        printf("# set %u: %u value%s, %s\n", set, values, plural(values), kind_of(&own));
+        printf("# set %u: %u value%s, %s\n", set, values, plural(values), kind_of(&own, UFF_PLACE(v.reply) / values));
     print_values(numbers, UFF_PLACE(v.reply), values);
     return ACCEPTED;
 }
@@ -104,7 +105,7 @@ static int show_some(const struct shown *s, int count, char **words)
 
 int run_values(const struct choices *o, int count, char **words)
 {
-    struct shown s = {o, words[0], {NULL, 0, 0}, 0, count != 2 ? !o->is_bare : o->is_named, count == 2};
+    struct shown s = {o, words[0], {NULL, 0, 0}, 0, !o->is_bare && (count != 2 || o->is_named), count == 2};
     struct verdict v;
     int status;
     for (int i = 1; i < count; i++) {
