@@ -54,13 +54,14 @@ static const struct command commands[] = {
      "of - is standard output.\n"
      "  -v  show the line of a refusal with a caret under the column, as on a terminal\n",
      "v", 2, 2, run_rewrite},
-    {"watch", "[-jw] [-t SECONDS] FILE", "judge FILE while it arrives",
+    {"watch", "[-jvw] [-t SECONDS] FILE", "judge FILE while it arrives",
      "Prints the finished lines so far once a second at most, a refusal at once, and the verdict at the end.\n"
      "  -j           a JSON object a line: file, number, line, column, text\n"
      "  -t SECONDS   a file has ended when nothing has come for so long, 10 if not given; with 0 its present end is\n"
      "               its end. A pipe and standard input end at their end, whatever SECONDS are.\n"
+     "  -v           show the line of a refusal with a caret under the column, as on a terminal\n"
      "  -w           wait for a file that is not there yet\n",
-     "jt:w", 1, 1, run_watch},
+     "jt:vw", 1, 1, run_watch},
 };
 
 #define COMMANDS (sizeof commands / sizeof *commands)
@@ -70,15 +71,15 @@ static const struct command commands[] = {
 static void print_synopsis(FILE *to, const char *before, const struct command *c)
 {
     int width = fprintf(to, "%s uff %s %s", before, c->name, c->words);
-    fprintf(to, "%*s%s\n", width < 42 ? 42 - width : 1, "", c->summary);
+    fprintf(to, "%*s%s\n", width < 43 ? 43 - width : 1, "", c->summary);
 }
 
 static void print_usage(FILE *to)
 {
     for (size_t i = 0; i < COMMANDS; i++)
         print_synopsis(to, i == 0 ? "usage:" : "      ", &commands[i]);
-    fputs("       uff help [COMMAND] | --help | -h   show this, or what a command does and its options\n"
-          "       uff version | --version | -V       show the version\n"
+    fputs("       uff help [COMMAND] | --help | -h    show this, or what a command does and its options\n"
+          "       uff version | --version | -V        show the version\n"
           "'uff COMMAND -h' is 'uff help COMMAND'. Options may stand after other words too; after -- no word is one.\n"
           "A FILE of - is standard input, an OUT of - standard output.\n"
           "Exit status: 0 accepted, 1 refused (the file, or what was asked of it),\n"

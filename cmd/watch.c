@@ -16,6 +16,9 @@
 #define LOOK 250
 #define NEWS 1000
 
+/* The most bytes of an open line that are kept until its end comes, to show it if it is refused. */
+#define KEPT 4096
+
 bool parse_seconds(const char *word, int64_t *milliseconds)
 {
     char *end;
@@ -26,7 +29,10 @@ bool parse_seconds(const char *word, int64_t *milliseconds)
     return true;
 }
 
-/* A capture that is watched: the options, its name, the replies so far, and what was shown of them. */
+/*
+ * A capture that is watched: the options, its name, the replies so far, and what was shown of them; the bytes at hand, how
+ * many lines ended before them, and whether their first line lacks its start.
+ */
 struct watch {
     const struct choices *o;
     const char *name;
@@ -37,33 +43,72 @@ struct watch {
     uint64_t reply;
     uint64_t shown;
     int64_t next;
+    struct text held;
+    uint64_t before;
+    bool is_headless;
 };
 
-static uint8_t burst[BURST];
+/* What is read, and before it the open line. */
+static uint8_t taken[KEPT + BURST];
+static uint8_t *const burst = taken + KEPT;
 
 static void start(struct watch *w, const struct choices *o, const char *name)
 {
     memset(w, 0, sizeof *w);
     w->o = o;
     w->name = name;
+    w->held.bytes = burst;
     uff_stream_start(&w->record);
     w->reply = w->shown = uff_stream_burst(&w->record, NULL, 0);
     w->next = now() + NEWS;
 }
 
-/* Takes in what stands in the burst. */
+/* Takes in what stands in the burst, after what is kept of the open line. */
 static void take(struct watch *w, size_t count)
 {
+    w->held.count += count;
     w->reply = uff_stream_burst(&w->record, burst, count);
     w->total += count;
     w->lines += count_lines(burst, count, false);
     w->open = burst[count - 1] != '\n';
 }
 
+/* Keeps of the bytes at hand the open line, before the next burst. */
+static void keep_open(struct watch *w)
+{
+    const uint8_t *past = w->held.bytes + w->held.count, *at = past;
+    size_t count;
+    while (at > w->held.bytes && at[-1] != '\n')
+        at--;
+    count = (size_t)(past - at);
+    w->is_headless = (w->is_headless && at == w->held.bytes) || count > KEPT;
+    if (w->is_headless)
+        count = 0;
+    memmove(burst - count, at, count);
+    w->held = (struct text){burst - count, count, 0};
+    w->before = w->lines;
+}
+
+/* Where other bytes were read in between, none are at hand. */
+static void forget(struct watch *w)
+{
+    w->held = (struct text){burst, 0, 0};
+    w->before = w->lines;
+    w->is_headless = w->open;
+}
+
 /* How much of the burst may be filled: once it is too long whatever follows, nothing is. */
 static size_t room_left(const struct watch *w)
 {
     return MOST - w->total < BURST ? MOST - w->total : BURST;
+}
+
+/* Shows the line of a refusal, where it is at hand. */
+static void show_line(const struct watch *w)
+{
+    uint32_t line = UFF_PLACE(w->reply);
+    if (line > w->before + (w->is_headless ? 1 : 0))
+        print_shown(stdout, w->reply - w->before, &w->held);
 }
 
 static void show(struct watch *w)
@@ -73,6 +118,8 @@ static void show(struct watch *w)
         print_json_verdict(stdout, w->name, &v);
     else
         print_words(stdout, &v);
+    if (w->o->is_shown)
+        show_line(w);
     flush_output();
     w->shown = w->reply;
     w->next = now() + NEWS;
@@ -95,6 +142,7 @@ static bool take_in(struct watch *w, int fd)
 {
     ssize_t n;
     while (room_left(w) > 0) {
+        keep_open(w);
         n = read_some(fd, burst, room_left(w));
         if (n <= 0)
             return n == 0;
@@ -222,6 +270,7 @@ static bool judge_again(struct watch *again, const struct watch *w, int fd)
     ssize_t n;
     start(again, w->o, w->name);
     while (room_left(again) > 0) {
+        keep_open(again);
         n = pread(fd, burst, room_left(again), (off_t)again->total);
         if (n <= 0)
             return n == 0;
@@ -237,6 +286,7 @@ static bool judge_again(struct watch *again, const struct watch *w, int fd)
 static enum found look_at_end(const struct followed *f, struct watch *w)
 {
     static struct watch again;
+    forget(w);
     if (!judge_again(&again, w, f->fd))
         return FAILED;
     if (again.total != w->total)
@@ -343,10 +393,13 @@ static bool take_all(struct watch *w, int fd)
 int run_watch(const struct choices *o, int count, char **words)
 {
     static struct watch w;
+    static struct choices mine;
     int fd = open_watched(o, words[0]);
     (void)count;
+    mine = *o;
+    mine.is_shown = !o->is_json && is_line_shown(stdout, o, true);
     if (fd >= 0)
-        start(&w, o, words[0]);
+        start(&w, &mine, words[0]);
     if (fd < 0 || !take_all(&w, fd))
         return trouble(shown_name(words[0]), strerror(errno));
     w.reply = uff_stream_end(&w.record);

@@ -10,7 +10,7 @@ _uff_options() {
         list) echo -j -v -h ;;
         number | rewrite) echo -v -h ;;
         values) echo -H -n -v -h ;;
-        watch) echo -j -t -w -h ;;
+        watch) echo -j -t -v -w -h ;;
     esac
 }
 
