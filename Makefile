@@ -38,10 +38,10 @@ check: target/uff target/canaries
 	target/canaries samples/bearing.uff
 	$(if $(VALGRIND),$(VALGRIND) -q --error-exitcode=1 --leak-check=full target/canaries samples/bearing.uff,@echo 'no valgrind: canaries were run without it')
 	bash tests/host/command target/uff
-	bash tests/host/many target/uff
-	bash tests/host/words target/uff
 	bash tests/host/watch target/uff
 	bash tests/host/faults target/uff
+	bash tests/host/many target/uff
+	bash tests/host/words target/uff
 	bash tests/host/install
 	bash tests/host/powers $(ARCHIVE)
 
