@@ -262,6 +262,7 @@ static int sort_words(const struct command *c, struct choices *o, int count, cha
 static int run_command(const struct command *c, int count, char **words)
 {
     struct choices o = {.quiet_time = 10000};
+    set_command(c->name);
     count = sort_words(c, &o, count, words);
     if (count < 0)
         return TROUBLE;
