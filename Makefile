@@ -57,6 +57,8 @@ check: all target/uff-strict target/canaries $(DIST)
 	bash tests/host/command target/uff
 	bash tests/host/watch target/uff
 	bash tests/host/faults target/uff
+	bash tests/host/many target/uff
+	bash tests/host/words target/uff
 	bash tests/host/install
 	bash tests/host/dist $(DIST)
 	bash tests/host/stack $(ARCHIVE) $(SHARED)
@@ -109,20 +111,25 @@ TIMED = target/bench$(if $(BEFORE),-before)
 target/libbefore.a: $(BEFORE) FORCE
 	objcopy $$(nm -g --defined-only $(BEFORE) | sed -n 's/.* T \(uff_[a-z_]*\)$$/--redefine-sym \1=before_\1/p') $(BEFORE) $@
 
-$(TIMED): $(BENCH) $(ARCHIVE) $(if $(BEFORE),target/libbefore.a)
+# All values of all sets of a file, beside a plain reader in C; with BEFORE_UFF=COMMAND set by set by that command.
+target/bench-values: bench/values.c bench/plain.c bench/plain.h include/uff.h $(ARCHIVE)
+	$(CC) $(WARN) -O2 -Iinclude -o $@ bench/values.c bench/plain.c $(ARCHIVE)
+
+$(TIMED): $(BENCH) $(ARCHIVE) target/bench-values $(if $(BEFORE),target/libbefore.a)
 	$(CC) $(WARN) -O2 -c -o target/strtod.o bench/strtod.c
 	$(if $(GFORTRAN),$(GFORTRAN) -std=f2018 -Wall -Wextra -O2 -c -o target/read.o bench/read.f90)
 	rustc --edition 2021 -O -D warnings -L target/staticlib -l static=host -C link-arg=target/strtod.o \
 		$(if $(BEFORE),--cfg before -L target -l static=before) \
 		$(if $(GFORTRAN),--cfg fortran -C link-arg=target/read.o -C link-arg=$(shell $(GFORTRAN) -print-file-name=libgfortran.so)) -o $@ bench/bench.rs
 
-bench: $(TIMED)
+bench: $(TIMED) target/uff
 	$(TIMED)
+	target/bench-values target/uff $(BEFORE_UFF)
 
 # The archive stays: its proofs take long, and `rt` made it.
 clean:
 	rm -f target/uff target/uff-strict target/uff-static $(SHARED) $(DIST) target/canaries
-	rm -f target/bench target/bench-before target/libbefore.a target/strtod.o target/read.o
+	rm -f target/bench target/bench-before target/bench-values target/libbefore.a target/strtod.o target/read.o
 	rm -rf target/dist
 
 FORCE:

@@ -90,5 +90,30 @@ bool read_file(const char *name, struct text *t)
     free(t->bytes);
     *t = (struct text){NULL, 0, 0};
     trouble(shown_name(name), strerror(error));
+    errno = error;
     return false;
+}
+
+bool parse_number(const char *word, uint32_t *out)
+{
+    uint64_t n = 0;
+    if (*word == '\0')
+        return false;
+    for (; *word != '\0'; word++) {
+        if (*word < '0' || *word > '9')
+            return false;
+        n = n * 10 + (uint64_t)(*word - '0');
+        if (n > UINT32_MAX)
+            return false;
+    }
+    *out = (uint32_t)n;
+    return true;
+}
+
+uint64_t number_in(const uint8_t *bytes, int count)
+{
+    uint64_t n = 0;
+    while (count-- > 0)
+        n = n << 8 | bytes[count];
+    return n;
 }

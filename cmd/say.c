@@ -1,4 +1,4 @@
-/* What the command prints: names, progress, trouble, replies. */
+/* What the command prints of names, files and words typed. */
 #include "command.h"
 
 #include <errno.h>
@@ -14,12 +14,12 @@ int64_t now(void)
     return (int64_t)t.tv_sec * 1000 + t.tv_nsec / 1000000;
 }
 
-/* Room for a line: the longest name that opens, each byte of it shown by four, and a reply. */
-#define LINE (4 * 4096 + 512)
+/* Room for a file's report: the longest name that opens, each byte of it shown by up to six, a reply and the line it names. */
+#define REPORT (6 * 4096 + 1024)
 
 void prepare_outputs(void)
 {
-    static char output[LINE], errors[LINE];
+    static char output[REPORT], errors[REPORT];
     setvbuf(stdout, output, _IOFBF, sizeof output);
     setvbuf(stderr, errors, _IOLBF, sizeof errors);
 }
@@ -50,11 +50,11 @@ void start_progress(void)
     progress.on = isatty(STDERR_FILENO);
 }
 
-void show_progress(int done, int all)
+void show_progress(size_t done, size_t all)
 {
     if (!progress.on || now() < progress.next)
         return;
-    fprintf(stderr, "\r%d of %d files", done, all);
+    fprintf(stderr, "\r%zu of %zu files", done, all);
     fflush(stderr);
     progress.shown = true;
     progress.next = now() + 100;
@@ -84,42 +84,25 @@ int trouble(const char *name, const char *what)
     return TROUBLE;
 }
 
+/* The command that was typed, if it is one. */
+static const char *command = "";
+
+void set_command(const char *name)
+{
+    command = name;
+}
+
 int misused(const char *what, const char *word)
 {
     fprintf(stderr, "uff: %s%s", what, *word ? ": " : "");
     print_name(stderr, word);
-    fputs("\nTry 'uff help'.\n", stderr);
+    fprintf(stderr, "\nTry 'uff help%s%s'.\n", *command ? " " : "", command);
     return TROUBLE;
 }
 
-uint64_t count_lines(const uint8_t *bytes, size_t count, bool open)
+const char *plural(uint64_t count)
 {
-    uint64_t lines = 0;
-    const uint8_t *at = bytes, *past = bytes + count;
-    while (at < past) {
-        const uint8_t *end = memchr(at, '\n', (size_t)(past - at));
-        if (end == NULL)
-            return lines + (open ? 1 : 0);
-        lines++;
-        at = end + 1;
-    }
-    return lines;
-}
-
-void print_reply(FILE *to, uint64_t reply, uint64_t lines)
-{
-    unsigned number = UFF_NUMBER(reply);
-    uint32_t place = UFF_PLACE(reply);
-    if (number == UFF_ACCEPTED)
-        fprintf(to, "accepted %u\n", place);
-    else if (number == UFF_SO_FAR)
-        fprintf(to, "so far %u\n", place);
-    else {
-        fprintf(to, "refused %u at line %u: ", number, place);
-        if (UFF_COLUMN(reply) != 0)
-            fprintf(to, "column %u: ", UFF_COLUMN(reply));
-        fprintf(to, "%s%s\n", uff_text(number), place > lines ? " (the file ends before that line)" : "");
-    }
+    return count == 1 ? "" : "s";
 }
 
 void flush_output(void)

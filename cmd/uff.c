@@ -3,392 +3,298 @@
 
 #include <errno.h>
 #include <fcntl.h>
-#include <signal.h>
-#include <stdlib.h>
 #include <string.h>
 #include <unistd.h>
 
-static const char usage[] =
-    "usage: uff judge [-H] FILE...             say whether each file is a Universal File\n"
-    "       uff list FILE                      list its sets\n"
-    "       uff number FILE SET INDEX          show a stored number of a set 58 (SET from 1, INDEX from 0)\n"
-    "       uff values FILE SET                show all values of a set 58, one a line (SET from 1)\n"
-    "       uff rewrite IN OUT                 write IN to OUT in plain form\n"
-    "       uff watch [-t SECONDS] [-w] FILE   judge FILE while it arrives\n"
-    "       uff help | --help | -h             show this\n"
-    "       uff --version                      show the version\n"
-    "With -H judge prints name and count for one file too, as it does for several.\n"
-    "watch follows a file until nothing has come for SECONDS, 10 if not given; with 0 its present\n"
-    "end is its end. With -w it waits for a file that is not there yet. A pipe and standard input\n"
-    "end at their end, whatever SECONDS are.\n"
-    "After -- no word is an option.\n"
-    "A FILE of - is standard input, an OUT of - standard output.\n"
-    "Exit status: 0 accepted, 1 refused (the file, or what was asked of it),\n"
-    "2 wrong usage or trouble with a file.\n";
+/* A command: its name, its words and options as help shows them, what it does in short and at length; and how it is run. */
+struct command {
+    const char *name;
+    const char *words;
+    const char *summary;
+    const char *more;
+    const char *options;
+    int least;
+    int most;
+    int (*run)(const struct choices *o, int count, char **words);
+};
 
-/* Prints the reply for a whole file, and gives the exit status that it calls for. */
-static int print_verdict(FILE *to, uint64_t reply, const struct text *t)
+#define SHOWS_LINE "show the line of a refusal with a caret under the column, as on a terminal\n"
+
+/* The letter of each option that a command has; one with a word after it is followed by a colon. */
+static const struct command commands[] = {
+    {"judge", "[-Hjqrv] FILE...", "say whether each file is a Universal File",
+     "Prints accepted and the number of lines, or refused with the number of the reason, line, column and reason of\n"
+     "the earliest bad line. With several files each line begins with the name, and a total ends the report.\n"
+     "  -H  names and a total for one file too\n"
+     "  -j  a JSON object for each file: file, number, line, column, text\n"
+     "  -q  only files that are refused or cannot be read, and no total\n"
+     "  -r  go through folders, in order of name; links to folders in them are not followed\n"
+     "  -v  show the line of a refusal with a caret under the column, as for one file on a terminal\n",
+     "Hjqrv", 1, 1 << 30, run_judge},
+    {"list", "[-jv] FILE", "list its sets",
+     "Prints a line for each set: its place from 1, opening line, dataset number, and the values that a set 58\n"
+     "declares (0 for other sets).\n"
+     "  -j  a JSON object for each set, which has its bytes and padding too\n"
+     "  -v  " SHOWS_LINE,
+     "jv", 1, 1, run_list},
+    {"number", "[-v] FILE SET INDEX", "show a stored number of a set 58 (SET from 1, INDEX from 0)",
+     "Prints the first byte of its columns and the byte past them, sign, coefficient and scale, and what it means,\n"
+     "exactly.\n"
+     "  -v  " SHOWS_LINE,
+     "v", 3, 3, run_number},
+    {"values", "[-Hnv] FILE [SET...]", "show all values of its sets 58, one a line (SET from 1)",
+     "Before each set stands a line such as '# set 2: 4096 values, abscissa real', but not where one SET is asked for.\n"
+     "Each number has the shortest digits that read back as the same double. A set with a number that one operation\n"
+     "does not give exactly is refused with 21, and the other sets are shown; 'uff number' shows such a number.\n"
+     "  -H  that line for one SET too\n"
+     "  -n  no such lines\n"
+     "  -v  " SHOWS_LINE,
+     "Hnv", 1, 1 << 30, run_values},
+    {"rewrite", "[-v] IN OUT", "write IN to OUT in plain form",
+     "LF ends, no blanks at line ends, no lines outside sets, no padding, delimiters and dataset numbers spelled\n"
+     "plainly, and all else as it was. OUT is replaced once the new bytes are wholly written, and may be IN. An OUT\n"
+     "of - is standard output.\n"
+     "  -v  " SHOWS_LINE,
+     "v", 2, 2, run_rewrite},
+    {"watch", "[-jvw] [-t SECONDS] FILE", "judge FILE while it arrives",
+     "Prints the finished lines so far once a second at most, a refusal at once, and the verdict at the end.\n"
+     "  -j           a JSON object a line: file, number, line, column, text\n"
+     "  -t SECONDS   a file has ended when nothing has come for so long, 10 if not given; with 0 its present end is\n"
+     "               its end. A pipe and standard input end at their end, whatever SECONDS are.\n"
+     "  -v           " SHOWS_LINE
+     "  -w           wait for a file that is not there yet\n",
+     "jt:vw", 1, 1, run_watch},
+};
+
+#define COMMANDS (sizeof commands / sizeof *commands)
+
+/* Help. */
+
+static void print_synopsis(FILE *to, const char *before, const struct command *c)
 {
-    print_reply(to, reply, count_lines(t->bytes, t->count, true));
-    return UFF_NUMBER(reply) == UFF_ACCEPTED ? ACCEPTED : REFUSED;
+    int width = fprintf(to, "%s uff %s %s", before, c->name, c->words);
+    fprintf(to, "%*s%s\n", width < 43 ? 43 - width : 1, "", c->summary);
 }
 
-/* Commands. Each takes its words and gives the exit status. */
-
-/* The option -H: `judge` prints name and count for one file too. */
-static bool always_named;
-
-static bool take_named(const char *word)
+static void print_usage(FILE *to)
 {
-    (void)word;
-    always_named = true;
-    return true;
+    for (size_t i = 0; i < COMMANDS; i++)
+        print_synopsis(to, i == 0 ? "usage:" : "      ", &commands[i]);
+    fputs("       uff help [COMMAND] | --help | -h    show this, or what a command does and its options\n"
+          "       uff version | --version | -V        show the version\n"
+          "'uff COMMAND -h' is 'uff help COMMAND'. Options may stand after other words too; after -- no word is one.\n"
+          "A FILE of - is standard input, an OUT of - standard output.\n"
+          "Exit status: 0 accepted, 1 refused (the file, or what was asked of it),\n"
+          "2 wrong usage or trouble with a file.\n",
+          to);
 }
 
-/* Whether standard input is named more than once. */
-static bool is_read_twice(int count, char **words)
+static int print_help(const struct command *c)
 {
-    int times = 0;
-    for (int i = 0; i < count; i++)
-        times += is_standard(words[i]);
-    return times > 1;
+    print_synopsis(stdout, "usage:", c);
+    fputs(c->more, stdout);
+    return ACCEPTED;
 }
 
-static int run_judge(int count, char **words)
+/* The longest word that is compared with the names of the commands. */
+#define LONGEST_WORD 15
+
+static size_t least(size_t a, size_t b)
 {
-    struct text t = {NULL, 0, 0};
-    int seen[3] = {0, 0, 0};
-    bool named = always_named || count > 1;
-    if (is_read_twice(count, words))
-        return misused("standard input is read once only", "-");
-    if (count > 1)
-        start_progress();
-    for (int i = 0; i < count; i++) {
-        uint64_t reply;
-        show_progress(i, count);
-        if (!read_file(words[i], &t)) {
-            seen[TROUBLE]++;
-            continue;
+    return a < b ? a : b;
+}
+
+/* How many letters are left out, put in, changed or swapped with the next one between two words. */
+static size_t distance(const char *a, const char *b)
+{
+    size_t d[LONGEST_WORD + 1][LONGEST_WORD + 1], m = strlen(a), n = strlen(b);
+    for (size_t i = 0; i <= m; i++)
+        for (size_t k = 0; k <= n; k++) {
+            if (i == 0 || k == 0) {
+                d[i][k] = i + k;
+                continue;
+            }
+            d[i][k] = least(d[i - 1][k], d[i][k - 1]) + 1;
+            d[i][k] = least(d[i][k], d[i - 1][k - 1] + (a[i - 1] != b[k - 1]));
+            if (i > 1 && k > 1 && a[i - 1] == b[k - 2] && a[i - 2] == b[k - 1])
+                d[i][k] = least(d[i][k], d[i - 2][k - 2] + 1);
         }
-        reply = uff_judge(t.bytes, t.count);
-        clear_progress();
-        if (named) {
-            print_name(stdout, words[i]);
-            fputs(": ", stdout);
-        }
-        seen[print_verdict(stdout, reply, &t)]++;
-        flush_output();
-    }
-    clear_progress();
-    free(t.bytes);
-    if (named)
-        printf("%d file%s: %d accepted, %d refused, %d not read\n", count, count == 1 ? "" : "s", seen[ACCEPTED],
-               seen[REFUSED], seen[TROUBLE]);
-    return seen[TROUBLE] ? TROUBLE : seen[REFUSED] ? REFUSED : ACCEPTED;
+    return d[m][n];
 }
 
-/* Room for what the lister gives of any file. */
-static uint32_t rows[UFF_SETS * UFF_ROW_NUMBERS];
-
-static int run_list(int count, char **words)
+/* The command whose name is nearest to a word, or begins with it. NULL where none is near. */
+static const char *nearest(const char *word)
 {
-    struct text t = {NULL, 0, 0};
-    uint64_t reply;
-    int status;
-    (void)count;
-    if (!read_file(words[0], &t))
-        return TROUBLE;
-    reply = uff_list(t.bytes, t.count, rows, UFF_SETS * UFF_ROW_NUMBERS);
-    if (UFF_NUMBER(reply) == UFF_ACCEPTED) {
-        printf("set line dataset values\n");
-        for (uint32_t i = 0; i < UFF_PLACE(reply); i++) {
-            const uint32_t *row = rows + i * UFF_ROW_NUMBERS;
-            printf("%u %u %u %u\n", i + 1, row[0], row[1], row[2]);
+    const char *found = NULL;
+    size_t best = 3;
+    if (*word == '\0' || strlen(word) > LONGEST_WORD)
+        return NULL;
+    for (size_t i = 0; i <= COMMANDS; i++) {
+        const char *name = i < COMMANDS ? commands[i].name : "help";
+        size_t far = strncmp(word, name, strlen(word)) == 0 ? 0 : distance(word, name);
+        if (far < best && far * 2 <= strlen(name)) {
+            best = far;
+            found = name;
         }
     }
-    status = print_verdict(stdout, reply, &t);
-    free(t.bytes);
-    return status;
+    return found;
 }
 
-/* A number of so many bytes, lowest first. */
-static uint64_t number_in(const uint8_t *bytes, int count)
+/* Says that there is no such command, and what may have been meant. */
+static int refuse_command(const char *word)
 {
-    uint64_t n = 0;
-    while (count-- > 0)
-        n = n << 8 | bytes[count];
-    return n;
+    const char *near = nearest(word);
+    fputs("uff: no such command: ", stderr);
+    print_name(stderr, word);
+    if (near != NULL)
+        fprintf(stderr, " (the nearest is %s)", near);
+    else if (access(word, F_OK) == 0)
+        fputs(" (to judge a file: uff judge FILE)", stderr);
+    fputs("\nTry 'uff help'.\n", stderr);
+    return TROUBLE;
 }
 
-/* A word that is a number from 0 to 4294967295. */
-static bool parse_number(const char *word, uint32_t *out)
+static const struct command *find_command(const char *word)
 {
-    uint64_t n = 0;
-    if (*word == '\0')
-        return false;
-    for (; *word != '\0'; word++) {
-        if (*word < '0' || *word > '9')
-            return false;
-        n = n * 10 + (uint64_t)(*word - '0');
-        if (n > UINT32_MAX)
-            return false;
-    }
-    *out = (uint32_t)n;
-    return true;
-}
-
-static void print_number(const uint8_t *answer, uint32_t set, uint32_t index)
-{
-    uint64_t first = number_in(answer, 4), past = number_in(answer + 4, 4), coefficient = number_in(answer + 8, 8);
-    int64_t bits = (int64_t)number_in(answer + 16, 2);
-    int scale = (int)(bits < 32768 ? bits : bits - 65536);
-    char sign = answer[18] ? '-' : '+';
-    printf("first past sign coefficient scale\n%llu %llu %c %llu %d\n", (unsigned long long)first, (unsigned long long)past,
-           sign, (unsigned long long)coefficient, scale);
-    printf("Number %u of set %u is %s%llu x 10^%d.\n", index, set, sign == '-' ? "-" : "", (unsigned long long)coefficient,
-           scale);
-}
-
-static int run_number(int count, char **words)
-{
-    struct text t = {NULL, 0, 0};
-    uint8_t answer[UFF_NUMBER_BYTES];
-    uint32_t set, index;
-    uint64_t reply;
-    int status = ACCEPTED;
-    (void)count;
-    if (!parse_number(words[1], &set))
-        return misused("SET is not a number from 0 to 4294967295", words[1]);
-    if (!parse_number(words[2], &index))
-        return misused("INDEX is not a number from 0 to 4294967295", words[2]);
-    if (!read_file(words[0], &t))
-        return TROUBLE;
-    reply = uff_number(t.bytes, t.count, set, index, answer, sizeof answer);
-    if (UFF_NUMBER(reply) == UFF_ACCEPTED)
-        print_number(answer, set, index);
-    else
-        status = print_verdict(stdout, reply, &t);
-    free(t.bytes);
-    return status;
-}
-
-/* The count of values that a set of an accepted file declares, as the lister gives it. */
-static uint32_t declared_count(const struct text *t, uint32_t set)
-{
-    uff_list(t->bytes, t->count, rows, UFF_SETS * UFF_ROW_NUMBERS);
-    return rows[(set - 1) * UFF_ROW_NUMBERS + 2];
-}
-
-/*
- * Prints the values one a line, each number so that it reads back as the same double. How many numbers a value has is
- * found by division, so that nothing here needs to know the kinds of values.
- */
-static void print_values(const double *numbers, uint32_t count, uint32_t values)
-{
-    for (uint32_t i = 0; i < values; i++) {
-        uint32_t width = count / values;
-        for (uint32_t k = 0; k < width; k++)
-            printf("%.17g%c", numbers[i * width + k], k + 1 < width ? ' ' : '\n');
-    }
-}
-
-static int run_values(int count, char **words)
-{
-    static double numbers[UFF_DOUBLES];
-    struct text t = {NULL, 0, 0};
-    uint32_t set;
-    uint64_t reply;
-    int status = ACCEPTED;
-    (void)count;
-    if (!parse_number(words[1], &set))
-        return misused("SET is not a number from 0 to 4294967295", words[1]);
-    if (!read_file(words[0], &t))
-        return TROUBLE;
-    reply = uff_values(t.bytes, t.count, set, numbers, UFF_DOUBLES);
-    if (UFF_NUMBER(reply) == UFF_ACCEPTED)
-        print_values(numbers, UFF_PLACE(reply), declared_count(&t, set));
-    else
-        status = print_verdict(stdout, reply, &t);
-    free(t.bytes);
-    return status;
-}
-
-/*
- * OUT was replaced. The exit status of `rewrite` says whether it was, so it stays 0 where the line about it cannot be
- * printed.
- */
-static bool out_stands;
-
-/* Writes a file in plain form, and says so; where it goes to standard output, on standard error. */
-static int put_rewritten(const char *name, const uint8_t *bytes, uint32_t count)
-{
-    int status;
-    if (is_standard(name)) {
-        if (!write_all(STDOUT_FILENO, bytes, count))
-            return trouble("standard output", strerror(errno));
-        fprintf(stderr, "accepted %u\n", count);
-        return ACCEPTED;
-    }
-    signal(SIGPIPE, SIG_IGN);
-    status = save(name, bytes, count);
-    out_stands = status == ACCEPTED;
-    if (out_stands) {
-        printf("accepted %u: ", count);
-        print_name(stdout, name);
-        fputs(" has that many bytes\n", stdout);
-    }
-    return status;
-}
-
-static int run_rewrite(int count, char **words)
-{
-    struct text t = {NULL, 0, 0};
-    uint8_t *out;
-    uint64_t reply;
-    int status;
-    (void)count;
-    if (!read_file(words[0], &t))
-        return TROUBLE;
-    out = malloc(UFF_LONGEST);
-    if (out == NULL) {
-        free(t.bytes);
-        return trouble(words[1], strerror(ENOMEM));
-    }
-    reply = uff_rewrite(t.bytes, t.count, out, UFF_LONGEST);
-    if (UFF_NUMBER(reply) == UFF_ACCEPTED)
-        status = put_rewritten(words[1], out, UFF_PLACE(reply));
-    else
-        status = print_verdict(is_standard(words[1]) ? stderr : stdout, reply, &t);
-    free(t.bytes);
-    free(out);
-    return status;
+    for (size_t i = 0; i < COMMANDS; i++)
+        if (strcmp(word, commands[i].name) == 0)
+            return &commands[i];
+    return NULL;
 }
 
 static int run_help(int count, char **words)
 {
-    (void)count;
-    (void)words;
-    fputs(usage, stdout);
-    return ACCEPTED;
+    const struct command *c;
+    if (count > 1)
+        return misused("too many words after", "help");
+    if (count == 0 || strcmp(words[0], "help") == 0) {
+        print_usage(stdout);
+        return ACCEPTED;
+    }
+    c = find_command(words[0]);
+    return c != NULL ? print_help(c) : refuse_command(words[0]);
 }
 
-static int run_version(int count, char **words)
+static int run_version(int count)
 {
-    (void)count;
-    (void)words;
+    if (count > 0)
+        return misused("too many words after", "version");
     puts("uff " UFF_VERSION);
     return ACCEPTED;
 }
 
-/* An option of a command. `wrong` is said where the word after it is not right, and NULL where it has no word. */
-struct option {
-    const char *name;
-    const char *wrong;
-    bool (*take)(const char *word);
-};
+/* Options. */
 
-static const struct option judge_options[] = {{"-H", NULL, take_named}, {NULL, NULL, NULL}};
-
-static const struct option watch_options[] = {
-    {"-t", "SECONDS is not a number from 0 to 4294967295, such as 10 or 0.5", take_quiet_time},
-    {"-w", NULL, take_awaited},
-    {NULL, NULL, NULL},
-};
-
-static const struct option no_options[] = {{NULL, NULL, NULL}};
-
-struct command {
-    const char *name;
-    const struct option *options;
-    int least;
-    int most;
-    int (*run)(int count, char **words);
-};
-
-static const struct command commands[] = {
-    {"judge", judge_options, 1, 1 << 30, run_judge}, {"list", no_options, 1, 1, run_list},
-    {"number", no_options, 3, 3, run_number},        {"values", no_options, 2, 2, run_values},
-    {"rewrite", no_options, 2, 2, run_rewrite},      {"watch", watch_options, 1, 1, run_watch},
-    {"help", no_options, 0, 0, run_help},            {"--help", no_options, 0, 0, run_help},
-    {"-h", no_options, 0, 0, run_help},              {"--version", no_options, 0, 0, run_version},
-};
-
-static const struct option *find_option(const struct command *c, const char *word)
+/* What an option without a word sets. */
+static bool *flag_of(struct choices *o, char letter)
 {
-    for (const struct option *o = c->options; o->name != NULL; o++)
-        if (strcmp(word, o->name) == 0)
-            return o;
-    return NULL;
-}
-
-static bool ends_options(const char *word)
-{
-    return strcmp(word, "--") == 0;
-}
-
-/* Takes the options that stand first. Gives how many words they are, or -1 after saying what is wrong with one. */
-static int take_options(const struct command *c, int count, char **words)
-{
-    const struct option *o;
-    int i = 0;
-    while (i < count && (o = find_option(c, words[i])) != NULL) {
-        i++;
-        if (o->wrong != NULL && i == count) {
-            misused("too few words after", o->name);
-            return -1;
-        }
-        if (!o->take(words[i])) {
-            misused(o->wrong, words[i]);
-            return -1;
-        }
-        i += o->wrong != NULL;
+    switch (letter) {
+    case 'H': return &o->is_named;
+    case 'j': return &o->is_json;
+    case 'n': return &o->is_bare;
+    case 'q': return &o->is_quiet;
+    case 'r': return &o->is_deep;
+    case 'v': return &o->is_shown;
+    case 'w': return &o->is_awaited;
+    default: return &o->is_helped;
     }
-    return i;
 }
 
-/* Says what is wrong with a word that begins with a minus. */
-static int refuse_option(const struct command *c, const char *word)
+/* Whether a command has this option; `word` is whether a word follows it. Each has -h. */
+static bool has_option(const struct command *c, char letter, bool *word)
 {
-    bool late = ends_options(word) || find_option(c, word) != NULL;
-    return misused(late ? "options stand before the other words" : "no such option", word);
+    const char *at = letter == ':' ? NULL : strchr(c->options, letter);
+    *word = at != NULL && at[1] == ':';
+    return at != NULL || letter == 'h';
+}
+
+/* Takes the word of -t, the one option that has any. Gives how many words it used, or 0 after saying what is wrong. */
+static int take_seconds(struct choices *o, const char *rest, const char *next)
+{
+    const char *word = *rest != '\0' ? rest : next;
+    if (word == NULL) {
+        misused("too few words after", "-t");
+        return 0;
+    }
+    if (parse_seconds(word, &o->quiet_time))
+        return word == rest ? 1 : 2;
+    misused("SECONDS is not a number from 0 to 4294967295, such as 10 or 0.5", word);
+    return 0;
+}
+
+/* Takes the options in one word, such as -r, -rq, -t5, or -t and the next. Gives as take_seconds does. */
+static int take_options(const struct command *c, struct choices *o, const char *word, const char *next)
+{
+    bool is_long = strcmp(word, "--help") == 0;
+    for (const char *at = is_long ? "h" : word + 1; *at != '\0'; at++) {
+        bool has_word;
+        if (!has_option(c, *at, &has_word)) {
+            misused("no such option", word);
+            return 0;
+        }
+        if (has_word)
+            return take_seconds(o, at + 1, next);
+        *flag_of(o, *at) = true;
+    }
+    return 1;
 }
 
 /*
- * Runs a command on its words. Options stand before the others, and -- ends them. Without -- a later word that begins
- * with a minus is refused, so that no option typed late or wrong is taken for a name.
+ * Takes the options and moves the other words to the front; -- ends the options. Gives how many those are, or -1 after
+ * saying what is wrong. A word that begins with a minus is never taken for a name before --.
  */
+static int sort_words(const struct command *c, struct choices *o, int count, char **words)
+{
+    int kept = 0, used;
+    bool ended = false;
+    for (int i = 0; i < count; i += used) {
+        used = 1;
+        if (ended || words[i][0] != '-' || words[i][1] == '\0')
+            words[kept++] = words[i];
+        else if (strcmp(words[i], "--") == 0)
+            ended = true;
+        else
+            used = take_options(c, o, words[i], i + 1 < count ? words[i + 1] : NULL);
+        if (used == 0)
+            return -1;
+    }
+    return kept;
+}
+
 static int run_command(const struct command *c, int count, char **words)
 {
-    int first = take_options(c, count, words);
-    bool ended = first >= 0 && first < count && ends_options(words[first]);
-    if (first < 0)
+    struct choices o = {.quiet_time = 10000};
+    set_command(c->name);
+    count = sort_words(c, &o, count, words);
+    if (count < 0)
         return TROUBLE;
-    first += ended;
-    count -= first;
-    words += first;
-    for (int i = 0; !ended && i < count; i++) {
-        if (strcmp(words[i], "--help") == 0)
-            return run_help(0, NULL);
-        if (words[i][0] == '-' && words[i][1] != '\0')
-            return refuse_option(c, words[i]);
-    }
+    if (o.is_helped)
+        return print_help(c);
     if (count < c->least)
         return misused("too few words after", c->name);
     if (count > c->most)
         return misused("too many words after", c->name);
-    return c->run(count, words);
+    return c->run(&o, count, words);
+}
+
+static bool is_one_of(const char *word, const char *a, const char *b, const char *c)
+{
+    return strcmp(word, a) == 0 || strcmp(word, b) == 0 || strcmp(word, c) == 0;
 }
 
 static int run(int count, char **words)
 {
+    const struct command *c;
     if (count <= 0) {
-        fputs(usage, stderr);
+        print_usage(stderr);
         return TROUBLE;
     }
-    for (size_t i = 0; i < sizeof commands / sizeof *commands; i++)
-        if (strcmp(words[0], commands[i].name) == 0)
-            return run_command(&commands[i], count - 1, words + 1);
-    return misused("no such command", words[0]);
+    if (is_one_of(words[0], "help", "--help", "-h"))
+        return run_help(count - 1, words + 1);
+    if (is_one_of(words[0], "version", "--version", "-V"))
+        return run_version(count - 1);
+    c = find_command(words[0]);
+    return c != NULL ? run_command(c, count - 1, words + 1) : refuse_command(words[0]);
 }
 
 /*

@@ -16,31 +16,26 @@
 #define LOOK 250
 #define NEWS 1000
 
-/* The option -t: the milliseconds without a byte after which a file has ended. */
-static int64_t quiet_time = 10000;
+/* The most bytes of an open line that are kept until its end comes, to show it if it is refused. */
+#define KEPT 4096
 
-/* The option -w: a file that is not there yet is waited for. */
-static bool is_awaited;
-
-bool take_quiet_time(const char *word)
+bool parse_seconds(const char *word, int64_t *milliseconds)
 {
     char *end;
     double seconds = strtod(word, &end);
     if (*word == '\0' || *end != '\0' || word[strspn(word, "0123456789.")] != '\0' || seconds > UINT32_MAX)
         return false;
-    quiet_time = (int64_t)(seconds * 1000 + 0.5);
+    *milliseconds = (int64_t)(seconds * 1000 + 0.5);
     return true;
 }
 
-bool take_awaited(const char *word)
-{
-    (void)word;
-    is_awaited = true;
-    return true;
-}
-
-/* A capture that is watched: the replies so far, and what was shown of them. */
+/*
+ * A capture that is watched: the options, its name, the replies so far, and what was shown of them; the bytes at hand, how
+ * many lines ended before them, and whether their first line lacks its start.
+ */
 struct watch {
+    const struct choices *o;
+    const char *name;
     struct uff_stream record;
     size_t total;
     uint64_t lines;
@@ -48,25 +43,58 @@ struct watch {
     uint64_t reply;
     uint64_t shown;
     int64_t next;
+    struct text held;
+    uint64_t before;
+    bool is_headless;
 };
 
-static uint8_t burst[BURST];
+/* What is read, and before it the open line. */
+static uint8_t taken[KEPT + BURST];
+static uint8_t *const burst = taken + KEPT;
 
-static void start(struct watch *w)
+static void start(struct watch *w, const struct choices *o, const char *name)
 {
     memset(w, 0, sizeof *w);
+    w->o = o;
+    w->name = name;
+    w->held.bytes = burst;
     uff_stream_start(&w->record);
     w->reply = w->shown = uff_stream_burst(&w->record, NULL, 0);
     w->next = now() + NEWS;
 }
 
-/* Takes in what stands in the burst. */
+/* Takes in what stands in the burst, after what is kept of the open line. */
 static void take(struct watch *w, size_t count)
 {
+    w->held.count += count;
     w->reply = uff_stream_burst(&w->record, burst, count);
     w->total += count;
     w->lines += count_lines(burst, count, false);
     w->open = burst[count - 1] != '\n';
+}
+
+/* Keeps of the bytes at hand the open line, before the next burst. */
+static void keep_open(struct watch *w)
+{
+    const uint8_t *past = w->held.bytes + w->held.count, *at = past;
+    size_t count;
+    while (at > w->held.bytes && at[-1] != '\n')
+        at--;
+    count = (size_t)(past - at);
+    w->is_headless = (w->is_headless && at == w->held.bytes) || count > KEPT;
+    if (w->is_headless)
+        count = 0;
+    memmove(burst - count, at, count);
+    w->held = (struct text){burst - count, count, 0};
+    w->before = w->lines;
+}
+
+/* Where other bytes were read in between, none are at hand. */
+static void forget(struct watch *w)
+{
+    w->held = (struct text){burst, 0, 0};
+    w->before = w->lines;
+    w->is_headless = w->open;
 }
 
 /* How much of the burst may be filled: once it is too long whatever follows, nothing is. */
@@ -75,9 +103,23 @@ static size_t room_left(const struct watch *w)
     return MOST - w->total < BURST ? MOST - w->total : BURST;
 }
 
+/* Shows the line of a refusal, where it is at hand. */
+static void show_line(const struct watch *w)
+{
+    uint32_t line = UFF_PLACE(w->reply);
+    if (line > w->before + (w->is_headless ? 1 : 0))
+        print_shown(stdout, w->reply - w->before, &w->held);
+}
+
 static void show(struct watch *w)
 {
-    print_reply(stdout, w->reply, w->lines + (w->open ? 1 : 0));
+    struct verdict v = verdict_on(w->reply, w->total, w->lines + (w->open ? 1 : 0));
+    if (w->o->is_json)
+        print_json_verdict(stdout, w->name, &v);
+    else
+        print_words(stdout, &v);
+    if (w->o->is_shown)
+        show_line(w);
     flush_output();
     w->shown = w->reply;
     w->next = now() + NEWS;
@@ -100,6 +142,7 @@ static bool take_in(struct watch *w, int fd)
 {
     ssize_t n;
     while (room_left(w) > 0) {
+        keep_open(w);
         n = read_some(fd, burst, room_left(w));
         if (n <= 0)
             return n == 0;
@@ -222,11 +265,12 @@ static enum found look_at_name(struct followed *f)
 }
 
 /* Judges the file once more from its start, as it stands. */
-static bool judge_again(struct watch *again, int fd)
+static bool judge_again(struct watch *again, const struct watch *w, int fd)
 {
     ssize_t n;
-    start(again);
+    start(again, w->o, w->name);
     while (room_left(again) > 0) {
+        keep_open(again);
         n = pread(fd, burst, room_left(again), (off_t)again->total);
         if (n <= 0)
             return n == 0;
@@ -242,7 +286,8 @@ static bool judge_again(struct watch *again, int fd)
 static enum found look_at_end(const struct followed *f, struct watch *w)
 {
     static struct watch again;
-    if (!judge_again(&again, f->fd))
+    forget(w);
+    if (!judge_again(&again, w, f->fd))
         return FAILED;
     if (again.total != w->total)
         return again.total > w->total ? MORE : SHORTER;
@@ -266,9 +311,12 @@ static enum found look(struct followed *f, struct watch *w, bool is_quiet)
 /* Says what became of a file, and watches it from its start. */
 static bool start_again(struct watch *w, int fd, const char *what)
 {
-    printf("from the start: %s\n", what);
+    if (w->o->is_json)
+        print_json_note(stdout, w->name, "from the start", what);
+    else
+        printf("from the start: %s\n", what);
     flush_output();
-    start(w);
+    start(w, w->o, w->name);
     return lseek(fd, 0, SEEK_SET) == 0;
 }
 
@@ -286,7 +334,7 @@ static bool follow(struct watch *w, struct followed *f)
             return true;
         if (was_written(f) || w->total > before)
             last = now();
-        found = look(f, w, now() - last >= quiet_time);
+        found = look(f, w, now() - last >= w->o->quiet_time);
         if (found == ENDED || found == FAILED)
             return found == ENDED;
         if (found != NOTHING) {
@@ -297,7 +345,7 @@ static bool follow(struct watch *w, struct followed *f)
         }
         if (w->reply != w->shown && now() >= w->next)
             show(w);
-        due = last + quiet_time;
+        due = last + w->o->quiet_time;
         wait_for_notice(f->notice, w->reply != w->shown && w->next < due ? w->next : due);
     }
 }
@@ -310,17 +358,17 @@ static bool is_input(const char *name)
 }
 
 /* Whether it is followed past its present end: a regular file that has a name of its own. */
-static bool is_followed(const char *name, const struct stat *s)
+static bool is_followed(const struct watch *w, const struct stat *s)
 {
-    return quiet_time > 0 && S_ISREG(s->st_mode) && !is_input(name);
+    return w->o->quiet_time > 0 && S_ISREG(s->st_mode) && !is_input(w->name);
 }
 
 /* Opens what is watched, and with -w waits until it is there. */
-static int open_watched(const char *name)
+static int open_watched(const struct choices *o, const char *name)
 {
     bool told = false;
     int fd;
-    while ((fd = open_input(name)) < 0 && errno == ENOENT && is_awaited && *name != '\0') {
+    while ((fd = open_input(name)) < 0 && errno == ENOENT && o->is_awaited && *name != '\0') {
         if (!told)
             tell(name, "not there yet", 0);
         told = true;
@@ -330,26 +378,30 @@ static int open_watched(const char *name)
 }
 
 /* Takes in all that comes from what was opened, which stays open until the command ends. */
-static bool take_all(struct watch *w, const char *name, int fd)
+static bool take_all(struct watch *w, int fd)
 {
-    struct followed f = {.name = name};
+    struct followed f = {.name = w->name};
     struct stat s;
     if (fstat(fd, &s) != 0)
         return false;
-    if (!is_followed(name, &s))
+    if (!is_followed(w, &s))
         return take_in(w, fd);
     attach(&f, fd, &s);
     return follow(w, &f);
 }
 
-int run_watch(int count, char **words)
+int run_watch(const struct choices *o, int count, char **words)
 {
     static struct watch w;
-    int fd = open_watched(words[0]);
+    static struct choices mine;
+    int fd;
     (void)count;
+    mine = *o;
+    mine.is_shown = !o->is_json && is_line_shown(stdout, o, true);
+    fd = open_watched(o, words[0]);
     if (fd >= 0)
-        start(&w);
-    if (fd < 0 || !take_all(&w, words[0], fd))
+        start(&w, &mine, words[0]);
+    if (fd < 0 || !take_all(&w, fd))
         return trouble(shown_name(words[0]), strerror(errno));
     w.reply = uff_stream_end(&w.record);
     if (w.reply != w.shown)
