@@ -6,27 +6,48 @@ ghost use lib.ListN.{length, drop};
 ghost use Rattle.parts.specs.Parts.{partsOf};
 ghost use Rattle.lister.specs.Lister.{rowNumbers, rowsOf, listReply, listRows};
 ghost use Rattle.lister.specs.Found.{declaredAt, dataAt, entryAt};
+ghost use Rattle.lister.specs.Count.{Counted};
 use judge::Reply;
 use parts::Extent;
+use walk::Place;
+use walk::State;
 
 // How many places a set has in the rows.
 pub const ROW_NUMBERS: usize = 7;
 
-// How many sets stand in a file.
-fn count_sets(file: &[u8]) -> usize
-    ensures { λ r. ⌜ (r ≡ length (partsOf (now (file .entry)))) × (r ≤ length (now (file .entry))) ⌝ }
+// The judge's reply, and for an accepted file how many sets it has.
+pub struct Judged {
+    pub reply: Reply,
+    pub sets: u32,
+}
+
+// Judges a file, and counts its sets on the way.
+fn judge_sets(file: &[u8]) -> Judged
+    ensures { λ r. ⌜ Counted (now (file .entry)) r ⌝ }
 {
-    let mut count = 0;
-    let mut at = 0;
-    let mut lines = 0;
-    let mut e = parts::next_set(file, at, lines);
-    while e.found {
-        count += 1;
-        at = e.past;
-        lines = e.through;
-        e = parts::next_set(file, at, lines);
+    if 16777216 < file.len() {
+        return Judged {
+            reply: judge::bare_reply(1, 0),
+            sets: 0,
+        };
     }
-    count
+    let start = State {
+        place: Place::Outside,
+        sets: 0,
+    };
+    let read = judge::judge_lines(start, 0, file, 0);
+    if 0 < read.number {
+        return Judged {
+            reply: judge::reply_at(read.number, read.lines + 1, read.column),
+            sets: 0,
+        };
+    }
+    let at = read.at;
+    let state = read.state;
+    Judged {
+        reply: judge::finish(state, read.lines, &file[at..]),
+        sets: state.sets,
+    }
 }
 
 // The declared count of a set; 0 unless it is a 58.
@@ -91,11 +112,12 @@ fn put_rows(file: &[u8], rows: &mut [u32])
 pub fn list(file: &[u8], rows: &mut [u32]) -> Reply
     ensures { λ r. ⌜ (r ≡ listReply (now (file .entry)) (length (now (rows .entry)))) × (now (rows .exit) ≡ listRows (now (file .entry)) (now (rows .entry))) ⌝ }
 {
-    let judged = judge::judge(file);
-    if 0 < judged.number {
-        return judged;
+    let judged = judge_sets(file);
+    let reply = judged.reply;
+    if 0 < reply.number {
+        return reply;
     }
-    let sets = count_sets(file);
+    let sets = judged.sets as usize;
     if rows.len() < ROW_NUMBERS * sets {
         return judge::bare_reply(17, 0);
     }

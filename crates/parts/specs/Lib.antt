@@ -1,6 +1,8 @@
 pub mod Parts
 pub mod PartsLaws
 pub mod ShownLaws
+pub mod Mark
+pub mod MarkLaws
 pub mod Scan
 pub mod Function
 pub mod Padding
@@ -12,3 +14,4 @@ pub mod SetLaws
 pub mod Turn
 pub mod TurnLaws
 pub mod FunctionLaws
+pub mod FirstLaws

@@ -1,20 +1,15 @@
--- Where the next set of a file stands, by numbers alone, as the code looks for it line by line.
-use mathlib.Core.Bool.{true, false, _&&_}
+-- Where the next set of a file stands, by numbers alone.
+use mathlib.Core.Bool.{true, false}
 use mathlib.Core.List.{List, [], _∷_}
 use mathlib.Core.Path.{_≡_}
-use Prim.Native.Nat.{ℕ, zero, suc, _+_, _-_}
+use Prim.Native.Nat.{ℕ, zero, suc, _+_}
 use Prim.{Unit}
-use lib.Dec.{leb, eqb}
+use lib.Dec.{leb}
 use lib.ListN.{length, take, drop}
 use Rattle.laws.specs.Cut.{cut, lineLen}
 use Rattle.laws.specs.Choice.{pick}
-use Rattle.delimiter.specs.Kind.{datasetNumber}
-use Rattle.parts.specs.declared.Seen.{Seen}
 use Rattle.parts.specs.declared.Extent.{Extent}
-use Rattle.parts.specs.Parts.{columnsIn, closes, Part, datasetOf, lineStart, lastStart, closingStart, pastOf, throughOf, bytesIn, PartState, outside, opened, inside}
-
-abbrev pub seen : ℕ → ℕ → ℕ → ℕ → ℕ → ℕ → Seen
-seen p n at v b l = record { place = p; lines = n; first = at; number = v; body = b; last = l }
+use Rattle.parts.specs.Parts.{columnsIn, Part, datasetOf, lineStart, lastStart, closingStart, pastOf, throughOf, bytesIn, PartState, outside, opened, inside}
 
 abbrev pub extent : ℕ → ℕ → ℕ → ℕ → ℕ → ℕ → ℕ → ℕ → Extent
 extent n at v b l c e t = record { found = true; lines = n; first = at; number = v; body = b; last = l; closing = c; past = e; through = t }
@@ -27,20 +22,6 @@ nowhere = record { found = false; lines = 0; first = 0; number = 0; body = 0; la
 unfoldable pub firstOf : List Part → Extent
 firstOf [] = nowhere
 firstOf (p ∷ ps) = extent (p .lines) (p .bytes) (datasetOf p) (lineStart p 0) (lastStart p) (closingStart p) (pastOf p) (throughOf p)
-
--- one line more that closes no set
-unfoldable pub seenStep : Seen → ℕ → ℕ → List ℕ → Seen
-seenStep s n at l =
-    pick (eqb (s .place) 0) (pick (closes l) (seen 1 n at 0 0 0) s)
-    (pick (eqb (s .place) 1) (seen 2 (s .lines) (s .first) (datasetNumber (columnsIn l)) (at + suc (length l)) (at + suc (length l)))
-    (seen (s .place) (s .lines) (s .first) (s .number) (s .body) at))
-
--- the lines up to the one that closes a set
-unfoldable pub scanFrom : Seen → ℕ → ℕ → List (List ℕ) → Extent
-scanFrom s n at [] = nowhere
-scanFrom s n at (l ∷ ls) =
-    pick (eqb (s .place) 2 && closes l) (extent (s .lines) (s .first) (s .number) (s .body) (s .last) at (at + suc (length l)) (suc n))
-    (scanFrom (seenStep s n at l) (suc n) (at + suc (length l)) ls)
 
 -- the first byte of line k of lines that begin at the byte at and stop before the byte stop; the byte where they stop if there is none
 unfoldable pub skipTo : ℕ → ℕ → ℕ → List (List ℕ) → ℕ
@@ -55,16 +36,6 @@ columnsAt stop at file = columnsIn (pick (leb stop at) [] (take (lineLen (drop a
 -- the 80 columns of line k of lines that begin at the byte from and stop before the byte stop
 unfoldable pub lineFrom : ℕ → ℕ → List ℕ → ℕ → List ℕ
 lineFrom stop from file k = columnsAt stop (skipTo k stop from (cut (drop from file) .lines)) file
-
--- the first byte of the last of lines that begin at the byte at; the byte at if there is none
-abbrev pub lastFrom : ℕ → List (List ℕ) → ℕ
-lastFrom at ls = at + bytesIn (take (length ls - 1) ls)
-
--- what the code keeps of where a file stands
-abbrev pub image : PartState → Seen
-image outside = seen 0 0 0 0 0 0
-image (opened n at o) = seen 1 n at 0 0 0
-image (inside n at o v ls) = seen 2 n at (datasetNumber (columnsIn v)) (at + bytesIn (o ∷ v ∷ [])) (lastFrom (at + bytesIn (o ∷ v ∷ [])) ls)
 
 -- as many lines and bytes have come as a set's lines so far are
 abbrev pub Fitting : PartState → ℕ → ℕ → Type 0

@@ -106,7 +106,7 @@ among n at [] p ps e = let z : 0 ≡ suc (length ps) = ap length e in absurd (om
 among n at (l ∷ ls) p ps e = among-by n at l ls p ps (closes l) (among (suc n) (at + suc (length l)) ls p ps) e
 
 -- as many bytes as lines, at least
-lines-bytes : (ls : List (List ℕ)) → length ls ≤ bytesIn ls
+pub lines-bytes : (ls : List (List ℕ)) → length ls ≤ bytesIn ls
 unfolding bytesIn
 lines-bytes [] = omega arith
 lines-bytes (l ∷ ls) = let m : length ls ≤ bytesIn ls = lines-bytes ls in omega arith
@@ -205,7 +205,7 @@ module _ (f : List ℕ) (stop at : ℕ) where
   columnsAt-line e h q = let z : e - at ≡ lineLen (drop at f) = omega arith in rw (lt-leb stop at h, z) refl
 
 -- the LF of a line
-lineLen-end : (l : List ℕ) → lineLen l < length l → getD l (lineLen l) 0 ≡ 10
+pub lineLen-end : (l : List ℕ) → lineLen l < length l → getD l (lineLen l) 0 ≡ 10
 unfolding lineLen
 lineLen-end [] h = absurd (omega arith)
 lineLen-end (b ∷ l) h = by (eqb b 10) refl h (lineLen-end l)
@@ -216,14 +216,14 @@ lineLen-end (b ∷ l) h = by (eqb b 10) refl h (lineLen-end l)
     by false e h ih = ih (omega arith)
 
 -- a line that begins at a byte has its LF
-line-ends : (f : List ℕ) (at : ℕ) (l : List ℕ) (ls : List (List ℕ)) → at ≤ length f → cut (drop at f) .lines ≡ l ∷ ls → lineLen (drop at f) < length (drop at f)
+pub line-ends : (f : List ℕ) (at : ℕ) (l : List ℕ) (ls : List (List ℕ)) → at ≤ length f → cut (drop at f) .lines ≡ l ∷ ls → lineLen (drop at f) < length (drop at f)
 line-ends f at l ls a c =
     ⊎-elim (λ (h : at + lineLen (drop at f) < length f). omega (arith, length-drop at f))
     (λ (h : length f ≤ at + lineLen (drop at f)). let z : suc (length ls) ≡ 0 = ap length (sym c ∙ lines-end f at (at + lineLen (drop at f)) a refl h) in absurd (omega arith))
     (below-or-not (at + lineLen (drop at f)) (length f))
 
 -- the line that begins at a byte is the first of the lines from there on
-first-line : (f : List ℕ) (at : ℕ) (l : List ℕ) (ls : List (List ℕ)) → at ≤ length f → cut (drop at f) .lines ≡ l ∷ ls → take (lineLen (drop at f)) (drop at f) ≡ l
+pub first-line : (f : List ℕ) (at : ℕ) (l : List ℕ) (ls : List (List ℕ)) → at ≤ length f → cut (drop at f) .lines ≡ l ∷ ls → take (lineLen (drop at f)) (drop at f) ≡ l
 first-line f at l ls a c = ⊎-elim here none (below-or-not (at + lineLen (drop at f)) (length f))
   where
     here : at + lineLen (drop at f) < length f → take (lineLen (drop at f)) (drop at f) ≡ l

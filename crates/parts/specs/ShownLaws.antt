@@ -1,12 +1,15 @@
 -- Delimiters and number lines by the bytes that a line has: the columns that fill it are blank.
 use mathlib.Core.Path.{_≡_, refl, sym, ap, _∙_}
+use mathlib.Core.Logic.{⊎-elim}
 use mathlib.Core.Bool.{Bool, true, false, _&&_}
 use mathlib.Core.List.{List, [], _∷_, _++_}
 use Prim.Native.Nat.{ℕ, zero, suc, _+_, _-_, _≤_, _<_, min}
 use native.Mathlib.Omega.{arith}
+use borrow.Author.Tests.{ne-eqb}
 use lib.Dec.{eqb}
 use lib.ListN.{length, getD, take, drop, replicate, length-take, getD-replicate}
 use lib.Seq.{take-nil, take-length, take-add, take-take, take-append-le, drop-at, getD-take, getD-append-add, length-take-le}
+use Rattle.laws.specs.ChoiceLaws.{below-or-not}
 use Rattle.text.specs.Blank.{allBlank}
 use Rattle.integer.specs.Integer.{integerOf}
 use Rattle.line.specs.Line.{columns, filled}
@@ -132,3 +135,7 @@ module _ (l : List ℕ) (n : ℕ) (e : n ≡ length (shown l)) where
   number-shown h =
       let m : length (shown l) ≡ 6 = omega arith in
       rw (first-bytes l 6 (omega arith), rest-blank l 6 (omega arith), m) refl
+
+-- a delimiter has a minus in column 5
+pub closes-minus : (l : List ℕ) → (getD l 4 0 ≡ 45 → ⊥) → closes l ≡ false
+closes-minus l h = ⊎-elim (λ (k : length (shown l) < 6). sym (closes-short l _ refl k)) (λ (k : 6 ≤ length (shown l)). closes-shown l _ refl k ∙ rw (ne-eqb _ _ h) refl) (below-or-not (length (shown l)) 6)

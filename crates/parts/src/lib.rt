@@ -1,30 +1,41 @@
 // The sets of a file as they stand in it, parted by its delimiters alone.
 ghost use mathlib.Core.Path.{_≡_};
 ghost use Prim.Native.Nat.{_+_, _≤_, _<_};
-ghost use mathlib.Core.Bool.{_&&_};
-ghost use lib.Dec.{eqb};
 ghost use Rattle.delimiter.specs.Kind.{datasetNumber};
 ghost use lib.ListN.{length, drop};
 ghost use Rattle.laws.specs.Cut.{cut};
 ghost use Rattle.parts.specs.Parts.{shown, columnsIn, closes, outside, partsFrom};
 ghost use Rattle.record_table.specs.TypedSets.{lineSeven};
 ghost use Rattle.record.specs.Declared.{caseIn, countIn};
-ghost use Rattle.parts.specs.Scan.{lineFrom, firstOf, seenStep, skipTo, columnsAt};
+ghost use Rattle.parts.specs.Scan.{lineFrom, firstOf, skipTo, columnsAt};
+ghost use Rattle.parts.specs.Mark.{quiet, endsIn, marked, Passed, LastLine};
 ghost use Rattle.parts.specs.Padding.{lastField, paddingIn};
 ghost use Rattle.parts.specs.Counted.{declaredAt, paddingAt, countedAt};
+use laws::index;
 use layout::field_start;
 use layout::fields_of;
 use text::is_blank;
 
-// Where the next set is looked for: 0 outside sets, 1 after its opening delimiter, 2 inside it; how many lines and bytes
-// come before it, its number, and the first byte of its lines and of the last of them so far.
-pub struct Seen {
-    pub place: u8,
+// A delimiter: whether there is one, how many lines come before it, its first byte and the byte past its line.
+pub struct Mark {
+    pub found: bool,
     pub lines: usize,
-    pub first: usize,
-    pub number: u32,
-    pub body: usize,
-    pub last: usize,
+    pub at: usize,
+    pub past: usize,
+}
+
+// No delimiter.
+const NO_MARK: Mark = Mark {
+    found: false,
+    lines: 0,
+    at: 0,
+    past: 0,
+};
+
+// A byte, and how many lines come before the line that it is in.
+pub struct Spot {
+    pub at: usize,
+    pub lines: usize,
 }
 
 // Where a set stands: whether there is one, how many lines and bytes come before it, its number, the first byte of its lines,
@@ -119,53 +130,106 @@ pub fn line_number(line: &[u8]) -> u32
     delimiter::dataset_number(&row)
 }
 
-// One line more that closes no set; it begins at byte `at`, after so many lines.
-fn seen_step(s: Seen, lines: usize, at: usize, line: &[u8]) -> Seen
-    requires { ⌜ at + length (now line) < 18446744073709551615 ⌝ }
-    ensures { λ r. ⌜ r ≡ seenStep s lines at (now (line .entry)) ⌝ }
+// Whether no LF of these bytes has a minus beside it in the bytes that stand five further, as the LF before a delimiter has.
+fn is_quiet(bytes: &[u8], later: &[u8]) -> bool
+    requires { ⌜ length (now later) ≡ length (now bytes) ⌝ }
+    ensures { λ r. ⌜ r ≡ quiet (now (bytes .entry)) (now (later .entry)) ⌝ }
 {
-    if s.place == 0 {
-        if is_delimiter_line(line) {
-            return Seen {
-                place: 1,
-                lines,
-                first: at,
-                number: 0,
-                body: 0,
-                last: 0,
-            };
-        }
-        return s;
+    let mut none = true;
+    let mut i = 0;
+    while i < bytes.len() {
+        none = none & !((bytes[i] == 10) & (later[i] == 45));
+        i += 1;
     }
-    if s.place == 1 {
-        let past = at + line.len() + 1;
-        return Seen {
-            place: 2,
-            lines: s.lines,
-            first: s.first,
-            number: line_number(line),
-            body: past,
-            last: past,
-        };
-    }
-    Seen {
-        place: s.place,
-        lines: s.lines,
-        first: s.first,
-        number: s.number,
-        body: s.body,
-        last: at,
-    }
+    none
 }
 
-// Whether a line closes the set that is looked for.
-fn closes_set(s: Seen, line: &[u8]) -> bool
-    ensures { λ r. ⌜ r ≡ eqb (s .place) 2 && closes (now (line .entry)) ⌝ }
+// How many LFs are among at most 255 bytes.
+fn ends_in(bytes: &[u8]) -> u8
+    requires { ⌜ length (now bytes) ≤ 255 ⌝ }
+    ensures { λ r. ⌜ r ≡ endsIn (now (bytes .entry)) ⌝ }
 {
-    if s.place == 2 {
-        return is_delimiter_line(line);
+    let mut ends = 0;
+    let mut i = 0;
+    while i < bytes.len() {
+        if bytes[i] == 10 {
+            ends += 1;
+        }
+        i += 1;
     }
-    false
+    ends
+}
+
+// Past blocks of bytes in which no delimiter follows an LF, from a byte in a line that so many come before.
+fn past_quiet(file: &[u8], from: usize, before: usize) -> Spot
+    requires { ⌜ (from ≤ length (now file)) × (before ≤ from) ⌝ }
+    ensures { λ r. ⌜ Passed (now (file .entry)) from before r ⌝ }
+{
+    let mut at = from;
+    let mut lines = before;
+    if file.len() < 69 {
+        return Spot { at, lines };
+    }
+    let last = file.len() - 69;
+    while at <= last {
+        let past = at + 64;
+        let later = at + 5;
+        let later_past = later + 64;
+        if !is_quiet(&file[at..past], &file[later..later_past]) {
+            return Spot { at, lines };
+        }
+        lines += index(ends_in(&file[at..past]));
+        at = past;
+    }
+    Spot { at, lines }
+}
+
+// The first delimiter among the lines that begin at byte `from`, after so many lines.
+fn find_delimiter(file: &[u8], from: usize, before: usize) -> Mark
+    requires { ⌜ (from ≤ length (now file)) × (before ≤ from) ⌝ }
+    ensures { λ r. ⌜ r ≡ marked (now (file .entry)) before from ⌝ }
+{
+    let mut at = from;
+    let mut lines = before;
+    let mut end = line::find_end(file, at);
+    while end < file.len() {
+        if is_delimiter_line(&file[at..end]) {
+            return Mark {
+                found: true,
+                lines,
+                at,
+                past: end + 1,
+            };
+        }
+        let passed = past_quiet(file, end, lines);
+        let stop = line::find_end(file, passed.at);
+        if file.len() <= stop {
+            return NO_MARK;
+        }
+        lines = passed.lines + 1;
+        at = stop + 1;
+        end = line::find_end(file, at);
+    }
+    NO_MARK
+}
+
+// The first byte of the last of the lines that begin at byte `from` and stop before byte `closing`; where there is none, byte `from`.
+pub fn last_line(file: &[u8], from: usize, closing: usize) -> usize
+    requires { ⌜ (from ≤ closing) × (closing ≤ length (now file) + 1) ⌝ }
+    ensures { λ r. ⌜ LastLine (now (file .entry)) from closing r ⌝ }
+{
+    if closing <= from {
+        return from;
+    }
+    let mut at = closing - 1;
+    while from < at {
+        let before = at - 1;
+        if file[before] == 10 {
+            return at;
+        }
+        at = before;
+    }
+    at
 }
 
 // Where the next set stands, from byte `from` on, outside sets, after so many lines.
@@ -173,37 +237,31 @@ pub fn next_set(file: &[u8], from: usize, before: usize) -> Extent
     requires { ⌜ (from ≤ length (now file)) × (before ≤ from) ⌝ }
     ensures { λ r. ⌜ r ≡ firstOf (partsFrom outside before from (cut (drop from (now (file .entry))) .lines)) ⌝ }
 {
-    let mut s = Seen {
-        place: 0,
-        lines: 0,
-        first: 0,
-        number: 0,
-        body: 0,
-        last: 0,
-    };
-    let mut lines = before;
-    let mut at = from;
-    let mut end = line::find_end(file, at);
-    while end < file.len() {
-        if closes_set(s, &file[at..end]) {
-            return Extent {
-                found: true,
-                lines: s.lines,
-                first: s.first,
-                number: s.number,
-                body: s.body,
-                last: s.last,
-                closing: at,
-                past: end + 1,
-                through: lines + 1,
-            };
-        }
-        s = seen_step(s, lines, at, &file[at..end]);
-        lines += 1;
-        at = end + 1;
-        end = line::find_end(file, at);
+    let opening = find_delimiter(file, from, before);
+    if !opening.found {
+        return NOWHERE;
     }
-    NOWHERE
+    let number = opening.past;
+    let end = line::find_end(file, number);
+    if file.len() <= end {
+        return NOWHERE;
+    }
+    let body = end + 1;
+    let closing = find_delimiter(file, body, opening.lines + 2);
+    if !closing.found {
+        return NOWHERE;
+    }
+    Extent {
+        found: true,
+        lines: opening.lines,
+        first: opening.at,
+        number: line_number(&file[number..end]),
+        body,
+        last: last_line(file, body, closing.at),
+        closing: closing.at,
+        past: closing.past,
+        through: closing.lines + 1,
+    }
 }
 
 // The first byte of line k, from 0, of lines that begin at byte `from` and stop before byte `closing`; where there is none, the byte

@@ -1,6 +1,8 @@
 pub mod Rewriter
 pub mod Body
 pub mod BodyLaws
+pub mod Run
+pub mod RunLaws
 pub mod PutLaws
 pub mod PlainLaws
 pub mod Fair

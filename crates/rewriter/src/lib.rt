@@ -4,9 +4,11 @@ ghost use Prim.Native.Nat.{_+_, _≤_};
 ghost use lib.ListN.{length};
 ghost use Rattle.rewriter.specs.Rewriter.{digitOrBlank, plainNumber, keptOf, headText, rewrittenFile, rewriteReply, rewriteOut};
 ghost use Rattle.rewriter.specs.Body.{bodyText, cutText, lastText, setAt};
+ghost use Rattle.rewriter.specs.Run.{bareIn, Bared, Run};
 ghost use Rattle.output.specs.Output.{placed};
 use judge::Reply;
 use output::put_line;
+use output::put_text;
 use parts::Extent;
 
 // The last digit of a number, a blank where the number is 0.
@@ -41,6 +43,58 @@ fn kept_len(line: &[u8]) -> usize
     text::text_len(&line[..n])
 }
 
+// Whether no LF of the second bytes has a blank or a CR beside it in the first, which stand one before.
+fn is_bare(bytes: &[u8], next: &[u8]) -> bool
+    requires { ⌜ length (now next) ≡ length (now bytes) ⌝ }
+    ensures { λ r. ⌜ r ≡ bareIn (now (bytes .entry)) (now (next .entry)) ⌝ }
+{
+    let mut none = true;
+    let mut i = 0;
+    while i < bytes.len() {
+        none = none & !((next[i] == 10) & ((bytes[i] == 32) | (bytes[i] == 13)));
+        i += 1;
+    }
+    none
+}
+
+// Past blocks of bytes in which no blank and no CR is before an LF, from byte `from` on and before byte `closing`.
+fn past_bare(file: &[u8], from: usize, closing: usize) -> usize
+    requires { ⌜ closing ≤ length (now file) ⌝ }
+    ensures { λ r. ⌜ Bared (now (file .entry)) from closing r ⌝ }
+{
+    let mut at = from;
+    if closing < 65 {
+        return at;
+    }
+    let last = closing - 65;
+    while at <= last {
+        let past = at + 64;
+        let next = at + 1;
+        let next_past = next + 64;
+        if !is_bare(&file[at..past], &file[next..next_past]) {
+            return at;
+        }
+        at = past;
+    }
+    at
+}
+
+// Past lines that are kept as they stand, from the one that begins at byte `from` on and before byte `closing`; looked for only where
+// `whole` says that the line before them was.
+fn past_run(file: &[u8], from: usize, closing: usize, whole: bool) -> usize
+    requires { ⌜ from ≤ length (now file) ⌝ }
+    ensures { λ r. ⌜ Run (now (file .entry)) from closing r ⌝ }
+{
+    if !whole {
+        return from;
+    }
+    if file.len() < closing {
+        return from;
+    }
+    let stop = past_bare(file, from, closing);
+    parts::last_line(file, from, stop + 1)
+}
+
 // The length of what is kept of the lines that begin at byte `from` and stop before byte `closing`.
 pub fn body_len(file: &[u8], from: usize, closing: usize) -> usize
     requires { ⌜ from ≤ length (now file) ⌝ }
@@ -53,8 +107,11 @@ pub fn body_len(file: &[u8], from: usize, closing: usize) -> usize
         if file.len() <= end {
             return n;
         }
-        n += kept_len(&file[at..end]) + 1;
-        at = end + 1;
+        let kept = kept_len(&file[at..end]);
+        let next = end + 1;
+        let past = past_run(file, next, closing, kept == end - at);
+        n += kept + 1 + (past - next);
+        at = past;
     }
     n
 }
@@ -72,8 +129,10 @@ pub fn put_body(out: &mut [u8], at: usize, file: &[u8], from: usize, closing: us
             return past;
         }
         let stop = line + kept_len(&file[line..end]);
-        past = put_line(out, past, &file[line..stop]);
-        line = end + 1;
+        let put = put_line(out, past, &file[line..stop]);
+        let next = end + 1;
+        line = past_run(file, next, closing, stop == end);
+        past = put_text(out, put, &file[next..line]);
     }
     past
 }

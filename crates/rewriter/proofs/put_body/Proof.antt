@@ -6,8 +6,8 @@ use Rattle.output.specs.Output.{Put, ended}
 use Rattle.output.specs.OutputLaws.{put-start, put-done, put-room, put-next}
 use Rattle.rewriter.specs.Body.{bodyText}
 use Rattle.rewriter.specs.BodyLaws.{kept-within, body-stops, body-ends, body-kept}
-use borrow.Author.Needs.{needs}
 use native.Mathlib.Omega.{arith}
+use borrow.Author.Needs.{needs}
 use Rattle.rewriter.proofs.put_body.Statement.{statement}
 use Rattle.rewriter.proofs.put_body.Tie as tie
 
@@ -86,15 +86,25 @@ put-line-requires c κs =
     let row : List ℕ = ended (take (line + kept - line) (drop line file)) in
     put-room _ _ _ _ _ _ (inv .put) (at-pre .pre .1) row (bodyText closing (end + 1) file) here
 
-add-line : tie.Need-add-line Inv-loop μ-loop
-add-line c = search needs
+add-next : tie.Need-add-next Inv-loop μ-loop
+add-next c = search needs
 
-loop-less : tie.Need-loop-less Inv-loop μ-loop
-loop-less c = search needs
+past-run-requires : tie.Need-past-run-requires Inv-loop μ-loop
+past-run-requires c κs = search needs
 
-loop-again : tie.Need-loop-again Inv-loop μ-loop
-loop-again c =
-    let at-put-line = c .before .before in
+sub-put-text : tie.Need-sub-put-text Inv-loop μ-loop
+sub-put-text c = search needs
+
+part-put-text-start : tie.Need-part-put-text-start Inv-loop μ-loop
+part-put-text-start c = search needs
+
+part-put-text-end : tie.Need-part-put-text-end Inv-loop μ-loop
+part-put-text-end c = search needs
+
+put-text-requires : tie.Need-put-text-requires Inv-loop μ-loop
+put-text-requires c κs =
+    let at-run = c .before .before in
+    let at-put-line = at-run .before .before .before in
     let at-kept-len = at-put-line .before .before .before in
     let at-if1 = at-kept-len .before .before in
     let at-find-end = at-if1 .before in
@@ -111,9 +121,41 @@ loop-again c =
     let here = body-kept closing file line end kept more (inv .within) (at-find-end .find-end .ensures) (at-if1 .if1 .left) (at-kept-len .kept-len .ensures) in
     let row : List ℕ = ended (take (line + kept - line) (drop line file)) in
     let done = at-put-line .put-line .ensures in
+    let lined = put-next _ _ _ _ _ _ (inv .put) (at-pre .pre .1) row (bodyText closing (end + 1) file) here _ _ (done .0) (done .1) in
+    let past : ℕ = at-run .past-run .result in
+    put-room _ _ _ _ _ _ lined (at-pre .pre .1) (take (past - (end + 1)) (drop (end + 1) file)) (bodyText closing past file) (at-run .past-run .ensures .same)
+
+loop-less : tie.Need-loop-less Inv-loop μ-loop
+loop-less c = search needs
+
+loop-again : tie.Need-loop-again Inv-loop μ-loop
+loop-again c =
+    let at-put-text = c .before .before in
+    let at-run = at-put-text .before .before .before in
+    let at-put-line = at-run .before .before .before in
+    let at-kept-len = at-put-line .before .before .before in
+    let at-if1 = at-kept-len .before .before in
+    let at-find-end = at-if1 .before in
+    let at-loop-test = at-find-end .before in
+    let at-loop = at-loop-test .before in
+    let at-pre = at-loop .before .before .before in
+    let file : List ℕ = at-pre .args .file .now in
+    let closing : ℕ = at-pre .args .closing in
+    let line : ℕ = at-loop .loop .line in
+    let end : ℕ = at-find-end .find-end .result in
+    let kept : ℕ = at-kept-len .kept-len .result in
+    let inv = at-loop .loop .inv in
+    let more = at-loop-test .loop-test .taken in
+    let here = body-kept closing file line end kept more (inv .within) (at-find-end .find-end .ensures) (at-if1 .if1 .left) (at-kept-len .kept-len .ensures) in
+    let row : List ℕ = ended (take (line + kept - line) (drop line file)) in
+    let done = at-put-line .put-line .ensures in
+    let lined = put-next _ _ _ _ _ _ (inv .put) (at-pre .pre .1) row (bodyText closing (end + 1) file) here _ _ (done .0) (done .1) in
+    let past : ℕ = at-run .past-run .result in
+    let run : List ℕ = take (past - (end + 1)) (drop (end + 1) file) in
+    let ran = at-put-text .put-text .ensures in
     record {
-      within = search needs;
-      put = put-next _ _ _ _ _ _ (inv .put) (at-pre .pre .1) row (bodyText closing (end + 1) file) here _ _ (done .0) (done .1);
+      within = at-run .past-run .ensures .within;
+      put = put-next _ _ _ _ _ _ lined (at-pre .pre .1) run (bodyText closing past file) (at-run .past-run .ensures .same) _ _ (ran .0) (ran .1);
     }
 
 same-length-2 : tie.Need-same-length-2 Inv-loop μ-loop
@@ -141,7 +183,12 @@ put-body-spec =
     part-put-line-start
     part-put-line-end
     put-line-requires
-    add-line
+    add-next
+    past-run-requires
+    sub-put-text
+    part-put-text-start
+    part-put-text-end
+    put-text-requires
     loop-less
     loop-again
     same-length-2

@@ -1,0 +1,164 @@
+-- An accepted file has as many sets as the judge has seen open.
+use mathlib.Core.Path.{_≡_, refl, sym, ap, _∙_}
+use mathlib.Core.Bool.{Bool, true, false}
+use mathlib.Core.List.{List, [], _∷_, _++_}
+use Prim.Native.Nat.{ℕ, zero, suc, _+_, _≤_}
+use native.Mathlib.Omega.{arith}
+use lib.Dec.{ltb}
+use lib.ListN.{length, length-append}
+use Rattle.laws.specs.Choice.{pick}
+use Rattle.laws.specs.ChoiceLaws.{false-not-true}
+use Rattle.laws.specs.Cut.{cut, over}
+use Rattle.text.specs.Blank.{allBlank}
+use Rattle.line.specs.declared.Refusal.{Refusal}
+use Rattle.line.specs.Line.{columns, refusal, firstBad, lineFault, filled}
+use Rattle.delimiter.specs.Kind.{isDelimiter, datasetNumber}
+use Rattle.delimiter.specs.KindLaws.{isDelimiter-sound, delimiter-not-blank}
+use Rattle.record_table.specs.TypedSets.{kindOf, isTyped}
+use Rattle.record.specs.Check.{rowRefusal}
+use Rattle.walk.specs.declared.Place.{Place}
+use Rattle.walk.specs.declared.Place.the-variants.{Outside, Number, Plain, Typed}
+use Rattle.walk.specs.declared.Due.{Due}
+use Rattle.walk.specs.declared.State.{State}
+use Rattle.walk.specs.declared.Outcome.{Outcome}
+use Rattle.walk.specs.declared.Outcome.the-variants.{Next, Refused}
+use Rattle.walk.specs.Due.{opening, mayClose, mayContinue, rowDue, after}
+use Rattle.walk.specs.Step.{state, start, unless, outsideStep, numberStep, plainStep, typedStep, placeStep, stepOf}
+use Rattle.walk.specs.Step as Walk
+use Rattle.judge.specs.declared.Reply.{Reply}
+use Rattle.judge.specs.declared.Lines.{Lines}
+use Rattle.judge.specs.Judge.{lineOutcome, lineStep, Run, going, refused, onOutcome, runStep, atEnd, runEnd}
+use Rattle.judge.specs.JudgeLaws.{over-refused}
+use Rattle.judge.specs.Lines.{LinesJudged}
+use Rattle.parts.specs.Parts.{columnsIn, closes, PartState, outside, opened, inside, next, ended, partsFrom, partsOf}
+use Rattle.lister.specs.Count.{Alike, out, number, plain, typed, openIn, Stepped}
+
+never : {A : Type 0} (f : Refusal) (t : State) → Refused f ≡ Next t → A
+never f t e = let z : _≡_ {A = ℕ} 0 1 = cc in absurd (omega arith)
+
+stepped-to : (pl : Place) (k : ℕ) (t u : State) (p : PartState) (n at : ℕ) (l : List ℕ) → Next u ≡ Next t → Stepped pl k u p n at l → Stepped pl k t p n at l
+stepped-to pl k t u p n at l e s = let z : t ≡ u = cc in rw z s
+
+-- a blank line is no delimiter
+blank-open : (l : List ℕ) → allBlank (columnsIn l) ≡ true → isDelimiter (columnsIn l) ≡ true → ⊥
+blank-open l a d = let z : false ≡ true = sym (delimiter-not-blank (columnsIn l) (isDelimiter-sound (columnsIn l) d)) ∙ a in false-not-true z
+
+module _ (k n at : ℕ) (l : List ℕ) (t : State) where
+  outside-by : (a d c : Bool) → allBlank (columnsIn l) ≡ a → isDelimiter (columnsIn l) ≡ d
+      → pick a (Next (state Outside k)) (pick d (pick c (Next (state Number (k + 1))) (Refused (refusal 15 1))) (Refused (refusal 5 1))) ≡ Next t
+      → Stepped Outside k t outside n at l
+  unfolding closes
+  outside-by true true c p q h = absurd (blank-open l p q)
+  outside-by true false c p q h = stepped-to _ _ _ _ _ _ _ _ h (record { alike = rw q out; count = omega arith })
+  outside-by false true true p q h = stepped-to _ _ _ _ _ _ _ _ h (record { alike = rw q number; count = omega arith })
+  outside-by false true false p q h = never _ t h
+  outside-by false false c p q h = never _ t h
+
+  outside-step : outsideStep k (columnsIn l) ≡ Next t → Stepped Outside k t outside n at l
+  unfolding outsideStep
+  outside-step h = outside-by (allBlank (columnsIn l)) (isDelimiter (columnsIn l)) (ltb k 4096) refl refl h
+
+  number-by : (m b : ℕ) (o : List ℕ) (c u : Bool) → pick c (Next (state (pick u (Typed (opening (kindOf (datasetNumber (columnsIn l))))) Plain) k)) (Refused (refusal 6 1)) ≡ Next t
+      → Stepped Number k t (opened m b o) n at l
+  number-by m b o true true h = stepped-to _ _ _ _ _ _ _ _ h (record { alike = typed; count = omega arith })
+  number-by m b o true false h = stepped-to _ _ _ _ _ _ _ _ h (record { alike = plain; count = omega arith })
+  number-by m b o false u h = never _ t h
+
+  number-step : (m b : ℕ) (o : List ℕ) → numberStep k (columnsIn l) ≡ Next t → Stepped Number k t (opened m b o) n at l
+  unfolding numberStep Walk.opened
+  number-step m b o h = number-by m b o (ltb 0 (datasetNumber (columnsIn l))) (isTyped (datasetNumber (columnsIn l))) h
+
+  module _ (m b : ℕ) (o v : List ℕ) (ls : List (List ℕ)) where
+    plain-by : (d : Bool) → isDelimiter (columnsIn l) ≡ d → pick d (Next (state Outside k)) (Next (state Plain k)) ≡ Next t → Stepped Plain k t (inside m b o v ls) n at l
+    unfolding closes
+    plain-by true q h = stepped-to _ _ _ _ _ _ _ _ h (record { alike = rw q out; count = rw q (omega arith) })
+    plain-by false q h = stepped-to _ _ _ _ _ _ _ _ h (record { alike = rw q plain; count = rw q (omega arith) })
+
+    plain-step : plainStep k (columnsIn l) ≡ Next t → Stepped Plain k t (inside m b o v ls) n at l
+    unfolding plainStep
+    plain-step h = plain-by (isDelimiter (columnsIn l)) refl h
+
+    -- a row's refusal, or the state that follows
+    unless-by : (f : Refusal) (u : State) (j : ℕ) → f .number ≡ j → unless f u ≡ Next t → Next u ≡ Next t
+    unless-by f u zero e h = rw e at h
+    unless-by f u (suc j) e h = never _ t (rw e at h)
+
+    typed-by : (w x : Due) (f : Refusal) (d c e : Bool) → isDelimiter (columnsIn l) ≡ d
+        → pick d (pick c (Next (state Outside k)) (Refused (refusal 7 1))) (pick e (unless f (state (Typed x) k)) (Refused (refusal 8 1))) ≡ Next t
+        → Stepped (Typed w) k t (inside m b o v ls) n at l
+    unfolding closes
+    typed-by w x f true true e q h = stepped-to _ _ _ _ _ _ _ _ h (record { alike = rw q out; count = rw q (omega arith) })
+    typed-by w x f true false e q h = never _ t h
+    typed-by w x f false c true q h = stepped-to _ _ _ _ _ _ _ _ (unless-by f _ (f .number) refl h) (record { alike = rw q typed; count = rw q (omega arith) })
+    typed-by w x f false c false q h = never _ t h
+
+    typed-step : (w : Due) → typedStep w k (columnsIn l) ≡ Next t → Stepped (Typed w) k t (inside m b o v ls) n at l
+    unfolding typedStep
+    typed-step w h =
+        typed-by w (after w (columnsIn l)) (rowRefusal (rowDue w) (columnsIn l)) (isDelimiter (columnsIn l)) (mayClose w) (mayContinue w) refl h
+
+  place-step : (pl : Place) (p : PartState) → Alike pl p → placeStep pl k (columnsIn l) ≡ Next t → Stepped pl k t p n at l
+  place-step Outside outside out h = outside-step h
+  place-step Number (opened m b o) number h = number-step m b o h
+  place-step Plain (inside m b o v ls) plain h = plain-step m b o v ls h
+  place-step (Typed d) (inside m b o v ls) typed h = typed-step m b o v ls d h
+
+-- a line's own refusals come before
+own-by : (s t : State) (f : Refusal) (cs : List ℕ) (j : ℕ) → f .number ≡ j → lineOutcome s f cs ≡ Next t → stepOf s (filled cs) ≡ Next t
+own-by s t f cs zero e h = rw e at h
+own-by s t f cs (suc j) e h = never _ t (rw e at h)
+
+line-step : (s t : State) (p : PartState) (n at : ℕ) (l : List ℕ) → Alike (s .place) p → lineStep s l ≡ Next t → Stepped (s .place) (s .sets) t p n at l
+unfolding lineStep stepOf
+line-step s t p n at l a h =
+    let f : Refusal = lineFault true (columns true l) in
+    place-step (s .sets) n at l t (s .place) p a (own-by s t f (columns true l) (f .number) refl h)
+
+-- lines that are not refused
+stopped : {A : Type 0} (r : Reply) (ls : List (List ℕ)) (t : State) (m : ℕ) → over runStep (refused r) ls ≡ going t m → A
+stopped r ls t m h = let e : refused r ≡ going t m = sym (over-refused r ls) ∙ h in let z : _≡_ {A = ℕ} 0 1 = cc in absurd (omega arith)
+
+ran-on : (s : State) (p : PartState) (c n at m : ℕ) (l : List ℕ) (ls : List (List ℕ)) (t : State) (o : Outcome) → Alike (s .place) p → lineStep s l ≡ o
+    → over runStep (onOutcome c o) ls ≡ going t m
+    → ((u : State) → Alike (u .place) (next p n at l) → over runStep (going u (c + 1)) ls ≡ going t m
+    → t .sets + openIn (u .place) ≡ u .sets + length (partsFrom (next p n at l) (suc n) (at + suc (length l)) ls) + openIn (t .place))
+    → t .sets + openIn (s .place) ≡ s .sets + length (ended p l ++ partsFrom (next p n at l) (suc n) (at + suc (length l)) ls) + openIn (t .place)
+ran-on s p c n at m l ls t (Next u) a q h ih =
+    let x = line-step s u p n at l a q in
+    omega (arith, x .count, ih u (x .alike) h, length-append (ended p l) (partsFrom (next p n at l) (suc n) (at + suc (length l)) ls))
+ran-on s p c n at m l ls t (Refused f) a q h ih = stopped _ ls t m h
+
+ran : (ls : List (List ℕ)) (s : State) (p : PartState) (c n at m : ℕ) (t : State) → Alike (s .place) p → over runStep (going s c) ls ≡ going t m
+    → t .sets + openIn (s .place) ≡ s .sets + length (partsFrom p n at ls) + openIn (t .place)
+unfolding over partsFrom
+ran [] s p c n at m t a h = let z : s ≡ t = cc in rw z (omega arith)
+ran (l ∷ ls) s p c n at m t a h =
+    ran-on s p c n at m l ls t (lineStep s l) a refl h (λ u b g. ran ls u (next p n at l) (c + 1) (suc n) (at + suc (length l)) m t b g)
+
+-- a file that is accepted ends outside sets
+open-by : (s : State) (n : ℕ) (b : ℕ) (bs : List ℕ) → lineFault false (b ∷ bs) .number ≤ 0 → ⊥
+unfolding lineFault
+open-by s n b bs h = by (ltb 0 (firstBad 1 (b ∷ bs))) (ltb 80 (length (b ∷ bs))) h
+  where
+    by : (x y : Bool) → pick x (refusal 2 (firstBad 1 (b ∷ bs))) (pick y (refusal 3 1) (refusal 4 1)) .number ≤ 0 → ⊥
+    by true y h = omega arith
+    by false true h = omega arith
+    by false false h = omega arith
+
+end-by : (pl : Place) (k n : ℕ) → atEnd pl k n .number ≤ 0 → pl ≡ Outside
+end-by Outside k n h = refl
+end-by Number k n h = absurd (omega arith)
+end-by Plain k n h = absurd (omega arith)
+end-by (Typed d) k n h = absurd (omega arith)
+
+ends-outside : (s : State) (n : ℕ) (rest : List ℕ) → runEnd (going s n) rest .number ≤ 0 → s .place ≡ Outside
+ends-outside s n [] h = end-by (s .place) (s .sets) n h
+ends-outside s n (b ∷ bs) h = absurd (open-by s n b bs h)
+
+pub sets-opened : (file rest : List ℕ) (r : Lines) → LinesJudged start 0 file 0 r → r .number ≡ 0 → runEnd (going (r .state) (r .lines)) rest .number ≤ 0
+    → r .state .sets ≡ length (partsOf file)
+unfolding partsOf
+sets-opened file rest r j z h =
+    let g : going (r .state) (r .lines) ≡ over runStep (going start 0) (cut file .lines) = rw z at (j .run) in
+    let e : openIn (r .state .place) ≡ 0 = ap openIn (ends-outside (r .state) (r .lines) rest h) in
+    omega (arith, ran (cut file .lines) start outside 0 0 0 (r .lines) (r .state) out (sym g))
