@@ -13,7 +13,7 @@ use lib.Seq.{drop-at, drop-drop, getD-take, getD-append-add}
 use lib.ListN.{length, getD, drop, replicate, length-map, length-append, length-take}
 use Rattle.laws.specs.Choice.{pick}
 use Rattle.text.specs.Blank.{Blanks, none, one}
-use Rattle.text.specs.BlankLaws.{allBlank-complete, blanks-replicate}
+use Rattle.text.specs.BlankLaws.{allBlank-complete, blanks-take, blanks-replicate}
 use Rattle.real.specs.Spelling.{RealSpelling, spelled}
 use Rattle.line.specs.Line.{columns, filled}
 use Rattle.line.specs.LineLaws.{filled-short}
@@ -32,7 +32,6 @@ use Rattle.walk.specs.DueLaws.{dataRow-length}
 use Rattle.record_laws.specs.GroupLaws.{blanks-at}
 use Rattle.theory.specs.Sets.{Set}
 use Rattle.theory.specs.Due.{linesFor, setRows}
-use Rattle.line_laws.specs.LineTestsLaws.{blanks-take}
 use Rattle.parts.specs.Parts.{Part, lastLine}
 use Rattle.parts.specs.Parts as Parts
 use Rattle.parts.specs.Function as Function

@@ -7,7 +7,7 @@ use native.Mathlib.Numerals.{add-one}
 use borrow.Author.Tests.{eqb-true, eq-eqb, ne-eqb}
 use native.Mathlib.Omega.{arith}
 use lib.Dec.{eqb}
-use lib.ListN.{length, getD, drop, replicate, drop-of-length-le}
+use lib.ListN.{length, getD, take, drop, replicate, drop-of-length-le}
 use lib.Seq.{drop-cons}
 use Rattle.laws.specs.Run.{run}
 use Rattle.laws.specs.Choice.{pick}
@@ -35,6 +35,11 @@ allBlank-append (b ∷ l) m = rw (allBlank-append l m) (and-assoc (eqb b 32) (al
 pub blanks-append : {l m : List ℕ} → Blanks l → Blanks m → Blanks (l ++ m)
 blanks-append none r = r
 blanks-append (one b) r = one (blanks-append b r)
+
+pub blanks-take : {l : List ℕ} (n : ℕ) → Blanks l → Blanks (take n l)
+blanks-take ℕ.zero b = none
+blanks-take (ℕ.suc n) none = none
+blanks-take (ℕ.suc n) (one b) = one (blanks-take n b)
 
 pub blanks-replicate : (n : ℕ) → Blanks (replicate n 32)
 blanks-replicate ℕ.zero = none
