@@ -20,7 +20,10 @@ use Rattle.walk.specs.declared.Outcome.the-variants.{Next, Refused}
 use Rattle.judge.specs.declared.Reply.{Reply}
 use Rattle.judge.specs.declared.Lines.{Lines}
 use Rattle.judge.specs.Judge.{replyAt, atLine, lineStep, Run, going, refused, onOutcome, runStep, runEnd}
-use Rattle.judge.specs.Lines.{runOf, LinesJudged}
+use Rattle.usual.specs.declared.Ahead.{Ahead}
+use Rattle.usual.specs.Taken.{LineTaken, Taken, RanAhead}
+use Rattle.usual.specs.TakenLaws.{taken-within}
+use Rattle.judge.specs.Lines.{runOf, linesTo, LinesJudged}
 use Rattle.judge.specs.JudgeLaws.{over-refused}
 use Rattle.judge.specs.Refusal.{LineNumber}
 use Rattle.judge.specs.RefusalLaws.{refusal-sure, line-number}
@@ -65,9 +68,10 @@ module _ (b : List ℕ) (from e : ℕ) (a : from ≤ length b) (q : e ≡ from +
           fewer = λ y. omega arith;
         }
 
-    pub judged-to-end : length b ≤ e → cut (drop from b) .rest ≡ cut (drop at b) .rest → LinesJudged s₀ n₀ b at (record { state = s; lines = n; number = 0; column = 0; at = from })
+    pub judged-to-end : length b ≤ e → cut (drop from b) .rest ≡ cut (drop at b) .rest → (r : Lines) → r ≡ linesTo s n from → LinesJudged s₀ n₀ b at r
     unfolding over
-    judged-to-end h rest =
+    judged-to-end h rest r is =
+        rw is
         record {
           run = sym (rw (cut-last h) refl) ∙ run;
           rest = λ y. sym (rw (cut-last h) refl) ∙ rest;
@@ -75,6 +79,53 @@ module _ (b : List ℕ) (from e : ℕ) (a : from ≤ length b) (q : e ≡ from +
           few = omega arith;
           fewer = λ y. absurd (omega arith);
         }
+
+-- lines taken in a run are steps of the loop
+module _ (b : List ℕ) (s t : State) (from to : ℕ) (h : from ≤ length b) (l : LineTaken b s from t to) where
+  abbrev end : ℕ
+  end = from + lineLen (drop from b)
+
+  inside : end < length b
+  inside = omega (arith, l .ends, l .within)
+
+  stepped : lineStep s (take (end - from) (drop from b)) ≡ Next t
+  unfolding lineStep
+  stepped = let n : end - from ≡ lineLen (drop from b) = omega arith in rw (n, l .whole) (l .step)
+
+  line-lines : (n : ℕ) → over runStep (going t (n + 1)) (cut (drop to b) .lines) ≡ over runStep (going s n) (cut (drop from b) .lines)
+  line-lines n = rw (l .ends) (lines-next b from end h refl inside s n (lineStep s (take (end - from) (drop from b))) refl t stepped)
+
+  line-rest : cut (drop to b) .rest ≡ cut (drop from b) .rest
+  line-rest = rw (l .ends) (rest-next b from end h refl inside)
+
+module _ {b : List ℕ} {s : State} {from : ℕ} (h : from ≤ length b) where
+  pub run-lines : {t : State} {k to : ℕ} (n : ℕ) → Taken b s from t k to
+      → over runStep (going t (n + k)) (cut (drop to b) .lines) ≡ over runStep (going s n) (cut (drop from b) .lines)
+  run-lines n Taken.none = let e : n + 0 ≡ n = omega arith in rw e refl
+  run-lines n (Taken.more {t} {u} {k} {at} {to} r l) =
+      let e : n + (k + 1) ≡ n + k + 1 = omega arith in
+      rw e (line-lines b t u at to (taken-within h r) l (n + k) ∙ run-lines n r)
+
+  pub run-rest : {t : State} {k to : ℕ} → Taken b s from t k to → cut (drop to b) .rest ≡ cut (drop from b) .rest
+  run-rest Taken.none = refl
+  run-rest (Taken.more {t} {u} {k} {at} {to} r l) = line-rest b t u at to (taken-within h r) l ∙ run-rest r
+
+-- where the loop stands: the lines before byte `from` are judged
+pub record Reached (b : List ℕ) (s₀ : State) (n₀ at : ℕ) (s : State) (n from : ℕ) : Type 0 where
+  pub within : from ≤ length b
+  pub few : n + at ≤ n₀ + from
+  pub same-lines : over runStep (going s n) (cut (drop from b) .lines) ≡ over runStep (going s₀ n₀) (cut (drop at b) .lines)
+  pub same-rest : cut (drop from b) .rest ≡ cut (drop at b) .rest
+
+pub reached-ahead : (b : List ℕ) (s₀ : State) (n₀ at : ℕ) (s : State) (n from : ℕ) (r : Ahead) → Reached b s₀ n₀ at s n from → RanAhead b s from r
+    → Reached b s₀ n₀ at (r .state) (n + r .lines) (r .at)
+reached-ahead b s₀ n₀ at s n from r g a =
+    record {
+      within = a .within;
+      few = omega (arith, g .few, a .few);
+      same-lines = run-lines (g .within) n (a .taken) ∙ g .same-lines;
+      same-rest = run-rest (g .within) (a .taken) ∙ g .same-rest;
+    }
 
 -- the whole of the bytes, from their finished lines judged
 module _ (s : State) (n : ℕ) (b : List ℕ) (r : Lines) (j : LinesJudged s n b 0 r) where

@@ -3,7 +3,7 @@ ghost use mathlib.Core.Path.{_≡_};
 ghost use Prim.Native.Nat.{_+_, _-_, _≤_};
 ghost use lib.ListN.{length};
 ghost use Rattle.judge.specs.Judge.{judged, reply, replyAt, lineStep, going, runEnd};
-ghost use Rattle.judge.specs.Lines.{LinesJudged};
+ghost use Rattle.judge.specs.Lines.{linesTo, LinesJudged};
 use line::Refusal;
 use walk::Outcome;
 use walk::Place;
@@ -63,7 +63,20 @@ pub fn line_step(s: State, line: &[u8]) -> Outcome
     walk::step(s, &row)
 }
 
-// The finished lines of the bytes from `at` on, after `lines` others.
+// The state after so many lines, none of them refused, and the byte where the rest begins.
+fn so_far(state: State, lines: usize, at: usize) -> Lines
+    ensures { λ r. ⌜ r ≡ linesTo state lines at ⌝ }
+{
+    Lines {
+        state,
+        lines,
+        number: 0,
+        column: 0,
+        at,
+    }
+}
+
+// The finished lines of the bytes from `at` on, after `lines` others. Lines in their usual spelling are taken in runs.
 pub fn judge_lines(state: State, lines: usize, bytes: &[u8], at: usize) -> Lines
     requires { ⌜ (at ≤ length (now bytes)) × (lines + (length (now bytes) - at) ≤ 18446744073709551615) ⌝ }
     ensures { λ r. ⌜ LinesJudged state lines (now (bytes .entry)) at r ⌝ }
@@ -71,8 +84,17 @@ pub fn judge_lines(state: State, lines: usize, bytes: &[u8], at: usize) -> Lines
     let mut s = state;
     let mut n = lines;
     let mut from = at;
-    let mut end = line::find_end(bytes, from);
-    while end < bytes.len() {
+    let mut wait = 0;
+    while from < bytes.len() {
+        let ahead = usual::run_ahead(s, bytes, from, wait);
+        s = ahead.state;
+        n += ahead.lines;
+        from = ahead.at;
+        wait = ahead.wait;
+        let end = line::find_end(bytes, from);
+        if bytes.len() <= end {
+            return so_far(s, n, from);
+        }
         match line_step(s, &bytes[from..end]) {
             Outcome::Next(next) => {
                 s = next;
@@ -89,15 +111,8 @@ pub fn judge_lines(state: State, lines: usize, bytes: &[u8], at: usize) -> Lines
         }
         n += 1;
         from = end + 1;
-        end = line::find_end(bytes, from);
     }
-    Lines {
-        state: s,
-        lines: n,
-        number: 0,
-        column: 0,
-        at: from,
-    }
+    so_far(s, n, from)
 }
 
 // A file that ends inside a set: 7, past its lines, in column 1.

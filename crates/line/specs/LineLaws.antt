@@ -71,6 +71,10 @@ allowed-no-return none i h = omega arith
 allowed-no-return (more l u a) zero h = omega arith
 allowed-no-return (more l u a) (suc i) h = allowed-no-return a i h
 
+pub allowed-append : {a b : List ℕ} → Allowed a → Allowed b → Allowed (a ++ b)
+allowed-append none r = r
+allowed-append (more l u a) r = more l u (allowed-append a r)
+
 pub columns-allowed : {cs : List ℕ} → Allowed cs → columns true cs ≡ cs
 columns-allowed {cs} a = columns-lf cs (allowed-no-return a (length cs - 1))
 

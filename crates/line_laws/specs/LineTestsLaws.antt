@@ -2,11 +2,11 @@
 use mathlib.Core.Path.{_≡_, refl, sym, ap, _∙_}
 use mathlib.Core.Bool.{Bool, true, false, _&&_}
 use mathlib.Core.List.{List}
-use Prim.Native.Nat.{ℕ, zero, suc, _-_, _≤_}
+use Prim.Native.Nat.{ℕ, _-_, _≤_}
 use lib.ListN.{length, take, replicate}
 use Rattle.laws.specs.ChoiceLaws.{and-left, false-not-true}
 use Rattle.text.specs.Blank.{Blanks, none, one, allBlank}
-use Rattle.text.specs.BlankLaws.{allBlank-complete, allBlank-sound, allBlank-append, blanks-append, blanks-replicate}
+use Rattle.text.specs.BlankLaws.{allBlank-complete, allBlank-sound, allBlank-append, blanks-append, blanks-take, blanks-replicate}
 use Rattle.line.specs.Line.{filled}
 use Rattle.line.specs.LineLaws.{filled-short}
 use Rattle.delimiter.specs.Kind.{isDelimiter}
@@ -14,11 +14,6 @@ use Rattle.delimiter.specs.KindLaws.{isDelimiter-complete, isDelimiter-sound, d
 use Rattle.theory.specs.Proper.{Inside}
 
 -- A blank line.
-
-pub blanks-take : {l : List ℕ} (n : ℕ) → Blanks l → Blanks (take n l)
-blanks-take zero b = none
-blanks-take (suc n) none = none
-blanks-take (suc n) (one b) = one (blanks-take n b)
 
 pub blankLine-complete : {cs : List ℕ} → Blanks cs → allBlank (filled cs) ≡ true
 unfolding filled

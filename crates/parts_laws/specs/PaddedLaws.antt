@@ -13,7 +13,7 @@ use lib.Seq.{getD-take, getD-drop}
 use Rattle.laws.specs.Choice.{pick}
 use Rattle.laws.specs.ChoiceLaws.{false-not-true, below-or-not}
 use Rattle.text.specs.Blank.{Blanks, allBlank}
-use Rattle.text.specs.BlankLaws.{allBlank-complete, allBlank-sound}
+use Rattle.text.specs.BlankLaws.{allBlank-complete, allBlank-sound, blanks-take}
 use Rattle.layout.specs.Columns.{lineOf, fieldOf, fieldStart, total}
 use Rattle.layout.specs.ColumnsLaws.{stored-at, fieldOf-inside}
 use Rattle.layout.specs.Layout.{layoutOf, fieldsOf}
@@ -30,7 +30,6 @@ use Rattle.record_laws.specs.GroupLaws.{blanks-at}
 use Rattle.theory.specs.Sets.{Set}
 use Rattle.theory.specs.Due.{linesFor}
 use Rattle.theory.specs.Proper.{SetLines}
-use Rattle.line_laws.specs.LineTestsLaws.{blanks-take}
 use Rattle.parts.specs.Parts.{Part}
 use Rattle.parts.specs.Parts as Parts
 use Rattle.parts.specs.Padding.{lastField, countedPast, remainder, paddingIn, paddingOf}

@@ -15,7 +15,7 @@ use lib.ListN.{length, getD, drop, drop-of-length-le, replicate, length-map, len
 use Rattle.laws.specs.Choice.{pick}
 use Rattle.laws.specs.ChoiceLaws.{below-or-not}
 use Rattle.text.specs.Blank.{Blanks, none, one}
-use Rattle.text.specs.BlankLaws.{allBlank-complete, blanks-replicate}
+use Rattle.text.specs.BlankLaws.{allBlank-complete, blanks-take, blanks-replicate}
 use Rattle.real.specs.Spelling.{RealSpelling, spelled}
 use Rattle.line.specs.Line.{columns, filled}
 use Rattle.line.specs.LineLaws.{filled-short}
@@ -36,7 +36,6 @@ use Rattle.record_laws.specs.GroupLaws.{blanks-at}
 use Rattle.theory.specs.Sets.{Set}
 use Rattle.theory.specs.Proper.{SetLines}
 use Rattle.theory.specs.Due.{linesFor, rowsHolding, setRows}
-use Rattle.line_laws.specs.LineTestsLaws.{blanks-take}
 use Rattle.parts.specs.Parts.{Part, lastLine}
 use Rattle.parts.specs.Parts as Parts
 use Rattle.parts.specs.Function as Function

@@ -252,7 +252,7 @@ fn on_blank(s: Scan) -> Scan
 }
 
 // Whether the byte is E, e, D or d.
-fn is_letter(b: u8) -> bool
+pub fn is_letter(b: u8) -> bool
     ensures { λ r. ⌜ r ≡ isLetter b ⌝ }
 {
     ((b == 69) | (b == 101)) | ((b == 68) | (b == 100))

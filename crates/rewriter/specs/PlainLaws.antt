@@ -7,6 +7,7 @@ use borrow.Author.Tests.{ne-eqb}
 use Rattle.text.specs.Blank.{Blanks, none, one}
 use Rattle.text.specs.BlankLaws.{blanks-append}
 use Rattle.line.specs.Line.{Allowed, Allowed.none as no-byte, Allowed.more as byte}
+use Rattle.line.specs.LineLaws.{allowed-append}
 use Rattle.rewriter.specs.Rewriter.{digitOrBlank, plainIn, plainNumber}
 
 -- 0 is blanks, any other number ends in its last digit
@@ -24,10 +25,6 @@ digit-allowed : (v : ℕ) → Allowed (digitOrBlank v ∷ [])
 unfolding digitOrBlank
 digit-allowed zero = byte {b = 32} (omega arith) (omega arith) no-byte
 digit-allowed (suc v) = rw (digit-of (suc v) (omega arith)) (byte {b = 48 + suc v % 10} (omega arith) (omega arith) no-byte)
-
-pub allowed-append : {a b : List ℕ} → Allowed a → Allowed b → Allowed (a ++ b)
-allowed-append no-byte r = r
-allowed-append (byte l u a) r = byte l u (allowed-append a r)
 
 plainIn-allowed : (w v : ℕ) → Allowed (plainIn w v)
 unfolding plainIn

@@ -13,7 +13,7 @@ use Rattle.line.specs.Line.{Allowed, Allowed.none as no-byte, Allowed.more as b
 use Rattle.real.specs.Real.{belowZero}
 use Rattle.decimal.specs.Decimal.{digitsOf, shown, signByte, minusText, coefficientText, exponentText, exponentOf, numberText, fieldText}
 use Rattle.decimal.specs.PutLaws.{exponent-cases}
-use Rattle.rewriter.specs.PlainLaws.{allowed-append}
+use Rattle.line.specs.LineLaws.{allowed-append}
 use Rattle.writer_laws.specs.FieldText.{Ends}
 
 -- what comes before it does not matter

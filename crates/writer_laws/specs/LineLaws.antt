@@ -11,7 +11,7 @@ use Rattle.text.specs.BlankLaws.{blanks-replicate}
 use Rattle.text.specs.Text.{last, Unpadded.more as byte, TextIn, text-in, trimmed}
 use Rattle.text.specs.TextLaws.{trimmed-complete}
 use Rattle.line.specs.Line.{Allowed, Allowed.none as no-byte, filled, lineFault, passed}
-use Rattle.line.specs.LineLaws.{filled-short, lineFault-complete, columns-allowed}
+use Rattle.line.specs.LineLaws.{filled-short, lineFault-complete, allowed-append, columns-allowed}
 use Rattle.delimiter.specs.Kind.{Delimiter, delimiter, isDelimiter}
 use Rattle.delimiter.specs.KindLaws.{isDelimiter-sound}
 use Rattle.layout.specs.Columns.{total}
@@ -23,7 +23,6 @@ use Rattle.decimal.specs.Decimal.{fieldText, ReadBack}
 use Rattle.decimal.specs.DecimalLaws.{fieldText-length, fits-read}
 use Rattle.rewriter.specs.Rewriter.{keptOf}
 use Rattle.rewriter.specs.Fair.{Fair}
-use Rattle.rewriter.specs.PlainLaws.{allowed-append}
 use Rattle.parts.specs.Parts.{closes}
 use Rattle.writer.specs.Writer.{decimalsOf}
 use Rattle.writer_laws.specs.DataLines.{fieldsText}

@@ -1,46 +1,42 @@
 -- `judge::judge_lines` meets its contract.
-use mathlib.Core.Path.{_≡_, refl, _∙_}
-use mathlib.Core.List.{List}
-use Prim.Native.Nat.{ℕ, _≤_, _+_, _-_}
-use lib.ListN.{length, drop}
-use Rattle.walk.specs.declared.State.{State}
-use Rattle.laws.specs.Cut.{lineLen, cut, over}
-use Rattle.line.specs.LineLaws.{lineLen-within}
-use Rattle.judge.specs.Judge.{going, runStep}
-use Rattle.judge.specs.LinesLaws.{lines-next, rest-next, judged-to-stop, judged-to-end}
+use mathlib.Core.Path.{refl, _∙_}
+use Prim.Native.Nat.{_-_}
+use lib.ListN.{length}
+use Rattle.judge.specs.LinesLaws.{Reached, reached-ahead, lines-next, rest-next, judged-to-stop, judged-to-end}
 use borrow.Author.Needs.{needs}
+use native.Mathlib.Omega.{arith}
 use Rattle.judge.proofs.judge_lines.Statement.{statement}
 use Rattle.judge.proofs.judge_lines.Tie as tie
 
--- the lines before the byte `from` are judged; the one that begins there ends at `end`
-record Going (lines : ℕ) (bytes : List ℕ) (at : ℕ) (s₀ s : State) (n from end : ℕ) : Type 0 where
-  from-within : from ≤ length bytes
-  end-is : end ≡ from + lineLen (drop from bytes)
-  end-within : end ≤ length bytes
-  few : n + at ≤ lines + from
-  same-lines : over runStep (going s n) (cut (drop from bytes) .lines) ≡ over runStep (going s₀ lines) (cut (drop at bytes) .lines)
-  same-rest : cut (drop from bytes) .rest ≡ cut (drop at bytes) .rest
-
 abbrev Inv-loop : tie.InvT-loop
-Inv-loop lines bytes at s₀ n₀ from₀ end₀ s n from end = Going lines bytes at s₀ s n from end
+Inv-loop lines bytes at s₀ n₀ from₀ wait₀ s n from wait = Reached bytes s₀ lines at s n from
 
 abbrev μ-loop : tie.MeasureT-loop
-μ-loop lines bytes at s₀ n₀ from₀ end₀ s n from end = length bytes - from
+μ-loop lines bytes at s₀ n₀ from₀ wait₀ s n from wait = length bytes - from
+
+loop-holds : tie.Need-loop-holds Inv-loop μ-loop
+loop-holds c = record { within = search needs; few = search needs; same-lines = refl; same-rest = refl }
+
+run-ahead-requires : tie.Need-run-ahead-requires Inv-loop μ-loop
+run-ahead-requires c κs = search needs
+
+add-n : tie.Need-add-n Inv-loop μ-loop
+add-n c = search needs
 
 find-end-requires : tie.Need-find-end-requires Inv-loop μ-loop
 find-end-requires c κs = search needs
 
-loop-holds : tie.Need-loop-holds Inv-loop μ-loop
-loop-holds c =
-    let within = c .before .before .pre .0 in
-    record {
-      from-within = within;
-      end-is = c .find-end .ensures;
-      end-within = rw (c .find-end .ensures) (lineLen-within _ _ within);
-      few = search needs;
-      same-lines = refl;
-      same-rest = refl;
-    }
+so-far-requires : tie.Need-so-far-requires Inv-loop μ-loop
+so-far-requires c κs = search needs
+
+returns : tie.Need-returns Inv-loop μ-loop
+returns c =
+    let at-end = c .before .before in
+    let at-ahead = at-end .before .before .before in
+    let at-loop = at-ahead .before .before in
+    let here = reached-ahead _ _ _ _ _ _ _ _ (at-loop .loop .inv) (at-ahead .run-ahead .ensures) in
+    let to-end = judged-to-end _ _ _ (here .within) (at-end .find-end .ensures) _ _ _ (at-loop .before .before .pre .0) _ _ (here .few) (here .same-lines) in
+    to-end (c .before .if1 .taken) (here .same-rest) _ (c .so-far .ensures)
 
 sub-line-step : tie.Need-sub-line-step Inv-loop μ-loop
 sub-line-step c = search needs
@@ -60,48 +56,51 @@ enum-known-next c = search needs
 enum-known-fault : tie.Need-enum-known-fault Inv-loop μ-loop
 enum-known-fault c = search needs
 
-returns : tie.Need-returns Inv-loop μ-loop
-returns c =
-    let at-loop-test = c .before .before .before .before .before in
-    let at-loop = at-loop-test .before in
-    let at-pre = at-loop .before .before .before in
-    let inv = at-loop .loop .inv in
-    let stop = judged-to-stop _ _ _ (inv .from-within) (inv .end-is) _ _ _ (at-pre .pre .0) _ _ (inv .few) (inv .same-lines) in
-    stop (at-loop-test .loop-test .taken) _ (c .before .before .before .line-step .ensures) _ (c .before .fault .given .1)
+returns-2 : tie.Need-returns-2 Inv-loop μ-loop
+returns-2 c =
+    let at-step = c .before .before .before in
+    let at-if1 = at-step .before .before in
+    let at-end = at-if1 .before in
+    let at-ahead = at-end .before .before .before in
+    let at-loop = at-ahead .before .before in
+    let here = reached-ahead _ _ _ _ _ _ _ _ (at-loop .loop .inv) (at-ahead .run-ahead .ensures) in
+    let stop = judged-to-stop _ _ _ (here .within) (at-end .find-end .ensures) _ _ _ (at-loop .before .before .pre .0) _ _ (here .few) (here .same-lines) in
+    stop (at-if1 .if1 .left) _ (at-step .line-step .ensures) _ (c .before .fault .given .1)
 
-add-n : tie.Need-add-n Inv-loop μ-loop
-add-n c = search needs
+add-n-2 : tie.Need-add-n-2 Inv-loop μ-loop
+add-n-2 c = search needs
 
 add-from : tie.Need-add-from Inv-loop μ-loop
 add-from c = search needs
-
-find-end-requires-2 : tie.Need-find-end-requires-2 Inv-loop μ-loop
-find-end-requires-2 c κs = search needs
 
 loop-less : tie.Need-loop-less Inv-loop μ-loop
 loop-less c = search needs
 
 loop-again : tie.Need-loop-again Inv-loop μ-loop
 loop-again c =
-    let at-line-step = c .before .before .before .before in
-    let at-loop-test = at-line-step .before .before in
-    let inv = at-loop-test .before .loop .inv in
-    let next = lines-next _ _ _ (inv .from-within) (inv .end-is) (at-loop-test .loop-test .taken) in
+    let at-step = c .before .before .before in
+    let at-if1 = at-step .before .before in
+    let at-end = at-if1 .before in
+    let at-ahead = at-end .before .before .before in
+    let inv = at-ahead .before .before .loop .inv in
+    let here = reached-ahead _ _ _ _ _ _ _ _ inv (at-ahead .run-ahead .ensures) in
+    let next = lines-next _ _ _ (here .within) (at-end .find-end .ensures) (at-if1 .if1 .left) in
     record {
-      from-within = search needs;
-      end-is = c .find-end2 .ensures;
-      end-within = rw (c .find-end2 .ensures) (lineLen-within _ _ (search needs));
-      few = search needs;
-      same-lines = next _ _ _ (at-line-step .line-step .ensures) _ (c .before .before .next .given .1) ∙ inv .same-lines;
-      same-rest = rest-next _ _ _ (inv .from-within) (inv .end-is) (at-loop-test .loop-test .taken) ∙ inv .same-rest;
+      within = search needs;
+      few = omega (arith, here .few, at-end .find-end .ensures);
+      same-lines = next _ _ _ (at-step .line-step .ensures) _ (c .before .next .given .1) ∙ here .same-lines;
+      same-rest = rest-next _ _ _ (here .within) (at-end .find-end .ensures) (at-if1 .if1 .left) ∙ here .same-rest;
     }
 
-returns-2 : tie.Need-returns-2 Inv-loop μ-loop
-returns-2 c =
-    let at-pre = c .before .before .before .before in
-    let inv = c .before .loop .inv in
-    let to-end = judged-to-end _ _ _ (inv .from-within) (inv .end-is) _ _ _ (at-pre .pre .0) _ _ (inv .few) (inv .same-lines) in
-    to-end (c .loop-test .left) (inv .same-rest)
+so-far-requires-2 : tie.Need-so-far-requires-2 Inv-loop μ-loop
+so-far-requires-2 c κs = search needs
+
+returns-3 : tie.Need-returns-3 Inv-loop μ-loop
+returns-3 c =
+    let at-loop = c .before .before in
+    let inv = at-loop .loop .inv in
+    let to-end = judged-to-end _ _ _ (inv .within) refl _ _ _ (at-loop .before .before .pre .0) _ _ (inv .few) (inv .same-lines) in
+    to-end (omega (arith, c .before .loop-test .left)) (inv .same-rest) _ (c .so-far2 .ensures)
 
 pub judge-lines-spec : {M : Type 1} → statement M
 judge-lines-spec =
@@ -109,18 +108,22 @@ judge-lines-spec =
     (tie.spec
     Inv-loop
     μ-loop
-    find-end-requires
     loop-holds
+    run-ahead-requires
+    add-n
+    find-end-requires
+    so-far-requires
+    returns
     sub-line-step
     part-line-step-start
     part-line-step-end
     line-step-requires
     enum-known-next
     enum-known-fault
-    returns
-    add-n
+    returns-2
+    add-n-2
     add-from
-    find-end-requires-2
     loop-less
     loop-again
-    returns-2)
+    so-far-requires-2
+    returns-3)

@@ -1,0 +1,23 @@
+use Rattle.usual.specs.CellsLaws.{grown-set}
+use native.Mathlib.Omega.{arith}
+use borrow.Author.Needs.{needs}
+use Rattle.usual.proofs.put_column.Statement.{statement}
+use Rattle.usual.proofs.put_column.Tie as tie
+use Rattle.usual.proofs.put_column.Reads as reads
+use Rattle.usual.proofs.put_column.Lts as lts
+
+element-write-lo : tie.Need-element-write-lo
+element-write-lo c = search needs
+
+element-write-span : tie.Need-element-write-span
+element-write-span c = search needs
+
+element-write-alt : tie.Need-element-write-alt
+element-write-alt c = search needs
+
+returns : tie.Need-returns
+returns c = grown-set _ _ _ _ _ (search needs)
+
+pub put-column-spec : {M : Type 1} → statement M
+put-column-spec =
+    tie.close (tie.spec element-write-lo element-write-span element-write-alt returns)

@@ -1,0 +1,150 @@
+-- The columns of a row, said once over its widths: where its fields begin, and that a line which fits them is refused for nothing by its row.
+use mathlib.Core.Path.{_≡_, refl, sym, ap, _∙_}
+use mathlib.Core.Bool.{Bool, true, false, _&&_}
+use mathlib.Core.List.{List, [], _∷_, _++_, map, append-assoc, append-nil}
+use Prim.Native.Nat.{ℕ, zero, suc, _+_, _-_, _≤_, _<_}
+use native.Mathlib.Nat.{le-of-suc-le-suc, not-suc-le-zero}
+use native.Mathlib.Numerals.{add-one}
+use native.Mathlib.Omega.{arith}
+use borrow.Author.Tests.{ne-eqb}
+use lib.Dec.{eqb}
+use lib.ListN.{length, getD, take, drop, replicate, length-append, length-replicate}
+use lib.Seq.{take-at, take-all, drop-at, drop-drop}
+use Rattle.text.specs.Blank.{Blanks}
+use Rattle.text.specs.BlankLaws.{allBlank-complete, blanks-take}
+use Rattle.line.specs.Line.{passed, Allowed}
+use Rattle.line.specs.LineLaws.{allowed-append}
+use Rattle.delimiter.specs.Kind.{isDelimiter, thenBlank}
+use Rattle.layout.specs.Columns.{fieldStart, fieldPast, total}
+use Rattle.layout.specs.ColumnsLaws.{fieldPast-total, fieldStart-next}
+use Rattle.real.specs.Spelling.{Letter}
+use Rattle.field.specs.Field.{fieldNumber}
+use Rattle.record_table.specs.Row.{Field}
+use Rattle.record_table.specs.Records.{E}
+use Rattle.record.specs.Check.{fieldsFault, stray, fieldsRefusal}
+use Rattle.record.specs.CheckLaws.{firstByte-blank, fieldsRefusal-passed}
+use Rattle.usual.specs.Cells.{Cell, blank, digit, lettered, sign, startCells, exponentCells, fieldCells, rowCells, Wide, Fits, Tables, Grown}
+use Rattle.usual.specs.CellsLaws.{grown-none, grown-on, fits-split, fits-length}
+use Rattle.usual.specs.FieldLaws.{Third, third, field-holds, field-allowed, field-third}
+
+-- a field has as many columns as it is wide
+pub field-length : (b w : ℕ) → 9 ≤ w → length (fieldCells b w) ≡ w
+unfolding fieldCells
+field-length b w h =
+    let n : length (replicate (w - 8) digit ++ (lettered b ∷ sign ∷ digit ∷ digit ∷ [])) ≡ w - 8 + 4
+    = length-append (replicate (w - 8) digit) (lettered b ∷ sign ∷ digit ∷ digit ∷ []) ∙ rw (length-replicate (w - 8) digit) refl in
+    omega arith
+
+-- its first columns, its digits and its exponent
+pub field-grown : (b at w from past : ℕ) (t u v x : Tables) → 9 ≤ w → from ≡ at + 4 → past ≡ at + w - 4 → Grown at startCells t u → Grown from (replicate (past - from) digit) u v
+    → Grown past (exponentCells b) v x → Grown at (fieldCells b w) t x
+unfolding fieldCells
+field-grown b at w from past t u v x low e f g h i =
+    let n : past - from ≡ w - 8 = omega arith in
+    let m : past ≡ from + length (replicate (w - 8) digit) = rw (length-replicate (w - 8) digit) (omega arith) in
+    let h′ : Grown from (replicate (w - 8) digit) u v = rw n at h in
+    grown-on at startCells (replicate (w - 8) digit ++ exponentCells b) t u x from e g (grown-on from (replicate (w - 8) digit) (exponentCells b) u v x past m h′ i)
+
+-- the fields before field k end where it begins
+pub row-start : (b : ℕ) {ws : List ℕ} (k : ℕ) → Wide ws → length (rowCells b (take k ws)) ≡ fieldStart ws k
+unfolding rowCells fieldStart
+row-start b zero h = refl
+row-start b (suc k) Wide.none = refl
+row-start b (suc k) (Wide.more {w} {ws} low high h) =
+    length-append (fieldCells b w) (rowCells b (take k ws)) ∙ rw (field-length b w low, row-start b k h) refl
+
+pub row-length : (b : ℕ) {ws : List ℕ} → Wide ws → length (rowCells b ws) ≡ total ws
+unfolding rowCells total
+row-length b Wide.none = refl
+row-length b (Wide.more {w} {ws} low high h) = length-append (fieldCells b w) (rowCells b ws) ∙ rw (field-length b w low, row-length b h) refl
+
+-- one field more
+row-suc : (b : ℕ) (ws : List ℕ) (k : ℕ) → k < length ws → rowCells b (take (suc k) ws) ≡ rowCells b (take k ws) ++ fieldCells b (getD ws k 0)
+unfolding rowCells
+row-suc b [] k h = absurd (not-suc-le-zero h)
+row-suc b (w ∷ ws) zero h = append-nil (fieldCells b w)
+row-suc b (w ∷ ws) (suc k) h =
+    ap (λ (l : List Cell). fieldCells b w ++ l) (row-suc b ws k (le-of-suc-le-suc h))
+    ∙ sym (append-assoc (fieldCells b w) (rowCells b (take k ws)) (fieldCells b (getD ws k 0)))
+
+pub row-next : (b : ℕ) (ws : List ℕ) (k : ℕ) → k < length ws → rowCells b (take (k + 1) ws) ≡ rowCells b (take k ws) ++ fieldCells b (getD ws k 0)
+row-next b ws k h = rw (add-one k) (row-suc b ws k h)
+
+-- a loop over the widths: none, one more, all
+module _ (b : ℕ) (ws : List ℕ) (t : Tables) where
+  pub row-grown-none : Grown 0 (rowCells b (take 0 ws)) t t
+  unfolding rowCells
+  row-grown-none = grown-none 0 t
+
+  pub row-grown-next : (k at w : ℕ) (u v : Tables) → Wide ws → k < length ws → at ≡ fieldStart ws k → w ≡ getD ws k 0 → Grown 0 (rowCells b (take k ws)) t u
+      → Grown at (fieldCells b w) u v → Grown 0 (rowCells b (take (k + 1) ws)) t v
+  row-grown-next k at w u v wide h e f g m =
+      rw (row-next b ws k h, ← f)
+      (grown-on 0 (rowCells b (take k ws)) (fieldCells b w) t u v at (rw (row-start b k wide) (omega arith)) g m)
+
+  pub row-grown-all : (k : ℕ) (u : Tables) → length ws ≤ k → Grown 0 (rowCells b (take k ws)) t u → Grown 0 (rowCells b ws) t u
+  row-grown-all k u h g = rw (take-all k ws h) at g
+
+pub wide-at : {ws : List ℕ} (k : ℕ) → Wide ws → k < length ws → 9 ≤ getD ws k 0
+wide-at k Wide.none h = absurd (not-suc-le-zero h)
+wide-at zero (Wide.more low high r) h = low
+wide-at (suc k) (Wide.more low high r) h = wide-at k r (le-of-suc-le-suc h)
+
+-- a field of a row has room
+pub row-room : (ws : List ℕ) (k at w : ℕ) → Wide ws → total ws ≤ 80 → k < length ws → at ≡ fieldStart ws k → w ≡ getD ws k 0 → (at + w ≤ 80) × (9 ≤ w)
+unfolding fieldPast
+row-room ws k at w wide few h e f = (omega (arith, fieldPast-total ws k), omega (arith, wide-at k wide h))
+
+pub row-on : (ws : List ℕ) (k at w : ℕ) → at ≡ fieldStart ws k → w ≡ getD ws k 0 → at + w ≡ fieldStart ws (k + 1)
+unfolding fieldPast
+row-on ws k at w e f = omega (arith, rw (← add-one k) at (fieldStart-next ws k))
+
+module _ (b : ℕ) (x : Letter b) where
+  pub row-allowed : {ws r : List ℕ} → Wide ws → Fits (rowCells b ws) r → Allowed r
+  unfolding rowCells
+  row-allowed Wide.none Fits.none = Allowed.none
+  row-allowed (Wide.more {w} {ws} low high h) f =
+      let s = fits-split (fieldCells b w) (rowCells b ws) f in
+      rw (s .is) (allowed-append (field-allowed b w x (s .fits-first)) (row-allowed h (s .fits-second)))
+
+  -- a line that begins with such columns, then blanks, by the fields from one column on
+  pub record Clear (ws : List ℕ) (at : ℕ) (line : List ℕ) : Type 0 where
+    pub no-fault : fieldsFault (map E ws) at line ≡ passed
+    pub no-stray : stray (map E ws) at line ≡ 0
+
+  row-clear : {ws : List ℕ} (at : ℕ) (line : List ℕ) {r bl : List ℕ} → Wide ws → drop at line ≡ r ++ bl → Fits (rowCells b ws) r → Blanks bl → Clear ws at line
+  unfolding rowCells fieldsFault stray fieldNumber
+  row-clear at line {bl = bl} Wide.none e Fits.none n =
+      record { no-fault = refl; no-stray = rw e (firstByte-blank (at + 1) (take (80 - at) bl) (allBlank-complete (blanks-take (80 - at) n))) }
+  row-clear at line {bl = bl} (Wide.more {w} {ws} low high h) e f n =
+      let s = fits-split (fieldCells b w) (rowCells b ws) f in
+      let k : length (s .first) ≡ w = fits-length (s .fits-first) ∙ field-length b w low in
+      let parts : drop at line ≡ s .first ++ (s .second ++ bl) = e ∙ ap (λ (m : List ℕ). m ++ bl) (s .is) ∙ append-assoc (s .first) (s .second) bl in
+      let here : take w (drop at line) ≡ s .first = rw parts (take-at (s .first) (s .second ++ bl) w k) in
+      let on : drop (at + w) line ≡ s .second ++ bl = sym (drop-drop w at line) ∙ rw parts (drop-at (s .first) (s .second ++ bl) w k) in
+      let rest = row-clear (at + w) line h on (s .fits-second) n in
+      record { no-fault = rw (here, field-holds b w x high (s .fits-first) .is) (rest .no-fault); no-stray = rest .no-stray }
+
+  pub row-passes : {ws : List ℕ} (line : List ℕ) {r bl : List ℕ} → Wide ws → line ≡ r ++ bl → Fits (rowCells b ws) r → Blanks bl → fieldsRefusal (map E ws) line ≡ passed
+  row-passes {ws} line h e f n =
+      let c = row-clear 0 line h e f n in
+      fieldsRefusal-passed (map E ws) line passed (sym (c .no-fault)) (omega arith) 0 (sym (c .no-stray)) (omega arith)
+
+-- such a line is no delimiter
+third-append : {a : List ℕ} (b : List ℕ) → Third a → Third (a ++ b)
+third-append b (third x y n) = third x y n
+
+third-delimiter : {l : List ℕ} → Third l → isDelimiter l ≡ false
+unfolding isDelimiter thenBlank
+third-delimiter (third a b {c} {l} n) = rw (ne-eqb c 32 n) (go (eqb a 32) (eqb b 32))
+  where
+    go : (t u : Bool) → t && (u && false) ≡ false
+    go true true = refl
+    go true false = refl
+    go false u = refl
+
+pub row-delimiter : (b w : ℕ) (ws : List ℕ) (line bl : List ℕ) {r : List ℕ} → line ≡ r ++ bl → Fits (rowCells b (w ∷ ws)) r → isDelimiter line ≡ false
+unfolding rowCells
+row-delimiter b w ws line bl e f =
+    let s = fits-split (fieldCells b w) (rowCells b ws) f in
+    ap isDelimiter (e ∙ ap (λ (m : List ℕ). m ++ bl) (s .is)) ∙ third-delimiter (third-append bl (third-append (s .second) (field-third b w (s .fits-first))))

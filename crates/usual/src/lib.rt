@@ -1,0 +1,383 @@
+// Whole lines at once: full data lines of a 58 in their usual spelling, tested by their columns and taken in a run.
+ghost use mathlib.Core.Path.{_≡_};
+ghost use mathlib.Core.Bool.{true};
+ghost use mathlib.Core.List.{[], _∷_, _++_};
+ghost use Prim.Native.Nat.{_+_, _-_, _≤_, _<_};
+ghost use lib.ListN.{length, replicate};
+ghost use Rattle.layout.specs.Columns.{total};
+ghost use Rattle.usual.specs.Cells.{cell, tables, Grown, Laid, Passed, startCells, exponentCells, fieldCells, rowCells, tableCells, Wide};
+ghost use Rattle.usual.specs.Taken.{Ends, Shaped, Ready, run, Ran, ahead, RanAhead};
+ghost use Rattle.walk.specs.Step.{state};
+use laws::index;
+use record_table::HEADER_LINES;
+use record_table::KIND_58;
+use std::num::wrapping_sub_u8;
+use walk::Due;
+use walk::Place;
+use walk::State;
+
+// The lines of a run: the case of their 58 and its fields, the letter of their exponents, how many columns they have, and how many bytes with
+// their end, of which `mark` is the first.
+pub struct Shape {
+    pub case: usize,
+    pub fields: usize,
+    pub letter: u8,
+    pub columns: usize,
+    pub mark: u8,
+    pub size: usize,
+}
+
+// Lines taken in one go: how many, the byte past them, and how many numbers are left.
+pub struct Run {
+    pub lines: usize,
+    pub at: usize,
+    pub left: usize,
+}
+
+// Lines taken in one go: the state after them, how many, the byte past them, and for how many lines it need not be tried again.
+pub struct Ahead {
+    pub state: State,
+    pub lines: usize,
+    pub at: usize,
+    pub wait: usize,
+}
+
+// For how many lines a run is not tried again where none was taken.
+const WAIT: usize = 15;
+
+// Puts what one column takes: the bytes from `least` to as far as `reach` past it, and `other`.
+fn put_column(
+    lo: &mut [u8; 80],
+    span: &mut [u8; 80],
+    alt: &mut [u8; 80],
+    at: usize,
+    least: u8,
+    reach: u8,
+    other: u8,
+)
+    requires { ⌜ at < 80 ⌝ }
+    ensures { λ _. ⌜ Grown at (cell least reach other ∷ []) (tables (now (lo .entry)) (now (span .entry)) (now (alt .entry))) (tables (now (lo .exit)) (now (span .exit)) (now (alt .exit))) ⌝ }
+{
+    lo[at] = least;
+    span[at] = reach;
+    alt[at] = other;
+}
+
+// Puts the same into the columns from `at` to before `past`.
+fn put_columns(
+    lo: &mut [u8; 80],
+    span: &mut [u8; 80],
+    alt: &mut [u8; 80],
+    at: usize,
+    past: usize,
+    least: u8,
+    reach: u8,
+    other: u8,
+)
+    requires { ⌜ (at ≤ past) × (past ≤ 80) ⌝ }
+    ensures { λ _. ⌜ Grown at (replicate (past - at) (cell least reach other)) (tables (now (lo .entry)) (now (span .entry)) (now (alt .entry))) (tables (now (lo .exit)) (now (span .exit)) (now (alt .exit))) ⌝ }
+{
+    let mut i = at;
+    while i < past {
+        put_column(lo, span, alt, i, least, reach, other);
+        i += 1;
+    }
+}
+
+// Puts a field's first four columns: a blank, a blank or a minus, a digit, the point.
+fn put_start(lo: &mut [u8; 80], span: &mut [u8; 80], alt: &mut [u8; 80], at: usize)
+    requires { ⌜ at + 4 ≤ 80 ⌝ }
+    ensures { λ _. ⌜ Grown at startCells (tables (now (lo .entry)) (now (span .entry)) (now (alt .entry))) (tables (now (lo .exit)) (now (span .exit)) (now (alt .exit))) ⌝ }
+{
+    put_column(lo, span, alt, at, 32, 0, 32);
+    put_column(lo, span, alt, at + 1, 32, 0, 45);
+    put_column(lo, span, alt, at + 2, 48, 9, 48);
+    put_column(lo, span, alt, at + 3, 46, 0, 46);
+}
+
+// Puts a field's last four columns: the letter, a sign, two digits.
+fn put_exponent(lo: &mut [u8; 80], span: &mut [u8; 80], alt: &mut [u8; 80], at: usize, letter: u8)
+    requires { ⌜ at + 4 ≤ 80 ⌝ }
+    ensures { λ _. ⌜ Grown at (exponentCells letter) (tables (now (lo .entry)) (now (span .entry)) (now (alt .entry))) (tables (now (lo .exit)) (now (span .exit)) (now (alt .exit))) ⌝ }
+{
+    put_column(lo, span, alt, at, letter, 0, letter);
+    put_column(lo, span, alt, at + 1, 43, 0, 45);
+    put_column(lo, span, alt, at + 2, 48, 9, 48);
+    put_column(lo, span, alt, at + 3, 48, 9, 48);
+}
+
+// Puts a field of the usual spelling.
+fn put_field(
+    lo: &mut [u8; 80],
+    span: &mut [u8; 80],
+    alt: &mut [u8; 80],
+    at: usize,
+    width: usize,
+    letter: u8,
+)
+    requires { ⌜ (at + width ≤ 80) × (9 ≤ width) ⌝ }
+    ensures { λ _. ⌜ Grown at (fieldCells letter width) (tables (now (lo .entry)) (now (span .entry)) (now (alt .entry))) (tables (now (lo .exit)) (now (span .exit)) (now (alt .exit))) ⌝ }
+{
+    let digits = at + 4;
+    let exponent = at + width - 4;
+    put_start(lo, span, alt, at);
+    put_columns(lo, span, alt, digits, exponent, 48, 9, 48);
+    put_exponent(lo, span, alt, exponent, letter);
+}
+
+// Puts the fields of a row of these widths; answers the column past them.
+fn put_row(
+    lo: &mut [u8; 80],
+    span: &mut [u8; 80],
+    alt: &mut [u8; 80],
+    widths: &[u8],
+    letter: u8,
+) -> usize
+    requires { ⌜ Wide (now widths) × (total (now widths) ≤ 80) ⌝ }
+    ensures { λ r. ⌜ (r ≡ total (now (widths .entry))) × Grown 0 (rowCells letter (now (widths .entry))) (tables (now (lo .entry)) (now (span .entry)) (now (alt .entry))) (tables (now (lo .exit)) (now (span .exit)) (now (alt .exit))) ⌝ }
+{
+    let mut at = 0;
+    let mut k = 0;
+    while k < widths.len() {
+        let width = index(widths[k]);
+        put_field(lo, span, alt, at, width, letter);
+        at += width;
+        k += 1;
+    }
+    at
+}
+
+// Puts the tables of a line of such a row: its fields, blanks up to column `columns`, and any byte past it.
+fn put_tables(
+    lo: &mut [u8; 80],
+    span: &mut [u8; 80],
+    alt: &mut [u8; 80],
+    widths: &[u8],
+    letter: u8,
+    columns: usize,
+)
+    requires { ⌜ Wide (now widths) × (total (now widths) ≤ columns) × (columns ≤ 80) ⌝ }
+    ensures { λ _. ⌜ Laid (tableCells letter (now (widths .entry)) columns) (tables (now (lo .exit)) (now (span .exit)) (now (alt .exit))) ⌝ }
+{
+    *lo = [0u8; 80];
+    *span = [0u8; 80];
+    *alt = [0u8; 80];
+    let past = put_row(lo, span, alt, widths, letter);
+    put_columns(lo, span, alt, past, columns, 32, 0, 32);
+    put_columns(lo, span, alt, columns, 80, 0, 255, 0);
+}
+
+// Whether each of the 80 bytes from `at` on is one that its column takes.
+fn passes(s: &[u8], at: usize, lo: &[u8; 80], span: &[u8; 80], alt: &[u8; 80]) -> bool
+    requires { ⌜ at + 80 ≤ length (now s) ⌝ }
+    ensures { λ r. ⌜ (r ≡ true → Passed (tables (now (lo .entry)) (now (span .entry)) (now (alt .entry))) (now (s .entry)) at 80) ⌝ }
+{
+    let mut ok = true;
+    let mut i = 0;
+    while i < 80 {
+        let b = s[at + i];
+        ok = ok & ((wrapping_sub_u8(b, lo[i]) <= span[i]) | (b == alt[i]));
+        i += 1;
+    }
+    ok
+}
+
+// The lines of this shape from byte `at` on that pass, as far as the last data line.
+fn passed_lines(
+    s: &[u8],
+    at: usize,
+    left: usize,
+    shape: Shape,
+    lo: &[u8; 80],
+    span: &[u8; 80],
+    alt: &[u8; 80],
+) -> Run
+    requires { ⌜ (at ≤ length (now s)) × Ready shape (tables (now lo) (now span) (now alt)) ⌝ }
+    ensures { λ r. ⌜ Ran (now (s .entry)) (shape .case) at left r ⌝ }
+{
+    let fields = shape.fields;
+    let columns = shape.columns;
+    let mark = shape.mark;
+    let size = shape.size;
+    let mut a = at;
+    let mut lines = 0;
+    let mut rest = left;
+    while fields < rest {
+        if s.len() - a < 82 {
+            return Run {
+                lines,
+                at: a,
+                left: rest,
+            };
+        }
+        let ends = (s[a + columns] == mark) & (s[a + size - 1] == 10);
+        if !(ends & passes(s, a, lo, span, alt)) {
+            return Run {
+                lines,
+                at: a,
+                left: rest,
+            };
+        }
+        a += size;
+        lines += 1;
+        rest -= fields;
+    }
+    Run {
+        lines,
+        at: a,
+        left: rest,
+    }
+}
+
+// The lines of this shape from byte `at` on that pass.
+fn tabled_run(s: &[u8], at: usize, left: usize, shape: Shape) -> Run
+    requires { ⌜ (at ≤ length (now s)) × Shaped shape ⌝ }
+    ensures { λ r. ⌜ Ran (now (s .entry)) (shape .case) at left r ⌝ }
+{
+    let fields = shape.fields;
+    let widths = layout::line_widths(shape.case);
+    let mut lo = [0u8; 80];
+    let mut span = [0u8; 80];
+    let mut alt = [0u8; 80];
+    put_tables(
+        &mut lo,
+        &mut span,
+        &mut alt,
+        &widths[..fields],
+        shape.letter,
+        shape.columns,
+    );
+    passed_lines(s, at, left, shape, &lo, &span, &alt)
+}
+
+// No line is taken.
+fn no_run(at: usize, left: usize) -> Run
+    ensures { λ r. ⌜ r ≡ run 0 at left ⌝ }
+{
+    Run { lines: 0, at, left }
+}
+
+// Data lines of this case, columns and end from byte `at` on, with the letter of the first one's first field.
+fn marked_run(
+    s: &[u8],
+    at: usize,
+    case: usize,
+    left: usize,
+    columns: usize,
+    mark: u8,
+    size: usize,
+) -> Run
+    requires { ⌜ (case < 8) × (at + columns < length (now s)) × Ends columns mark size ⌝ }
+    ensures { λ r. ⌜ Ran (now (s .entry)) case at left r ⌝ }
+{
+    if columns < layout::field_start(case, 6) {
+        return no_run(at, left);
+    }
+    if 80 < columns {
+        return no_run(at, left);
+    }
+    let letter = s[at + layout::field_width(case, 0) - 4];
+    if !real::is_letter(letter) {
+        return no_run(at, left);
+    }
+    let shape = Shape {
+        case,
+        fields: layout::fields_of(case),
+        letter,
+        columns,
+        mark,
+        size,
+    };
+    tabled_run(s, at, left, shape)
+}
+
+// Data lines of this case in their usual spelling from byte `at` on, where four full ones at least are left: how many columns they have and how they end is the first one's.
+fn run_of(s: &[u8], at: usize, case: usize, left: usize) -> Run
+    requires { ⌜ at ≤ length (now s) ⌝ }
+    ensures { λ r. ⌜ Ran (now (s .entry)) case at left r ⌝ }
+{
+    if 8 <= case {
+        return no_run(at, left);
+    }
+    if left / 4 < layout::fields_of(case) {
+        return no_run(at, left);
+    }
+    let end = line::find_end(s, at);
+    if s.len() <= end {
+        return no_run(at, left);
+    }
+    if end <= at {
+        return no_run(at, left);
+    }
+    let last = end - 1;
+    if s[last] == 13 {
+        return marked_run(s, at, case, left, last - at, 13, last - at + 2);
+    }
+    marked_run(s, at, case, left, end - at, 10, end - at + 1)
+}
+
+// No line is taken, and none tried for so many.
+fn not_ahead(state: State, at: usize, wait: usize) -> Ahead
+    ensures { λ r. ⌜ r ≡ ahead state 0 at wait ⌝ }
+{
+    Ahead {
+        state,
+        lines: 0,
+        at,
+        wait,
+    }
+}
+
+// In a typed set: the data lines of a 58.
+fn typed_ahead(d: Due, sets: u32, bytes: &[u8], at: usize) -> Ahead
+    requires { ⌜ at ≤ length (now bytes) ⌝ }
+    ensures { λ r. ⌜ RanAhead (now (bytes .entry)) (state (Place.Typed d) sets) at r ⌝ }
+{
+    let here = State {
+        place: Place::Typed(d),
+        sets,
+    };
+    if d.kind != KIND_58 {
+        return not_ahead(here, at, 0);
+    }
+    if d.at != HEADER_LINES {
+        return not_ahead(here, at, 0);
+    }
+    let run = run_of(bytes, at, d.case, d.left);
+    if run.lines == 0 {
+        return not_ahead(here, at, WAIT);
+    }
+    let due = Due {
+        kind: KIND_58,
+        at: HEADER_LINES,
+        case: d.case,
+        left: run.left,
+        second: d.second,
+    };
+    Ahead {
+        state: State {
+            place: Place::Typed(due),
+            sets,
+        },
+        lines: run.lines,
+        at: run.at,
+        wait: 0,
+    }
+}
+
+// The lines in their usual spelling from byte `at` on, none where it waits: the state after them, as the step of each gives it.
+pub fn run_ahead(s: State, bytes: &[u8], at: usize, wait: usize) -> Ahead
+    requires { ⌜ at ≤ length (now bytes) ⌝ }
+    ensures { λ r. ⌜ RanAhead (now (bytes .entry)) s at r ⌝ }
+{
+    if 0 < wait {
+        return not_ahead(s, at, wait - 1);
+    }
+    let place = s.place;
+    match place {
+        Place::Typed(d) => typed_ahead(d, s.sets, bytes, at),
+        Place::Outside => not_ahead(s, at, 0),
+        Place::Number => not_ahead(s, at, 0),
+        Place::Plain => not_ahead(s, at, 0),
+    }
+}
