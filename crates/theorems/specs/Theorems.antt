@@ -14,12 +14,15 @@ use Rattle.laws.specs.Cut.{cut}
 use Rattle.real.specs.Real.{realOf}
 use Rattle.exact.specs.Exact.{magnitudeOf}
 use Rattle.exact.specs.Bits.{bitsOf}
-use Rattle.layout.specs.Layout.{numbersOf}
+use Rattle.layout.specs.Columns.{fieldStart}
+use Rattle.layout.specs.Layout.{layoutOf, numbersOf}
 use Rattle.line.specs.declared.Refusal.{Refusal}
+use Rattle.field.specs.Field.{columnsOf}
 use Rattle.field.specs.Item.{Item}
 use Rattle.record_table.specs.Row.{paddingFields, firstFields}
 use Rattle.record_table.specs.Records.{plain, recordOf, dataRow}
 use Rattle.record_table.specs.TypedSets.{headerLines}
+use Rattle.record.specs.Check.{remainderIn}
 use Rattle.judge.specs.declared.Reply.{Reply}
 use Rattle.judge.specs.Judge.{judged, reply, replyAt, atLine}
 use Rattle.parts.specs.Parts.{Part, partsOf, datasetOf, pastOf, lineOf, lastLine}
@@ -64,6 +67,7 @@ use Rattle.theorems.specs.Alone.{aloneIn, setsAlone, together, Alone}
 use Rattle.theorems.specs.LaidOut.{writtenText, Writable, LaidOut, ReadAs}
 use Rattle.exact.specs.ExactLaws as ExactLaws
 use Rattle.record_table.specs.PaddingLaws as RowLaws
+use Rattle.record.specs.TakenLaws as TakenLaws
 use Rattle.host.specs.PackedLaws as PackedLaws
 use Rattle.parts_laws.specs.PaddingLaws as PaddingLaws
 use Rattle.rewriter_laws.specs.UnpaddedLaws as UnpaddedLaws
@@ -209,6 +213,10 @@ module _ {header : List ℕ} {xs ss : List ℤ} (l : LaidOut header xs ss) where
 -- only what is left; lines before the last have none, and no line of any other record, however few of its fields are due
 pub padding-of-row : (n c : ℕ) → paddingFields (firstFields n (dataRow c)) ≡ drop n (dataRow c .fields)
 padding-of-row = RowLaws.data-padding
+
+pub remainder-of-row : (c n : ℕ) (line : List ℕ)
+    → remainderIn (firstFields n (dataRow c)) line ≡ columnsOf (fieldStart (layoutOf c .widths) n) (fieldStart (layoutOf c .widths) 6) line
+remainder-of-row = TakenLaws.data-remainder
 
 pub padding-last : (c left k : ℕ) → suc k < length (rowsHolding (dataRow c) left) → paddingFields (getD (rowsHolding (dataRow c) left) k (plain [])) ≡ []
 padding-last = PaddingLaws.full-unpadded

@@ -1,10 +1,11 @@
 -- Lines and numbers that document 01 names ("Records", "Easy to get wrong"), computed from the definitions.
 use mathlib.Core.Path.{_≡_, refl}
-use mathlib.Core.List.{[], _∷_, map}
-use Prim.Native.Nat.{_*_}
+use mathlib.Core.List.{List, [], _∷_, map}
+use Prim.Native.Nat.{ℕ, _+_, _*_}
 use lib.ListN.{length}
-use Rattle.layout.specs.Layout.{layouts, layoutOf, numbersOf}
-use Rattle.record_table.specs.Row.{Row, paddingFields}
+use Rattle.laws.specs.Table.{tabulate}
+use Rattle.layout.specs.Layout.{layouts, layoutOf, fieldsOf, valuesOf, numbersOf}
+use Rattle.record_table.specs.Row.{Row, paddingFields, firstFields}
 use Rattle.record_table.specs.Records.{records, recordOf, dataRow, orderLists}
 use Rattle.theory.specs.Due.{linesFor, numberRows, rowsHolding}
 
@@ -17,6 +18,15 @@ eight-in-case-1 = refl
 pub padding-in-case-1 : map (λ (r : Row). length (paddingFields r)) (rowsHolding (dataRow 0) 8) ≡ 0 ∷ 4 ∷ []
 unfolding linesFor numberRows dataRow layoutOf layouts
 padding-in-case-1 = refl
+
+-- by the case and the values of its last line, from 1 to as many as a full line holds: "A line that is full by its count has no remainder"; reading H4
+abbrev pub paddings : ℕ → List ℕ
+paddings c = tabulate (λ (k : ℕ). length (paddingFields (firstFields ((k + 1) * numbersOf c) (dataRow c)))) 0 (valuesOf c)
+
+pub padding-by-case : tabulate paddings 0 8
+    ≡ (5 ∷ 4 ∷ 3 ∷ 2 ∷ 1 ∷ 0 ∷ []) ∷ (4 ∷ 2 ∷ 0 ∷ []) ∷ (4 ∷ 2 ∷ 0 ∷ []) ∷ (3 ∷ 0 ∷ []) ∷ (3 ∷ 2 ∷ 1 ∷ 0 ∷ []) ∷ (2 ∷ 0 ∷ []) ∷ (2 ∷ 0 ∷ []) ∷ (0 ∷ []) ∷ []
+unfolding numbersOf valuesOf fieldsOf dataRow layoutOf layouts
+padding-by-case = refl
 
 pub orders-unpadded : map (λ (r : Row). length (paddingFields r)) (rowsHolding (recordOf orderLists) 7) ≡ 0 ∷ 0 ∷ []
 unfolding linesFor numberRows recordOf records

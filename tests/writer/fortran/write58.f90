@@ -8,7 +8,7 @@
 ! numbers of sizes 10^-300 to 10^300: where an exponent needs three digits, the letter is dropped.
 !
 ! full-old.uff and full-zero.uff have the eight cases with several counts each, written by the output
-! statements of Addendum B as printed there (in capitals below): they write whole lines, so that the last
+! statements of Addendum B as printed there but in case 8 (in capitals below): they write whole lines, so that the last
 ! line is full past the count. What stands there is what the arrays still hold: in full-old.uff the line
 ! before's numbers, or those of an earlier capture; in full-zero.uff zeros, the arrays being cleared.
 program write58
