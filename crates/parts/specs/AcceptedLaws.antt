@@ -35,7 +35,7 @@ use Rattle.judge.specs.RefusalLaws.{refusal-sure}
 use Rattle.judge.specs.Lines.{LinesJudged}
 use Rattle.parts.specs.Parts.{columnsIn, closes, Part, part, PartState, outside, opened, inside, next, ended, partsFrom, partsOf}
 use Rattle.parts.specs.SixLaws.{delimiter-six, number-six}
-use Rattle.parts.specs.Accepted.{Alike, out, number, plain, typed, openIn, Sixes, AllSixes, none, more, Stepped, Walked}
+use Rattle.parts.specs.Accepted.{Alike, out, number, plain, typed, openIn, AllSixes, none, more, Stepped, Walked}
 
 never : {A : Type 0} (f : Refusal) (t : State) → Refused f ≡ Next t → A
 never f t e = let z : _≡_ {A = ℕ} 0 1 = cc in absurd (omega arith)
@@ -78,7 +78,8 @@ module _ (k n at : ℕ) (l : List ℕ) (t : State) where
   unfolding outsideStep
   outside-step h = outside-by (allBlank (columnsIn l)) (isDelimiter (columnsIn l)) (ltb k 4096) refl refl h
 
-  number-by : (m b : ℕ) (o : List ℕ) (c u : Bool) → 6 ≤ length o → ltb 0 (datasetNumber (columnsIn l)) ≡ c → pick c (Next (state (pick u (Typed (opening (kindOf (datasetNumber (columnsIn l))))) Plain) k)) (Refused (refusal 6 1)) ≡ Next t
+  number-by : (m b : ℕ) (o : List ℕ) (c u : Bool) → 6 ≤ length o → ltb 0 (datasetNumber (columnsIn l)) ≡ c
+      → pick c (Next (state (pick u (Typed (opening (kindOf (datasetNumber (columnsIn l))))) Plain) k)) (Refused (refusal 6 1)) ≡ Next t
       → Stepped Number k t (opened m b o) n at l
   number-by m b o true true g q h = stepped-to _ _ _ _ _ _ _ _ h (record { alike = typed g (number-long l q); count = omega arith; sixes = none })
   number-by m b o true false g q h = stepped-to _ _ _ _ _ _ _ _ h (record { alike = plain g (number-long l q); count = omega arith; sixes = none })

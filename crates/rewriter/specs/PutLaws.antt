@@ -14,7 +14,7 @@ use Rattle.parts.specs.PartsLaws.{bytesIn-append}
 use Rattle.parts.specs.declared.Extent.{Extent}
 use Rattle.parts.specs.Set.{remaining, Standing}
 use Rattle.parts.specs.SetLaws.{standing}
-use Rattle.parts.specs.Accepted.{Sixes, AllSixes, none, more}
+use Rattle.parts.specs.Accepted.{Sixes, AllSixes, more}
 use Rattle.parts.specs.AcceptedLaws.{sets-whole}
 use Rattle.parts.specs.Function.{partCase, storedOf}
 use Rattle.parts.specs.declared.Counted.{Counted}

@@ -2,7 +2,6 @@
 use mathlib.Core.Path.{refl}
 use Rattle.judge.specs.JudgeLaws.{judged-short}
 use Rattle.rewriter.specs.PutLaws.{file-room}
-use borrow.Author.Needs.{needs}
 use Rattle.rewriter.proofs.has_room.Statement.{statement}
 use Rattle.rewriter.proofs.has_room.Tie as tie
 

@@ -1,5 +1,4 @@
 -- `rewriter::rewrite` meets its contract.
-use mathlib.Core.Path.{refl}
 use borrow.Author.Tests.{not-true, not-false}
 use Rattle.rewriter.specs.PutLaws.{refused-both, room-known, short-both, accepted-both}
 use borrow.Author.Needs.{needs}
