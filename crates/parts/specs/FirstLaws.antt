@@ -8,7 +8,7 @@ use native.Mathlib.Numerals.{add-one}
 use native.Mathlib.Omega.{arith}
 use borrow.Author.Tests.{eqb-false}
 use lib.Dec.{eqb}
-use lib.ListN.{length, getD, take, drop, length-append, take-append-drop, length-take}
+use lib.ListN.{length, getD, take, drop, length-append}
 use lib.Seq.{getD-drop, length-take-le, take-suc, take-all}
 use Rattle.laws.specs.Choice.{pick}
 use Rattle.laws.specs.ChoiceLaws.{below-or-not, false-not-true}
@@ -21,7 +21,7 @@ use Rattle.parts.specs.PartsLaws.{bytesIn-append, lines-at, line-length,
 use Rattle.parts.specs.Scan.{extent, nowhere, firstOf}
 use Rattle.parts.specs.Set.{remaining}
 use Rattle.parts.specs.SetLaws.{lineLen-end, line-ends, first-line, lines-bytes}
-use Rattle.parts.specs.Mark.{mark, noMark, markFrom, marked, Marked, LastLine}
+use Rattle.parts.specs.Mark.{mark, markFrom, marked, Marked, LastLine}
 
 -- no delimiter: no set opens, and none is closed
 record Unmarked (n at : ℕ) (ls : List (List ℕ)) : Type 0 where

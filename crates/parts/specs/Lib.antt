@@ -15,3 +15,6 @@ pub mod Turn
 pub mod TurnLaws
 pub mod FunctionLaws
 pub mod FirstLaws
+pub mod SixLaws
+pub mod Accepted
+pub mod AcceptedLaws

@@ -138,4 +138,7 @@ module _ (l : List ℕ) (n : ℕ) (e : n ≡ length (shown l)) where
 
 -- a delimiter has a minus in column 5
 pub closes-minus : (l : List ℕ) → (getD l 4 0 ≡ 45 → ⊥) → closes l ≡ false
-closes-minus l h = ⊎-elim (λ (k : length (shown l) < 6). sym (closes-short l _ refl k)) (λ (k : 6 ≤ length (shown l)). closes-shown l _ refl k ∙ rw (ne-eqb _ _ h) refl) (below-or-not (length (shown l)) 6)
+closes-minus l h =
+    ⊎-elim (λ (k : length (shown l) < 6). sym (closes-short l _ refl k))
+    (λ (k : 6 ≤ length (shown l)). closes-shown l _ refl k ∙ rw (ne-eqb _ _ h) refl)
+    (below-or-not (length (shown l)) 6)

@@ -1,11 +1,12 @@
 -- A dataset number spelled plainly, the length of a file rewritten, and its sets one by one.
 use mathlib.Core.Path.{_≡_, refl, sym, ap, _∙_}
-use mathlib.Core.Bool.{false}
+use mathlib.Core.Bool.{Bool, true, false}
 use mathlib.Core.List.{List, [], _∷_, _++_, append-assoc, append-nil}
 use Prim.Native.Nat.{ℕ, zero, suc, _+_, _-_, _*_, _/_, _≤_, _<_}
 use native.Mathlib.Numerals.{add-one}
 use native.Mathlib.Omega.{arith}
-use borrow.Author.Tests.{lt-ltb, le-ltb, ne-eqb}
+use borrow.Author.Tests.{lt-ltb, le-ltb, le-leb, leb-true, leb-false, ne-eqb}
+use lib.Dec.{leb}
 use lib.ListN.{length, drop, set, length-append, length-set}
 use lib.Seq.{drop-cons, drop-set-lt, getD-set-same, drop-length}
 use Rattle.parts.specs.Parts.{bytesIn, Part, partsOf, datasetOf, lineStart, lastStart, closingStart, pastOf, throughOf}
@@ -13,6 +14,8 @@ use Rattle.parts.specs.PartsLaws.{bytesIn-append}
 use Rattle.parts.specs.declared.Extent.{Extent}
 use Rattle.parts.specs.Set.{remaining, Standing}
 use Rattle.parts.specs.SetLaws.{standing}
+use Rattle.parts.specs.Accepted.{Sixes, AllSixes, more}
+use Rattle.parts.specs.AcceptedLaws.{sets-whole}
 use Rattle.parts.specs.Function.{partCase, storedOf}
 use Rattle.parts.specs.declared.Counted.{Counted}
 use Rattle.parts.specs.Counted.{declares, countedBy, countedAt}
@@ -153,6 +156,19 @@ rewritten-most file n at (p ∷ ps) a e =
     let m : length (rewritten ps) ≤ 7 * (length file - pastOf p) = rewritten-most file (throughOf p) (pastOf p) ps (s .past) (sym (s .rest)) in
     simp length-append (omega (arith, set-most p, pastOf-most p, s .from, s .past))
 
+-- those of an accepted file are no longer than they were
+set-fits : (p : Part) → Sixes p → p .bytes + length (rewrittenSet p) ≤ pastOf p
+unfolding pastOf bytesIn
+set-fits p s = rw (bytesIn-append (p .body) (p .closing ∷ [])) (omega (arith, set-most p, s .opening, s .number, s .closing))
+
+rewritten-fits : (file : List ℕ) (n at : ℕ) (ps : List Part) → at ≤ length file → remaining file n at ≡ ps → AllSixes ps → at + length (rewritten ps) ≤ length file
+unfolding rewritten
+rewritten-fits file n at [] a e w = omega arith
+rewritten-fits file n at (p ∷ ps) a e (more x w) =
+    let s = standing file n at p ps a e in
+    let m : pastOf p + length (rewritten ps) ≤ length file = rewritten-fits file (throughOf p) (pastOf p) ps (s .past) (sym (s .rest)) w in
+    simp length-append (omega (arith, set-fits p x, s .from))
+
 pub remaining-file : (file : List ℕ) → remaining file 0 0 ≡ partsOf file
 unfolding partsOf
 remaining-file file = refl
@@ -162,6 +178,12 @@ rewritten-start file = ap rewritten (remaining-file file)
 
 pub file-most : (file : List ℕ) → length (rewrittenFile file) ≤ 7 * length file
 file-most file = omega (arith, rewritten-most file 0 0 (partsOf file) (omega arith) (remaining-file file))
+
+file-fits : (file : List ℕ) → judged file .number ≤ 0 → length (rewrittenFile file) ≤ length file
+file-fits file h = omega (arith, rewritten-fits file 0 0 (partsOf file) (omega arith) (remaining-file file) (sets-whole file h))
+
+pub file-room : (file : List ℕ) (room : ℕ) → judged file .number ≤ 0 → length file ≤ room → true ≡ leb (length (rewrittenFile file)) room
+file-room file room h r = sym (le-leb (length (rewrittenFile file)) room (omega (arith, file-fits file h)))
 
 -- one turn of the loop over sets: from the byte at on, the set that stands where e says
 module _ (file : List ℕ) (n at : ℕ) (e : Extent) where
@@ -227,17 +249,25 @@ module _ (file out : List ℕ) (j : Reply) (q : j ≡ judged file) where
   pub refused-both : 0 < j .number → (j ≡ rewriteReply file (length out)) × (out ≡ rewriteOut file out)
   refused-both h = (refused-reply h, refused-out file out j (refused-reply h) h)
 
-  module _ (h : j .number ≤ 0) (n : ℕ) (e : n ≡ length (rewrittenFile file)) where
+  module _ (h : j .number ≤ 0) where
+    abbrev n : ℕ
+    n = length (rewrittenFile file)
+
+    pub room-known : (r : Bool) → r ≡ leb n (length out) → r ≡ true → n ≤ length out
+    room-known r f t = leb-true n (length out) (sym f ∙ t)
+
     short-reply : length out < n → reply 20 0 ≡ rewriteReply file (length out)
     unfolding rewriteReply
-    short-reply s = rw (← q, le-ltb 0 (j .number) h, ← e, lt-ltb (length out) n s) refl
+    short-reply s = rw (← q, le-ltb 0 (j .number) h, lt-ltb (length out) n s) refl
 
-    pub short-both : length out < n → (reply 20 0 ≡ rewriteReply file (length out)) × (out ≡ rewriteOut file out)
-    short-both s = (short-reply s, refused-out file out (reply 20 0) (short-reply s) (omega arith))
+    pub short-both : (r : Bool) → r ≡ leb n (length out) → r ≡ false → (reply 20 0 ≡ rewriteReply file (length out)) × (out ≡ rewriteOut file out)
+    short-both r f t =
+        let s : length out < n = leb-false n (length out) (sym f ∙ t) in
+        (short-reply s, refused-out file out (reply 20 0) (short-reply s) (omega arith))
 
     accepted-reply : n ≤ length out → reply 0 n ≡ rewriteReply file (length out)
     unfolding rewriteReply
-    accepted-reply s = rw (← q, le-ltb 0 (j .number) h, ← e, le-ltb (length out) n s) refl
+    accepted-reply s = rw (← q, le-ltb 0 (j .number) h, le-ltb (length out) n s) refl
 
     pub accepted-both : n ≤ length out → (now : List ℕ) → now ≡ placed 0 (rewrittenFile file) out
         → (reply 0 n ≡ rewriteReply file (length out)) × (now ≡ rewriteOut file out)

@@ -1,7 +1,9 @@
 // The rewriter: the sets of a file spelled plainly, into a lent buffer.
 ghost use mathlib.Core.Path.{_≡_};
 ghost use Prim.Native.Nat.{_+_, _≤_};
+ghost use lib.Dec.{leb};
 ghost use lib.ListN.{length};
+ghost use Rattle.judge.specs.Judge.{judged};
 ghost use Rattle.rewriter.specs.Rewriter.{digitOrBlank, plainNumber, keptOf, headText, rewrittenFile, rewriteReply, rewriteOut};
 ghost use Rattle.rewriter.specs.Body.{bodyText, cutText, lastText, setAt};
 ghost use Rattle.rewriter.specs.Run.{bareIn, Bared, Run};
@@ -230,10 +232,21 @@ fn rewritten_len(file: &[u8]) -> usize
     n
 }
 
-// Puts a file rewritten at the first byte.
-fn put_sets(out: &mut [u8], file: &[u8])
+// Whether a file rewritten has room in so many bytes; it is no longer than it was.
+fn has_room(file: &[u8], room: usize) -> bool
+    requires { ⌜ judged (now file) .number ≤ 0 ⌝ }
+    ensures { λ r. ⌜ r ≡ leb (length (rewrittenFile (now (file .entry)))) room ⌝ }
+{
+    if file.len() <= room {
+        return true;
+    }
+    rewritten_len(file) <= room
+}
+
+// Puts a file rewritten at the first byte; answers the byte past it.
+fn put_sets(out: &mut [u8], file: &[u8]) -> usize
     requires { ⌜ length (rewrittenFile (now file)) ≤ length (now out) ⌝ }
-    ensures { λ _. ⌜ now (out .exit) ≡ placed 0 (rewrittenFile (now (file .entry))) (now (out .entry)) ⌝ }
+    ensures { λ r. ⌜ (r ≡ length (rewrittenFile (now (file .entry)))) × (now (out .exit) ≡ placed 0 (rewrittenFile (now (file .entry))) (now (out .entry))) ⌝ }
 {
     let mut past = 0;
     let mut from = 0;
@@ -245,6 +258,7 @@ fn put_sets(out: &mut [u8], file: &[u8])
         lines = set.through;
         set = parts::next_set(file, from, lines);
     }
+    past
 }
 
 // Document 01's rewriter: judges first; 20 where the buffer is too short; otherwise the text is in the buffer, and its length the place.
@@ -255,10 +269,9 @@ pub fn rewrite(file: &[u8], out: &mut [u8]) -> Reply
     if 0 < found.number {
         return found;
     }
-    let n = rewritten_len(file);
-    if out.len() < n {
+    if !has_room(file, out.len()) {
         return judge::bare_reply(20, 0);
     }
-    put_sets(out, file);
+    let n = put_sets(out, file);
     judge::bare_reply(0, n)
 }

@@ -26,7 +26,8 @@ use Rattle.rewriter.specs.RewriterLaws.{kept-allowed}
 use Rattle.rewriter_laws.specs.Form.{Plainly, countedColumns, EndsBy, PlainSets, LfEnded, Own, SameSets}
 use Rattle.line_laws.specs.NoDelimiter.{NoDelimiter}
 use Rattle.line_laws.specs.NoDelimiterLaws.{set-none}
-use Rattle.rewriter_laws.specs.NumberLaws.{plainNumber-plainly, plainNumber-line, plainNumber-only, delimiter-six, number-six}
+use Rattle.parts.specs.SixLaws.{delimiter-six, number-six}
+use Rattle.rewriter_laws.specs.NumberLaws.{plainNumber-plainly, plainNumber-line, plainNumber-only}
 use Rattle.rewriter_laws.specs.KeptLaws.{kept-most, body-trimmed, body-ends, body-same, body-only, lines-same, unpadded-cut, unpadded-fair, lines-kept, held-unpadded}
 use Rattle.rewriter_laws.specs.Laid.{bodyOf, keptIn, bodiesOf}
 

@@ -1,5 +1,5 @@
 -- `lister::judge_sets` meets its contract.
-use mathlib.Core.Path.{sym, ap, _∙_}
+use mathlib.Core.Path.{ap, _∙_}
 use native.Mathlib.Omega.{arith}
 use borrow.Author.Tests.{lt-ltb, le-ltb}
 use Prim.Native.Nat.{_-_}
@@ -7,7 +7,7 @@ use lib.ListN.{length, take, drop}
 use Rattle.laws.specs.CutLaws.{tail-part}
 use Rattle.judge.specs.Judge.{judged, runEnd, going}
 use Rattle.judge.specs.LinesLaws.{whole-refused, whole-going}
-use Rattle.lister.specs.CountLaws.{sets-opened}
+use Rattle.parts.specs.AcceptedLaws.{sets-opened}
 use borrow.Author.Needs.{needs}
 use Rattle.lister.proofs.judge_sets.Statement.{statement}
 use Rattle.lister.proofs.judge_sets.Tie as tie

@@ -1,5 +1,4 @@
 -- `lister::list` meets its contract.
-use native.Mathlib.Omega.{arith}
 use Rattle.judge.specs.JudgeLaws.{judged-short}
 use Rattle.lister.specs.ListerLaws.{list-refused, list-short, list-done}
 use borrow.Author.Needs.{needs}

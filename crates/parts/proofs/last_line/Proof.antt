@@ -2,11 +2,10 @@
 use mathlib.Core.Path.{_≡_, refl}
 use mathlib.Core.List.{List}
 use mathlib.Core.Logic.{⊎-elim}
-use Prim.Native.Nat.{ℕ, _+_, _≤_, _<_, _-_}
+use Prim.Native.Nat.{ℕ, _≤_, _<_, _-_}
 use native.Mathlib.Omega.{arith}
-use lib.ListN.{length, getD}
+use lib.ListN.{getD}
 use Rattle.laws.specs.ChoiceLaws.{below-or-not}
-use Rattle.parts.specs.Mark.{LastLine}
 use borrow.Author.Needs.{needs}
 use Rattle.parts.proofs.last_line.Statement.{statement}
 use Rattle.parts.proofs.last_line.Tie as tie

@@ -1,10 +1,6 @@
 -- `parts::next_set` meets its contract.
-use mathlib.Core.Path.{_∙_}
-use Prim.Native.Nat.{_+_, _≤_, _<_}
 use native.Mathlib.Omega.{arith}
 use borrow.Author.Tests.{not-true, not-false}
-use lib.ListN.{length}
-use Rattle.line.specs.LineLaws.{lineLen-within}
 use Rattle.parts.specs.FirstLaws.{fits, closing-fits, never-opened, never-numbered, never-closed, set-found}
 use borrow.Author.Needs.{needs}
 use Rattle.parts.proofs.next_set.Statement.{statement}

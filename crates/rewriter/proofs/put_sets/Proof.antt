@@ -69,7 +69,8 @@ same-length c = c .before .loop .inv .put .same
 returns : tie.Need-returns Inv-loop μ-loop
 returns c =
     let inv = c .before .loop .inv in
-    put-done _ _ _ _ _ _ (inv .put) (turn-none _ _ _ _ (inv .between) (c .loop-test .left)) .1
+    let done = put-done _ _ _ _ _ _ (inv .put) (turn-none _ _ _ _ (inv .between) (c .loop-test .left)) in
+    (omega (arith, done .0), done .1)
 
 pub put-sets-spec : {M : Type 1} → statement M
 put-sets-spec =
