@@ -86,11 +86,14 @@ pub fn judge_lines(state: State, lines: usize, bytes: &[u8], at: usize) -> Lines
     let mut from = at;
     let mut wait = 0;
     while from < bytes.len() {
-        let ahead = usual::run_ahead(s, bytes, from, wait);
-        s = ahead.state;
-        n += ahead.lines;
-        from = ahead.at;
-        wait = ahead.wait;
+        if (wait == 0) & usual::in_data(s) {
+            let ahead = usual::run_ahead(s, bytes, from);
+            s = ahead.state;
+            n += ahead.lines;
+            from = ahead.at;
+            wait = ahead.wait;
+            continue;
+        }
         let end = line::find_end(bytes, from);
         if bytes.len() <= end {
             return so_far(s, n, from);
@@ -111,6 +114,7 @@ pub fn judge_lines(state: State, lines: usize, bytes: &[u8], at: usize) -> Lines
         }
         n += 1;
         from = end + 1;
+        wait = usual::less(wait);
     }
     so_far(s, n, from)
 }
