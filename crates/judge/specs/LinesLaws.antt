@@ -25,7 +25,7 @@ use Rattle.judge.specs.Judge.{replyAt, atLine, lineStep, Run, going, ref
 use Rattle.usual.specs.declared.Ahead.{Ahead}
 use Rattle.usual.specs.Taken.{LineTaken, Taken, RanAhead}
 use Rattle.usual.specs.TakenLaws.{taken-within}
-use Rattle.judge.specs.Lines.{runOf, linesTo, LinesJudged}
+use Rattle.judge.specs.Lines.{runOf, linesAt, linesTo, LinesJudged}
 use Rattle.judge.specs.JudgeLaws.{over-refused}
 use Rattle.judge.specs.Refusal.{LineNumber}
 use Rattle.judge.specs.RefusalLaws.{refusal-sure, line-number}
@@ -59,9 +59,10 @@ module _ (b : List ℕ) (from e : ℕ) (a : from ≤ length b) (q : e ≡ from +
   module _ (s₀ : State) (n₀ at : ℕ) (w : at ≤ length b) (s : State) (n : ℕ) (few : n + at ≤ n₀ + from)
       (run : over runStep (going s n) (cut (drop from b) .lines) ≡ over runStep (going s₀ n₀) (cut (drop at b) .lines)) where
     pub judged-to-stop : e < length b → (o : Outcome) → o ≡ lineStep s (take (e - from) (drop from b)) → (f : Refusal) → o ≡ Refused f
-        → LinesJudged s₀ n₀ b at (record { state = s; lines = n; number = f .number; column = f .column; at = from })
-    judged-to-stop h o p f u =
+        → (r : Lines) → r ≡ linesAt s n (f .number) (f .column) from → LinesJudged s₀ n₀ b at r
+    judged-to-stop h o p f u r is =
         let z : 0 < f .number = refusal-sure s (take (e - from) (drop from b)) f (sym p ∙ u) in
+        rw is
         record {
           run = rw (ne-eqb (f .number) 0 (λ y. omega arith)) (lines-stop h s n o p f u ∙ run);
           rest = λ y. absurd (omega arith);

@@ -69,15 +69,18 @@ enum-known-next c = search needs
 enum-known-fault : tie.Need-enum-known-fault Inv-loop μ-loop
 enum-known-fault c = search needs
 
+stopped-requires : tie.Need-stopped-requires Inv-loop μ-loop
+stopped-requires c κs = search needs
+
 returns-2 : tie.Need-returns-2 Inv-loop μ-loop
 returns-2 c =
-    let at-step = c .before .before .before in
+    let at-step = c .before .before .before .before in
     let at-if2 = at-step .before .before in
     let at-end = at-if2 .before in
     let at-loop = at-end .before .before .before .before in
     let inv = at-loop .loop .inv in
     let stop = judged-to-stop _ _ _ (inv .within) (at-end .find-end .ensures) _ _ _ (at-loop .before .before .pre .0) _ _ (inv .few) (inv .same-lines) in
-    stop (at-if2 .if2 .left) _ (at-step .line-step .ensures) _ (c .before .fault .given .1)
+    stop (at-if2 .if2 .left) _ (at-step .line-step .ensures) _ (c .before .before .fault .given .1) _ (c .stopped .ensures)
 
 add-n-2 : tie.Need-add-n-2 Inv-loop μ-loop
 add-n-2 c = search needs
@@ -138,6 +141,7 @@ judge-lines-spec =
     line-step-requires
     enum-known-next
     enum-known-fault
+    stopped-requires
     returns-2
     add-n-2
     add-from
