@@ -14,9 +14,12 @@ use Rattle.judge.specs.Judge.{Run, going, refused, replyAt, runStep}
 abbrev pub runOf : State → ℕ → ℕ → ℕ → Run
 runOf s n k c = pick (eqb k 0) (going s n) (refused (replyAt k (n + 1) c))
 
--- so far, none refused
+-- the answer of these fields; so far, none refused
+abbrev pub linesAt : State → ℕ → ℕ → ℕ → ℕ → Lines
+linesAt s n k c at = record { state = s; lines = n; number = k; column = c; at = at }
+
 abbrev pub linesTo : State → ℕ → ℕ → Lines
-linesTo s n at = record { state = s; lines = n; number = 0; column = 0; at = at }
+linesTo s n at = linesAt s n 0 0 at
 
 -- the finished lines of the bytes from a place on, after n others
 pub record LinesJudged (s : State) (n : ℕ) (b : List ℕ) (at : ℕ) (r : Lines) : Type 0 where

@@ -1,17 +1,19 @@
 -- The laws that the loop over lines needs, and what its answer says of a whole file.
 use mathlib.Core.Path.{_≡_, refl, sym, ap, _∙_}
-use mathlib.Core.Bool.{Bool, true, false}
+use mathlib.Core.Bool.{Bool, true, false, _&&_}
+use mathlib.Core.Logic.{⊎-elim}
 use mathlib.Core.List.{List, [], _∷_, _++_}
 use Prim.{Unit, tt}
 use Prim.Native.Nat.{ℕ, _+_, _-_, _≤_, _<_}
 use native.Mathlib.Nat.{not-suc-le-zero, le-of-suc-le-suc}
 use native.Mathlib.Omega.{arith}
-use borrow.Author.Tests.{eq-eqb, ne-eqb}
+use borrow.Author.Tests.{eq-eqb, eqb-true, ne-eqb}
 use lib.Dec.{eqb}
 use lib.ListN.{length, take, drop, length-drop}
 use lib.Seq.{drop-drop}
 use Rattle.laws.specs.Choice.{pick}
 use Rattle.laws.specs.Cut.{text, cut, lineLen, over, judge}
+use Rattle.laws.specs.ChoiceLaws.{and-left, below-or-not}
 use Rattle.laws.specs.CutLaws.{cut-line, cut-open}
 use Rattle.line.specs.declared.Refusal.{Refusal}
 use Rattle.walk.specs.declared.State.{State}
@@ -23,7 +25,7 @@ use Rattle.judge.specs.Judge.{replyAt, atLine, lineStep, Run, going, ref
 use Rattle.usual.specs.declared.Ahead.{Ahead}
 use Rattle.usual.specs.Taken.{LineTaken, Taken, RanAhead}
 use Rattle.usual.specs.TakenLaws.{taken-within}
-use Rattle.judge.specs.Lines.{runOf, linesTo, LinesJudged}
+use Rattle.judge.specs.Lines.{runOf, linesAt, linesTo, LinesJudged}
 use Rattle.judge.specs.JudgeLaws.{over-refused}
 use Rattle.judge.specs.Refusal.{LineNumber}
 use Rattle.judge.specs.RefusalLaws.{refusal-sure, line-number}
@@ -57,9 +59,10 @@ module _ (b : List ℕ) (from e : ℕ) (a : from ≤ length b) (q : e ≡ from +
   module _ (s₀ : State) (n₀ at : ℕ) (w : at ≤ length b) (s : State) (n : ℕ) (few : n + at ≤ n₀ + from)
       (run : over runStep (going s n) (cut (drop from b) .lines) ≡ over runStep (going s₀ n₀) (cut (drop at b) .lines)) where
     pub judged-to-stop : e < length b → (o : Outcome) → o ≡ lineStep s (take (e - from) (drop from b)) → (f : Refusal) → o ≡ Refused f
-        → LinesJudged s₀ n₀ b at (record { state = s; lines = n; number = f .number; column = f .column; at = from })
-    judged-to-stop h o p f u =
+        → (r : Lines) → r ≡ linesAt s n (f .number) (f .column) from → LinesJudged s₀ n₀ b at r
+    judged-to-stop h o p f u r is =
         let z : 0 < f .number = refusal-sure s (take (e - from) (drop from b)) f (sym p ∙ u) in
+        rw is
         record {
           run = rw (ne-eqb (f .number) 0 (λ y. omega arith)) (lines-stop h s n o p f u ∙ run);
           rest = λ y. absurd (omega arith);
@@ -126,6 +129,19 @@ reached-ahead b s₀ n₀ at s n from r g a =
       same-lines = run-lines (g .within) n (a .taken) ∙ g .same-lines;
       same-rest = run-rest (g .within) (a .taken) ∙ g .same-rest;
     }
+
+-- what is left of the loop: bytes, and whether a run is tried; a run that takes no line is not tried again at once
+abbrev pub toGo : ℕ → ℕ → ℕ
+toGo rest wait = rest + rest + (1 - wait)
+
+pub ahead-less : (b : List ℕ) (s : State) (from wait : ℕ) (t : Bool) (r : Ahead) → from < length b → eqb wait 0 && t ≡ true → RanAhead b s from r
+    → toGo (length b - r .at) (r .wait) < toGo (length b - from) wait
+ahead-less b s from wait t r h e a =
+    let z : wait ≡ 0 = eqb-true wait 0 (and-left (eqb wait 0) t e) in
+    ⊎-elim (λ (on : from < r .at). omega (arith, a .within)) (λ (no : r .at ≤ from). omega (arith, a .moves no, a .few)) (below-or-not from (r .at))
+
+pub line-less : (b : List ℕ) (from e wait w : ℕ) → e ≡ from + lineLen (drop from b) → e < length b → toGo (length b - (e + 1)) w < toGo (length b - from) wait
+line-less b from e wait w q h = let m : length b - (e + 1) + 1 ≤ length b - from = omega arith in omega arith
 
 -- the whole of the bytes, from their finished lines judged
 module _ (s : State) (n : ℕ) (b : List ℕ) (r : Lines) (j : LinesJudged s n b 0 r) where

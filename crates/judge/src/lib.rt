@@ -3,8 +3,9 @@ ghost use mathlib.Core.Path.{_≡_};
 ghost use Prim.Native.Nat.{_+_, _-_, _≤_};
 ghost use lib.ListN.{length};
 ghost use Rattle.judge.specs.Judge.{judged, reply, replyAt, lineStep, going, runEnd};
-ghost use Rattle.judge.specs.Lines.{linesTo, LinesJudged};
+ghost use Rattle.judge.specs.Lines.{linesAt, linesTo, LinesJudged};
 use line::Refusal;
+use walk::Due;
 use walk::Outcome;
 use walk::Place;
 use walk::State;
@@ -63,12 +64,57 @@ pub fn line_step(s: State, line: &[u8]) -> Outcome
     walk::step(s, &row)
 }
 
+// The same state, made anew from its numbers.
+fn copied(s: State) -> State
+    ensures { λ r. ⌜ r ≡ s ⌝ }
+{
+    let sets = s.sets;
+    let place = s.place;
+    match place {
+        Place::Outside => State {
+            place: Place::Outside,
+            sets,
+        },
+        Place::Number => State {
+            place: Place::Number,
+            sets,
+        },
+        Place::Plain => State {
+            place: Place::Plain,
+            sets,
+        },
+        Place::Typed(d) => State {
+            place: Place::Typed(Due {
+                kind: d.kind,
+                at: d.at,
+                case: d.case,
+                left: d.left,
+                second: d.second,
+            }),
+            sets,
+        },
+    }
+}
+
+// Line `lines` + 1 is refused.
+fn stopped(state: State, lines: usize, fault: Refusal, at: usize) -> Lines
+    ensures { λ r. ⌜ r ≡ linesAt state lines (fault .number) (fault .column) at ⌝ }
+{
+    Lines {
+        state: copied(state),
+        lines,
+        number: fault.number,
+        column: fault.column,
+        at,
+    }
+}
+
 // The state after so many lines, none of them refused, and the byte where the rest begins.
 fn so_far(state: State, lines: usize, at: usize) -> Lines
     ensures { λ r. ⌜ r ≡ linesTo state lines at ⌝ }
 {
     Lines {
-        state,
+        state: copied(state),
         lines,
         number: 0,
         column: 0,
@@ -86,11 +132,14 @@ pub fn judge_lines(state: State, lines: usize, bytes: &[u8], at: usize) -> Lines
     let mut from = at;
     let mut wait = 0;
     while from < bytes.len() {
-        let ahead = usual::run_ahead(s, bytes, from, wait);
-        s = ahead.state;
-        n += ahead.lines;
-        from = ahead.at;
-        wait = ahead.wait;
+        if (wait == 0) & usual::in_data(s) {
+            let ahead = usual::run_ahead(s, bytes, from);
+            s = ahead.state;
+            n += ahead.lines;
+            from = ahead.at;
+            wait = ahead.wait;
+            continue;
+        }
         let end = line::find_end(bytes, from);
         if bytes.len() <= end {
             return so_far(s, n, from);
@@ -100,17 +149,12 @@ pub fn judge_lines(state: State, lines: usize, bytes: &[u8], at: usize) -> Lines
                 s = next;
             }
             Outcome::Refused(fault) => {
-                return Lines {
-                    state: s,
-                    lines: n,
-                    number: fault.number,
-                    column: fault.column,
-                    at: from,
-                };
+                return stopped(s, n, fault, from);
             }
         }
         n += 1;
         from = end + 1;
+        wait = usual::less(wait);
     }
     so_far(s, n, from)
 }

@@ -84,16 +84,16 @@ pub record Tables : Type 0 where
 abbrev pub tables : List ℕ → List ℕ → List ℕ → Tables
 tables l s a = record { los = l; spans = s; alts = a }
 
--- a table of 80 that begins with these numbers
-pub record Begins (ns : List ℕ) (l : List ℕ) : Type 0 where
-  pub wide : length l ≡ 80
-  pub first : take (length ns) l ≡ ns
+-- a table of 80 numbers: these, and then only the one given
+pub record Begins (ns : List ℕ) (d : ℕ) (l : List ℕ) : Type 0 where
+  pub few : length ns ≤ 80
+  pub is : l ≡ ns ++ replicate (80 - length ns) d
 
--- the first columns of the tables take this
+-- the first columns of the tables take this, the others a digit
 pub record Laid (cs : List Cell) (t : Tables) : Type 0 where
-  pub los-are : Begins (map (λ (c : Cell). c .lo) cs) (t .los)
-  pub spans-are : Begins (map (λ (c : Cell). c .span) cs) (t .spans)
-  pub alts-are : Begins (map (λ (c : Cell). c .alt) cs) (t .alts)
+  pub los-are : Begins (map (λ (c : Cell). c .lo) cs) (digit .lo) (t .los)
+  pub spans-are : Begins (map (λ (c : Cell). c .span) cs) (digit .span) (t .spans)
+  pub alts-are : Begins (map (λ (c : Cell). c .alt) cs) (digit .alt) (t .alts)
 
 -- the columns from the place given on take more, those before it what they took
 abbrev pub Grown : ℕ → List Cell → Tables → Tables → Type 0

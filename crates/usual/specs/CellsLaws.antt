@@ -4,42 +4,73 @@ use mathlib.Core.Bool.{Bool, true, false, _&&_, _||_}
 use mathlib.Core.Logic.{_⊎_, inl, inr}
 use mathlib.Core.List.{List, [], _∷_, _++_, map, append-assoc, append-nil}
 use Prim.Native.Nat.{ℕ, zero, suc, _+_, _-_, _%_, _≤_, _<_}
-use native.Mathlib.Numerals.{add-one}
 use native.Mathlib.Omega.{arith}
 use borrow.Author.Count.{below-more}
 use borrow.Author.Tests.{leb-true, eqb-true}
 use lib.Dec.{leb, eqb}
-use lib.ListN.{length, getD, take, drop, set, replicate, length-append, length-map, length-set, length-replicate, length-drop, length-take, List·getD-map, replicate-append-replicate}
-use lib.Seq.{take-suc-set, take-all, getD-take, getD-drop, length-take-le}
+use lib.ListN.{length, getD, take, drop, set, replicate, length-append, length-map, length-replicate, length-drop, List·getD-map, List·getD-append, replicate-append-replicate}
+use lib.Seq.{set-append-seam, getD-take, getD-drop, length-take-le}
 use Rattle.laws.specs.ChoiceLaws.{and-left, and-right}
-use Rattle.usual.specs.Cells.{Cell, cell, Takes, Fits, none, more, Tables, tables, Begins, Laid, Grown, Passed}
+use Rattle.usual.specs.Cells.{Cell, cell, digit, Takes, Fits, none, more, Tables, tables, Begins, Laid, Grown, Passed}
 
 map-append : (f : Cell → ℕ) (a b : List Cell) → map f (a ++ b) ≡ map f a ++ map f b
 map-append f [] b = refl
 map-append f (c ∷ a) b = ap (λ (l : List ℕ). f c ∷ l) (map-append f a b)
 
+map-replicate : (f : Cell → ℕ) (n : ℕ) (c : Cell) → map f (replicate n c) ≡ replicate n (f c)
+map-replicate f zero c = refl
+map-replicate f (suc n) c = ap (λ (l : List ℕ). f c ∷ l) (map-replicate f n c)
+
 -- one column more
-begins-set : (ns l : List ℕ) (v : ℕ) → length ns < 80 → Begins ns l → Begins (ns ++ (v ∷ [])) (set l (length ns) v)
-begins-set ns l v h b =
-    let w : length l ≡ 80 = b .wide in
-    let n : length (ns ++ (v ∷ [])) ≡ suc (length ns) = length-append ns (v ∷ []) ∙ omega arith in
+begins-set : (ns l : List ℕ) (d v : ℕ) → length ns < 80 → Begins ns d l → Begins (ns ++ (v ∷ [])) d (set l (length ns) v)
+begins-set ns l d v h b =
+    let n : length (ns ++ (v ∷ [])) ≡ length ns + 1 = length-append ns (v ∷ []) in
+    let k : 80 - length ns ≡ suc (80 - (length ns + 1)) = omega arith in
+    let split : l ≡ ns ++ (d ∷ replicate (80 - (length ns + 1)) d) = b .is ∙ ap (λ (m : ℕ). ns ++ replicate m d) k in
     record {
-      wide = simp length-set w;
-      first = rw n (take-suc-set l (length ns) v (omega arith) ∙ ap (λ (m : List ℕ). m ++ (v ∷ [])) (b .first));
+      few = omega arith;
+      is =
+          ap (λ (m : List ℕ). set m (length ns) v) split
+          ∙ set-append-seam ns d (replicate (80 - (length ns + 1)) d) v
+          ∙ rw (n, append-assoc ns (v ∷ []) (replicate (80 - (length ns + 1)) d)) refl;
     }
 
-part-set : (f : Cell → ℕ) (cs : List Cell) (c : Cell) (l : List ℕ) (at : ℕ) → length cs ≡ at → at < 80
-    → Begins (map f cs) l → Begins (map f (cs ++ (c ∷ []))) (set l at (f c))
-part-set f cs c l at e h b =
-    let n : length (map f cs) ≡ at = length-map cs f ∙ e in
-    rw (map-append f cs (c ∷ []), ← n) (begins-set (map f cs) l (f c) (omega arith) b)
+-- as many as one likes of those that stand there already
+begins-more : (ns l : List ℕ) (d n : ℕ) → length ns + n ≤ 80 → Begins ns d l → Begins (ns ++ replicate n d) d l
+begins-more ns l d n h b =
+    let m : length (ns ++ replicate n d) ≡ length ns + n = length-append ns (replicate n d) ∙ rw (length-replicate n d) refl in
+    let k : 80 - length ns ≡ n + (80 - (length ns + n)) = omega arith in
+    record {
+      few = omega arith;
+      is = b .is ∙ rw (m, append-assoc ns (replicate n d) (replicate (80 - (length ns + n)) d), replicate-append-replicate n (80 - (length ns + n)) d, ← k) refl;
+    }
+
+-- by what a column takes
+module _ (f : Cell → ℕ) (cs : List Cell) (l : List ℕ) (at : ℕ) (e : length cs ≡ at) where
+  part-set : (c : Cell) → at < 80 → Begins (map f cs) (f digit) l → Begins (map f (cs ++ (c ∷ []))) (f digit) (set l at (f c))
+  part-set c h b =
+      let n : length (map f cs) ≡ at = length-map cs f ∙ e in
+      rw (map-append f cs (c ∷ []), ← n) (begins-set (map f cs) l (f digit) (f c) (omega arith) b)
+
+  part-digits : (n : ℕ) → at + n ≤ 80 → Begins (map f cs) (f digit) l → Begins (map f (cs ++ replicate n digit)) (f digit) l
+  part-digits n h b =
+      let m : length (map f cs) ≡ at = length-map cs f ∙ e in
+      rw (map-append f cs (replicate n digit), map-replicate f n digit) (begins-more (map f cs) l (f digit) n (omega arith) b)
 
 pub grown-set : (t : Tables) (at l s a : ℕ) → at < 80 → Grown at (cell l s a ∷ []) t (tables (set (t .los) at l) (set (t .spans) at s) (set (t .alts) at a))
 grown-set t at l s a h cs e d =
     record {
-      los-are = part-set (λ (c : Cell). c .lo) cs (cell l s a) (t .los) at e h (d .los-are);
-      spans-are = part-set (λ (c : Cell). c .span) cs (cell l s a) (t .spans) at e h (d .spans-are);
-      alts-are = part-set (λ (c : Cell). c .alt) cs (cell l s a) (t .alts) at e h (d .alts-are);
+      los-are = part-set (λ (c : Cell). c .lo) cs (t .los) at e (cell l s a) h (d .los-are);
+      spans-are = part-set (λ (c : Cell). c .span) cs (t .spans) at e (cell l s a) h (d .spans-are);
+      alts-are = part-set (λ (c : Cell). c .alt) cs (t .alts) at e (cell l s a) h (d .alts-are);
+    }
+
+pub grown-digits : (t : Tables) (at n : ℕ) → at + n ≤ 80 → Grown at (replicate n digit) t t
+grown-digits t at n h cs e d =
+    record {
+      los-are = part-digits (λ (c : Cell). c .lo) cs (t .los) at e n h (d .los-are);
+      spans-are = part-digits (λ (c : Cell). c .span) cs (t .spans) at e n h (d .spans-are);
+      alts-are = part-digits (λ (c : Cell). c .alt) cs (t .alts) at e n h (d .alts-are);
     }
 
 -- nothing more, and more after more
@@ -57,10 +88,19 @@ grown-four at a b c d t u v w x g h i j =
     let three : Grown at (a ∷ b ∷ c ∷ []) t w = grown-on at (a ∷ b ∷ []) (c ∷ []) t v w (at + 2) refl two i in
     grown-on at (a ∷ b ∷ c ∷ []) (d ∷ []) t w x (at + 3) refl three j
 
+-- a field's first columns, of which the third is a digit, and its last ones, of which the last two are
+pub grown-start : (at : ℕ) (a b d : Cell) (t u v x : Tables) → at + 4 ≤ 80 → Grown at (a ∷ []) t u → Grown (at + 1) (b ∷ []) u v → Grown (at + 3) (d ∷ []) v x
+    → Grown at (a ∷ b ∷ digit ∷ d ∷ []) t x
+grown-start at a b d t u v x h g i j = grown-four at a b digit d t u v v x g i (grown-digits v (at + 2) 1 (omega arith)) j
+
+pub grown-exponent : (at : ℕ) (a b : Cell) (t u v : Tables) → at + 4 ≤ 80 → Grown at (a ∷ []) t u → Grown (at + 1) (b ∷ []) u v → Grown at (a ∷ b ∷ digit ∷ digit ∷ []) t v
+grown-exponent at a b t u v h g i =
+    grown-four at a b digit digit t u v v v g i (grown-digits v (at + 2) 1 (omega arith)) (grown-digits v (at + 3) 1 (omega arith))
+
 -- a loop over columns that take the same: none, one more, all
 module _ (at : ℕ) (c : Cell) where
-  pub grown-start : (t : Tables) → Grown at (replicate (at - at) c) t t
-  grown-start t = let z : at - at ≡ 0 = omega arith in rw z (grown-none at t)
+  pub grown-begin : (t : Tables) → Grown at (replicate (at - at) c) t t
+  grown-begin t = let z : at - at ≡ 0 = omega arith in rw z (grown-none at t)
 
   pub grown-next : (i : ℕ) (t u v : Tables) → at ≤ i → Grown at (replicate (i - at) c) t u → Grown i (c ∷ []) u v → Grown at (replicate (i + 1 - at) c) t v
   grown-next i t u v h g m =
@@ -105,10 +145,10 @@ fits-by [] (b ∷ l) e p = absurd (omega arith)
 fits-by (c ∷ cs) [] e p = absurd (omega arith)
 fits-by (c ∷ cs) (b ∷ l) e p = more (p 0 (omega arith)) (fits-by cs l (omega arith) (λ k h. p (suc k) (omega arith)))
 
-part-at : (f : Cell → ℕ) (cs : List Cell) (l : List ℕ) (k : ℕ) → f (cell 0 0 0) ≡ 0 → Begins (map f cs) l → k < length cs → getD l k 0 ≡ f (getD cs k (cell 0 0 0))
+part-at : (f : Cell → ℕ) (cs : List Cell) (l : List ℕ) (k : ℕ) → f (cell 0 0 0) ≡ 0 → Begins (map f cs) (f digit) l → k < length cs → getD l k 0 ≡ f (getD cs k (cell 0 0 0))
 part-at f cs l k z b h =
     let n : k < length (map f cs) = rw (length-map cs f) h in
-    sym (getD-take (length (map f cs)) l k 0 n) ∙ ap (λ (m : List ℕ). getD m k 0) (b .first)
+    ap (λ (m : List ℕ). getD m k 0) (b .is) ∙ List·getD-append (map f cs) (replicate (80 - length (map f cs)) (f digit)) 0 k n
     ∙ ap (λ (d : ℕ). getD (map f cs) k d) (sym z) ∙ List·getD-map f cs k (cell 0 0 0)
 
 pub fits-passed : (cs : List Cell) (t : Tables) (s : List ℕ) (at : ℕ) → Laid cs t → at + length cs ≤ length s → Passed t s at (length cs)

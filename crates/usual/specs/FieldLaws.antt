@@ -1,12 +1,12 @@
 -- Columns that fit a field of the usual spelling spell a real, and hold only bytes that may stand in columns.
-use mathlib.Core.Path.{_≡_, refl, sym, ap, _∙_}
+use mathlib.Core.Path.{_≡_, _∙_}
 use mathlib.Core.Bool.{Bool, true, false}
 use mathlib.Core.Logic.{_⊎_, inl, inr, ⊎-elim}
 use mathlib.Core.List.{List, [], _∷_, _++_}
-use Prim.Native.Nat.{ℕ, zero, suc, _+_, _-_, _*_, _%_, _≤_, _<_}
+use Prim.Native.Nat.{ℕ, zero, suc, _+_, _-_, _*_, _≤_, _<_}
 use native.Mathlib.Omega.{arith}
 use lib.IntN.{ℤ}
-use lib.ListN.{length, replicate, length-append, length-replicate}
+use lib.ListN.{length, replicate, length-replicate}
 use Rattle.text.specs.Blank.{none, one, Blanks}
 use Rattle.text.specs.Parts.{Digits, Sign}
 use Rattle.line.specs.Line.{Allowed}
@@ -17,7 +17,7 @@ use Rattle.real.specs.RealLaws.{realOf-complete}
 use Rattle.real.specs.declared.Number.{Number}
 use Rattle.real.specs.declared.Real.the-variants.{Value}
 use Rattle.usual.specs.Cells.{Cell, Takes, blank, minus, digit, point, lettered, sign, fieldCells, Fits}
-use Rattle.usual.specs.CellsLaws.{Split, fits-split, fits-length}
+use Rattle.usual.specs.CellsLaws.{fits-split, fits-length}
 
 -- a text of three columns at least, the third of which is no blank
 pub data Third : List ℕ → Type 0 where

@@ -19,12 +19,11 @@ use Rattle.layout.specs.Columns.{fieldStart, fieldPast, total}
 use Rattle.layout.specs.ColumnsLaws.{fieldPast-total, fieldStart-next}
 use Rattle.real.specs.Spelling.{Letter}
 use Rattle.field.specs.Field.{fieldNumber}
-use Rattle.record_table.specs.Row.{Field}
 use Rattle.record_table.specs.Records.{E}
 use Rattle.record.specs.Check.{fieldsFault, stray, fieldsRefusal}
 use Rattle.record.specs.CheckLaws.{firstByte-blank, fieldsRefusal-passed}
-use Rattle.usual.specs.Cells.{Cell, blank, digit, lettered, sign, startCells, exponentCells, fieldCells, rowCells, Wide, Fits, Tables, Grown}
-use Rattle.usual.specs.CellsLaws.{grown-none, grown-on, fits-split, fits-length}
+use Rattle.usual.specs.Cells.{Cell, digit, lettered, sign, startCells, exponentCells, fieldCells, rowCells, Wide, Fits, Tables, Grown}
+use Rattle.usual.specs.CellsLaws.{grown-none, grown-on, grown-digits, fits-split, fits-length}
 use Rattle.usual.specs.FieldLaws.{Third, third, field-holds, field-allowed, field-third}
 
 -- a field has as many columns as it is wide
@@ -35,15 +34,14 @@ field-length b w h =
     = length-append (replicate (w - 8) digit) (lettered b ∷ sign ∷ digit ∷ digit ∷ []) ∙ rw (length-replicate (w - 8) digit) refl in
     omega arith
 
--- its first columns, its digits and its exponent
-pub field-grown : (b at w from past : ℕ) (t u v x : Tables) → 9 ≤ w → from ≡ at + 4 → past ≡ at + w - 4 → Grown at startCells t u → Grown from (replicate (past - from) digit) u v
-    → Grown past (exponentCells b) v x → Grown at (fieldCells b w) t x
+-- its first columns and its exponent, with digits between
+pub field-grown : (b at w past : ℕ) (t u v : Tables) → at + w ≤ 80 → 9 ≤ w → past ≡ at + w - 4 → Grown at startCells t u → Grown past (exponentCells b) u v
+    → Grown at (fieldCells b w) t v
 unfolding fieldCells
-field-grown b at w from past t u v x low e f g h i =
-    let n : past - from ≡ w - 8 = omega arith in
-    let m : past ≡ from + length (replicate (w - 8) digit) = rw (length-replicate (w - 8) digit) (omega arith) in
-    let h′ : Grown from (replicate (w - 8) digit) u v = rw n at h in
-    grown-on at startCells (replicate (w - 8) digit ++ exponentCells b) t u x from e g (grown-on from (replicate (w - 8) digit) (exponentCells b) u v x past m h′ i)
+field-grown b at w past t u v high low e g h =
+    let m : past ≡ at + 4 + length (replicate (w - 8) digit) = rw (length-replicate (w - 8) digit) (omega arith) in
+    grown-on at startCells (replicate (w - 8) digit ++ exponentCells b) t u v (at + 4) refl g
+    (grown-on (at + 4) (replicate (w - 8) digit) (exponentCells b) u u v past m (grown-digits u (at + 4) (w - 8) (omega arith)) h)
 
 -- the fields before field k end where it begins
 pub row-start : (b : ℕ) {ws : List ℕ} (k : ℕ) → Wide ws → length (rowCells b (take k ws)) ≡ fieldStart ws k

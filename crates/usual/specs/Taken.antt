@@ -1,9 +1,10 @@
 -- Lines taken in a run: each is one that the step of a line accepts, and the state after them is the steps'.
 use mathlib.Core.Path.{_≡_}
-use mathlib.Core.Bool.{true}
+use mathlib.Core.Bool.{Bool, true, false, _&&_}
 use mathlib.Core.Logic.{_⊎_}
 use mathlib.Core.List.{List}
 use Prim.Native.Nat.{ℕ, _+_, _≤_, _<_}
+use lib.Dec.{eqb}
 use lib.ListN.{length, take, drop}
 use Rattle.laws.specs.Cut.{lineLen}
 use Rattle.line.specs.Line.{passed, columns, lineFault, filled}
@@ -11,7 +12,8 @@ use Rattle.layout.specs.Columns.{total}
 use Rattle.layout.specs.Layout.{layoutOf, fieldsOf}
 use Rattle.real.specs.Real.{isLetter}
 use Rattle.record_table.specs.TypedSets.{kind58, headerLines}
-use Rattle.walk.specs.declared.Place.the-variants.{Typed}
+use Rattle.walk.specs.declared.Place.{Place}
+use Rattle.walk.specs.declared.Place.the-variants.{Outside, Number, Plain, Typed}
 use Rattle.walk.specs.declared.State.{State}
 use Rattle.walk.specs.declared.Outcome.the-variants.{Next}
 use Rattle.walk.specs.Due.{due}
@@ -71,8 +73,16 @@ pub record Ran (b : List ℕ) (c at left : ℕ) (r : Run) : Type 0 where
   pub within : r .at ≤ length b
   pub few : r .lines + at ≤ r .at
 
--- a run of lines from a state and a byte on
+-- whether a file stands among the data lines of a 58
+abbrev pub inData : Place → Bool
+inData Outside = false
+inData Number = false
+inData Plain = false
+inData (Typed d) = eqb (d .kind) kind58 && eqb (d .at) headerLines
+
+-- a run of lines from a state and a byte on: some, or a wait
 pub record RanAhead (b : List ℕ) (s : State) (at : ℕ) (r : Ahead) : Type 0 where
   pub taken : Taken b s at (r .state) (r .lines) (r .at)
   pub within : r .at ≤ length b
   pub few : r .lines + at ≤ r .at
+  pub moves : r .at ≤ at → 0 < r .wait

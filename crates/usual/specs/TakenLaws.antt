@@ -1,15 +1,14 @@
 -- A data line whose columns and end pass the tables is one that the step of a line accepts.
 use mathlib.Core.Path.{_≡_, refl, sym, ap, _∙_}
 use mathlib.Core.Bool.{Bool, true, false, not, _&&_}
-use mathlib.Core.Logic.{_⊎_, inl, inr, ⊎-elim}
+use mathlib.Core.Logic.{inl, inr, ⊎-elim}
 use mathlib.Core.List.{List, [], _∷_, _++_, map, append-assoc}
-use Prim.Native.Nat.{ℕ, zero, suc, _+_, _-_, _≤_, _<_}
-use native.Mathlib.Numerals.{add-one}
+use Prim.Native.Nat.{ℕ, suc, _+_, _-_, _≤_, _<_}
 use native.Mathlib.Omega.{arith}
 use borrow.Author.Tests.{leb-true, eqb-true, ne-eqb, lt-ltb}
 use lib.Dec.{leb, eqb}
-use lib.ListN.{length, getD, take, drop, replicate, length-append, length-replicate, length-drop, length-take, length-map, take-append-drop}
-use lib.Seq.{take-at, drop-at, drop-cons, drop-drop, take-take, take-all, getD-drop, length-take-le}
+use lib.ListN.{length, getD, take, drop, replicate, length-append, length-replicate, length-drop, take-append-drop}
+use lib.Seq.{take-at, drop-cons, take-take, take-all, getD-drop}
 use Rattle.laws.specs.Cut.{lineLen}
 use Rattle.laws.specs.ChoiceLaws.{and-left, and-right, false-not-true}
 use Rattle.laws.specs.RangesLaws.{in-range}
@@ -36,17 +35,17 @@ use Rattle.walk.specs.declared.State.{State}
 use Rattle.walk.specs.declared.Due.{Due}
 use Rattle.walk.specs.declared.Place.the-variants.{Typed}
 use Rattle.walk.specs.declared.Outcome.the-variants.{Next}
-use Rattle.walk.specs.Due.{due, recordDue, rowDue, listRow, mayContinue, settled, after, afterItems, afterList}
+use Rattle.walk.specs.Due.{due, recordDue, rowDue, mayContinue, settled, after, afterItems, afterList}
 use Rattle.walk.specs.DueLaws.{rowRefusal-data, listRow-58, dataRow-length}
-use Rattle.walk.specs.Step.{state, unless, typedStep, stepOf}
+use Rattle.walk.specs.Step.{state, typedStep, stepOf}
 use Rattle.usual.specs.declared.Shape.{Shape}
 use Rattle.usual.specs.declared.Run.{Run}
 use Rattle.usual.specs.declared.Ahead.{Ahead}
-use Rattle.usual.specs.Cells.{Cell, blank, any, rowCells, lineCells, tableCells, Wide, Fits, Tables, tables, Begins, Laid, Grown, Passed}
+use Rattle.usual.specs.Cells.{blank, any, rowCells, lineCells, tableCells, Wide, Fits, Tables, tables, Laid, Grown, Passed}
 use Rattle.usual.specs.CellsLaws.{grown-on, fits-split, fits-length, fits-passed}
 use Rattle.usual.specs.FieldLaws.{blanks-allowed, blanks-fit}
 use Rattle.usual.specs.RowLaws.{wide-at, row-length, row-allowed, row-passes, row-delimiter}
-use Rattle.usual.specs.Taken.{columnsAt, LineTaken, Taken, dataState, Ends, Shaped, Ready, run, Ran, ahead, RanAhead}
+use Rattle.usual.specs.Taken.{LineTaken, Taken, dataState, Ends, Shaped, Ready, run, Ran, ahead, RanAhead}
 
 -- the widths of every case are such that a field may have them
 abbrev allWide : List ℕ → Bool
@@ -160,16 +159,16 @@ ready-size h t ready =
     (ready .shaped .ends)
 
 -- the tables of a shape, from those of its row, blanks and any bytes
-pub table-laid : (b n past : ℕ) (ws : List ℕ) (t u v : Tables) → Wide ws → total ws ≤ n → n ≤ 80 → past ≡ total ws → (l s a : ℕ)
-    → Grown 0 (rowCells b ws) (tables (replicate 80 l) (replicate 80 s) (replicate 80 a)) t → Grown past (replicate (n - past) blank) t u → Grown n (replicate (80 - n) any) u v
+pub table-laid : (b n past : ℕ) (ws : List ℕ) (t u v : Tables) → Wide ws → total ws ≤ n → n ≤ 80 → past ≡ total ws
+    → Grown 0 (rowCells b ws) (tables (replicate 80 48) (replicate 80 9) (replicate 80 48)) t → Grown past (replicate (n - past) blank) t u → Grown n (replicate (80 - n) any) u v
     → Laid (tableCells b ws n) v
 unfolding tableCells lineCells
-table-laid b n past ws t u v h m few e l s a g i j =
-    let t₀ = tables (replicate 80 l) (replicate 80 s) (replicate 80 a) in
+table-laid b n past ws t u v h m few e g i j =
+    let t₀ = tables (replicate 80 48) (replicate 80 9) (replicate 80 48) in
     let none : Laid [] t₀ = record {
-      los-are = record { wide = refl; first = refl };
-      spans-are = record { wide = refl; first = refl };
-      alts-are = record { wide = refl; first = refl };
+      los-are = record { few = omega arith; is = refl };
+      spans-are = record { few = omega arith; is = refl };
+      alts-are = record { few = omega arith; is = refl };
     } in
     let i′ : Grown (total ws) (replicate (n - total ws) blank) t u = rw e at i in
     let line = grown-on 0 (rowCells b ws) (replicate (n - total ws) blank) t₀ t u (total ws) (rw (row-length b h) (omega arith)) g i′ in
@@ -299,6 +298,9 @@ pub record Parts (h : Shape) (fields columns mark size : ℕ) : Type 0 where
   pub mark-is : h .mark ≡ mark
   pub size-is : h .size ≡ size
 
+pub parts-of : (h : Shape) → Parts h (h .fields) (h .columns) (h .mark) (h .size)
+parts-of h = record { fields-are = refl; columns-are = refl; mark-is = refl; size-is = refl }
+
 -- what a test says that did not refuse a line
 all-three : (x y z : Bool) → not ((x && y) && z) ≡ false → (x ≡ true) × (y ≡ true) × (z ≡ true)
 all-three true true true h = (refl, refl, refl)
@@ -326,15 +328,15 @@ not-false false h = sym h
 pub ran-none : (b : List ℕ) (c at left : ℕ) (r : Run) → r ≡ run 0 at left → at ≤ length b → Ran b c at left r
 ran-none b c at left r e h = rw e (record { taken = λ z n. Taken.none; within = h; few = omega arith })
 
-pub ahead-none : (b : List ℕ) (s : State) (at wait : ℕ) (r : Ahead) → r ≡ ahead s 0 at wait → at ≤ length b → RanAhead b s at r
-ahead-none b s at wait r e h = rw e (record { taken = Taken.none; within = h; few = omega arith })
+pub ahead-none : (b : List ℕ) (s : State) (at : ℕ) (r : Ahead) → r ≡ ahead s 0 at 15 → at ≤ length b → RanAhead b s at r
+ahead-none b s at r e h = rw e (record { taken = Taken.none; within = h; few = omega arith; moves = λ m. omega arith })
 
 -- data lines of a 58
-pub ahead-ran : (b : List ℕ) (d : Due) (n at wait : ℕ) (r : Run) → d .kind ≡ kind58 → d .at ≡ headerLines → Ran b (d .case) at (d .left) r
+pub ahead-ran : (b : List ℕ) (d : Due) (n at wait : ℕ) (r : Run) → d .kind ≡ kind58 → d .at ≡ headerLines → Ran b (d .case) at (d .left) r → at < r .at
     → RanAhead b (state (Typed d) n) at (ahead (dataState (d .case) (r .left) (d .second) n) (r .lines) (r .at) wait)
-ahead-ran b d n at wait r k a ran =
+ahead-ran b d n at wait r k a ran on =
     let e : dataState (d .case) (d .left) (d .second) n ≡ state (Typed d) n = rw (← k, ← a) refl in
-    record { taken = rw (← e) (ran .taken (d .second) n); within = ran .within; few = ran .few }
+    record { taken = rw (← e) (ran .taken (d .second) n); within = ran .within; few = ran .few; moves = λ m. absurd (omega arith) }
 
 pub ahead-at : (b : List ℕ) (s : State) (d : Due) (at : ℕ) (r : Ahead) → s .place ≡ Typed d → RanAhead b (state (Typed d) (s .sets)) at r → RanAhead b s at r
 ahead-at b s d at r e h = rw (← e) at h

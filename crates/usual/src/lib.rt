@@ -6,7 +6,7 @@ ghost use Prim.Native.Nat.{_+_, _-_, _≤_, _<_};
 ghost use lib.ListN.{length, replicate};
 ghost use Rattle.layout.specs.Columns.{total};
 ghost use Rattle.usual.specs.Cells.{cell, tables, Grown, Laid, Passed, startCells, exponentCells, fieldCells, rowCells, tableCells, Wide};
-ghost use Rattle.usual.specs.Taken.{Ends, Shaped, Ready, run, Ran, ahead, RanAhead};
+ghost use Rattle.usual.specs.Taken.{Ends, Shaped, Ready, run, Ran, ahead, RanAhead, inData};
 ghost use Rattle.walk.specs.Step.{state};
 use laws::index;
 use record_table::HEADER_LINES;
@@ -84,29 +84,26 @@ fn put_columns(
     }
 }
 
-// Puts a field's first four columns: a blank, a blank or a minus, a digit, the point.
+// Puts a field's first four columns over digits: a blank, a blank or a minus, a digit, the point.
 fn put_start(lo: &mut [u8; 80], span: &mut [u8; 80], alt: &mut [u8; 80], at: usize)
     requires { ⌜ at + 4 ≤ 80 ⌝ }
     ensures { λ _. ⌜ Grown at startCells (tables (now (lo .entry)) (now (span .entry)) (now (alt .entry))) (tables (now (lo .exit)) (now (span .exit)) (now (alt .exit))) ⌝ }
 {
     put_column(lo, span, alt, at, 32, 0, 32);
     put_column(lo, span, alt, at + 1, 32, 0, 45);
-    put_column(lo, span, alt, at + 2, 48, 9, 48);
     put_column(lo, span, alt, at + 3, 46, 0, 46);
 }
 
-// Puts a field's last four columns: the letter, a sign, two digits.
+// Puts a field's last four columns over digits: the letter, a sign, two digits.
 fn put_exponent(lo: &mut [u8; 80], span: &mut [u8; 80], alt: &mut [u8; 80], at: usize, letter: u8)
     requires { ⌜ at + 4 ≤ 80 ⌝ }
     ensures { λ _. ⌜ Grown at (exponentCells letter) (tables (now (lo .entry)) (now (span .entry)) (now (alt .entry))) (tables (now (lo .exit)) (now (span .exit)) (now (alt .exit))) ⌝ }
 {
     put_column(lo, span, alt, at, letter, 0, letter);
     put_column(lo, span, alt, at + 1, 43, 0, 45);
-    put_column(lo, span, alt, at + 2, 48, 9, 48);
-    put_column(lo, span, alt, at + 3, 48, 9, 48);
 }
 
-// Puts a field of the usual spelling.
+// Puts a field of the usual spelling over digits.
 fn put_field(
     lo: &mut [u8; 80],
     span: &mut [u8; 80],
@@ -118,14 +115,12 @@ fn put_field(
     requires { ⌜ (at + width ≤ 80) × (9 ≤ width) ⌝ }
     ensures { λ _. ⌜ Grown at (fieldCells letter width) (tables (now (lo .entry)) (now (span .entry)) (now (alt .entry))) (tables (now (lo .exit)) (now (span .exit)) (now (alt .exit))) ⌝ }
 {
-    let digits = at + 4;
     let exponent = at + width - 4;
     put_start(lo, span, alt, at);
-    put_columns(lo, span, alt, digits, exponent, 48, 9, 48);
     put_exponent(lo, span, alt, exponent, letter);
 }
 
-// Puts the fields of a row of these widths; answers the column past them.
+// Puts the fields of a row of these widths over digits; answers the column past them.
 fn put_row(
     lo: &mut [u8; 80],
     span: &mut [u8; 80],
@@ -159,9 +154,9 @@ fn put_tables(
     requires { ⌜ Wide (now widths) × (total (now widths) ≤ columns) × (columns ≤ 80) ⌝ }
     ensures { λ _. ⌜ Laid (tableCells letter (now (widths .entry)) columns) (tables (now (lo .exit)) (now (span .exit)) (now (alt .exit))) ⌝ }
 {
-    *lo = [0u8; 80];
-    *span = [0u8; 80];
-    *alt = [0u8; 80];
+    *lo = [48u8; 80];
+    *span = [9u8; 80];
+    *alt = [48u8; 80];
     let past = put_row(lo, span, alt, widths, letter);
     put_columns(lo, span, alt, past, columns, 32, 0, 32);
     put_columns(lo, span, alt, columns, 80, 0, 255, 0);
@@ -291,12 +286,16 @@ fn marked_run(
     tabled_run(s, at, left, shape)
 }
 
-// Data lines of this case in their usual spelling from byte `at` on, where four full ones at least are left: how many columns they have and how they end is the first one's.
+// Data lines of this case in their usual spelling from byte `at` on, where there is room for two and four full ones are left: how many columns they
+// have and how they end is the first one's.
 fn run_of(s: &[u8], at: usize, case: usize, left: usize) -> Run
     requires { ⌜ at ≤ length (now s) ⌝ }
     ensures { λ r. ⌜ Ran (now (s .entry)) case at left r ⌝ }
 {
     if 8 <= case {
+        return no_run(at, left);
+    }
+    if s.len() - at < 164 {
         return no_run(at, left);
     }
     if left / 4 < layout::fields_of(case) {
@@ -316,19 +315,32 @@ fn run_of(s: &[u8], at: usize, case: usize, left: usize) -> Run
     marked_run(s, at, case, left, end - at, 10, end - at + 1)
 }
 
-// No line is taken, and none tried for so many.
-fn not_ahead(state: State, at: usize, wait: usize) -> Ahead
-    ensures { λ r. ⌜ r ≡ ahead state 0 at wait ⌝ }
+// Whether the file stands among the data lines of a 58.
+pub fn in_data(s: State) -> bool
+    ensures { λ r. ⌜ r ≡ inData (s .place) ⌝ }
+{
+    let place = s.place;
+    match place {
+        Place::Typed(d) => (d.kind == KIND_58) & (d.at == HEADER_LINES),
+        Place::Outside => false,
+        Place::Number => false,
+        Place::Plain => false,
+    }
+}
+
+// No line is taken, and a run is not tried for some lines.
+fn not_ahead(state: State, at: usize) -> Ahead
+    ensures { λ r. ⌜ r ≡ ahead state 0 at 15 ⌝ }
 {
     Ahead {
         state,
         lines: 0,
         at,
-        wait,
+        wait: WAIT,
     }
 }
 
-// In a typed set: the data lines of a 58.
+// The data lines in their usual spelling from byte `at` on, where the file stands among those of a 58.
 fn typed_ahead(d: Due, sets: u32, bytes: &[u8], at: usize) -> Ahead
     requires { ⌜ at ≤ length (now bytes) ⌝ }
     ensures { λ r. ⌜ RanAhead (now (bytes .entry)) (state (Place.Typed d) sets) at r ⌝ }
@@ -338,14 +350,14 @@ fn typed_ahead(d: Due, sets: u32, bytes: &[u8], at: usize) -> Ahead
         sets,
     };
     if d.kind != KIND_58 {
-        return not_ahead(here, at, 0);
+        return not_ahead(here, at);
     }
     if d.at != HEADER_LINES {
-        return not_ahead(here, at, 0);
+        return not_ahead(here, at);
     }
     let run = run_of(bytes, at, d.case, d.left);
-    if run.lines == 0 {
-        return not_ahead(here, at, WAIT);
+    if run.at <= at {
+        return not_ahead(here, at);
     }
     let due = Due {
         kind: KIND_58,
@@ -365,19 +377,26 @@ fn typed_ahead(d: Due, sets: u32, bytes: &[u8], at: usize) -> Ahead
     }
 }
 
-// The lines in their usual spelling from byte `at` on, none where it waits: the state after them, as the step of each gives it.
-pub fn run_ahead(s: State, bytes: &[u8], at: usize, wait: usize) -> Ahead
+// The lines in their usual spelling from byte `at` on: the state after them, as the step of each gives it. It takes some, or waits.
+pub fn run_ahead(s: State, bytes: &[u8], at: usize) -> Ahead
     requires { ⌜ at ≤ length (now bytes) ⌝ }
     ensures { λ r. ⌜ RanAhead (now (bytes .entry)) s at r ⌝ }
 {
-    if 0 < wait {
-        return not_ahead(s, at, wait - 1);
-    }
     let place = s.place;
     match place {
         Place::Typed(d) => typed_ahead(d, s.sets, bytes, at),
-        Place::Outside => not_ahead(s, at, 0),
-        Place::Number => not_ahead(s, at, 0),
-        Place::Plain => not_ahead(s, at, 0),
+        Place::Outside => not_ahead(s, at),
+        Place::Number => not_ahead(s, at),
+        Place::Plain => not_ahead(s, at),
     }
+}
+
+// One line less to wait.
+pub fn less(wait: usize) -> usize
+    ensures { λ r. ⌜ r ≡ wait - 1 ⌝ }
+{
+    if 0 < wait {
+        return wait - 1;
+    }
+    0
 }

@@ -2,7 +2,7 @@
 use mathlib.Core.Path.{refl, _∙_}
 use Prim.Native.Nat.{_-_}
 use lib.ListN.{length}
-use Rattle.judge.specs.LinesLaws.{Reached, reached-ahead, lines-next, rest-next, judged-to-stop, judged-to-end}
+use Rattle.judge.specs.LinesLaws.{Reached, reached-ahead, toGo, ahead-less, line-less, lines-next, rest-next, judged-to-stop, judged-to-end}
 use borrow.Author.Needs.{needs}
 use native.Mathlib.Omega.{arith}
 use Rattle.judge.proofs.judge_lines.Statement.{statement}
@@ -12,16 +12,30 @@ abbrev Inv-loop : tie.InvT-loop
 Inv-loop lines bytes at s₀ n₀ from₀ wait₀ s n from wait = Reached bytes s₀ lines at s n from
 
 abbrev μ-loop : tie.MeasureT-loop
-μ-loop lines bytes at s₀ n₀ from₀ wait₀ s n from wait = length bytes - from
+μ-loop lines bytes at s₀ n₀ from₀ wait₀ s n from wait = toGo (length bytes - from) wait
 
 loop-holds : tie.Need-loop-holds Inv-loop μ-loop
 loop-holds c = record { within = search needs; few = search needs; same-lines = refl; same-rest = refl }
+
+in-data-requires : tie.Need-in-data-requires Inv-loop μ-loop
+in-data-requires c κs = search needs
 
 run-ahead-requires : tie.Need-run-ahead-requires Inv-loop μ-loop
 run-ahead-requires c κs = search needs
 
 add-n : tie.Need-add-n Inv-loop μ-loop
 add-n c = search needs
+
+loop-less : tie.Need-loop-less Inv-loop μ-loop
+loop-less c =
+    let at-ahead = c .before .before in
+    let at-test = at-ahead .before .before .before in
+    ahead-less _ _ _ _ _ _ (at-test .loop-test .taken) (at-ahead .before .if1 .taken) (at-ahead .run-ahead .ensures)
+
+loop-again : tie.Need-loop-again Inv-loop μ-loop
+loop-again c =
+    let at-ahead = c .before .before in
+    reached-ahead _ _ _ _ _ _ _ _ (at-ahead .before .before .before .before .loop .inv) (at-ahead .run-ahead .ensures)
 
 find-end-requires : tie.Need-find-end-requires Inv-loop μ-loop
 find-end-requires c κs = search needs
@@ -32,11 +46,10 @@ so-far-requires c κs = search needs
 returns : tie.Need-returns Inv-loop μ-loop
 returns c =
     let at-end = c .before .before in
-    let at-ahead = at-end .before .before .before in
-    let at-loop = at-ahead .before .before in
-    let here = reached-ahead _ _ _ _ _ _ _ _ (at-loop .loop .inv) (at-ahead .run-ahead .ensures) in
-    let to-end = judged-to-end _ _ _ (here .within) (at-end .find-end .ensures) _ _ _ (at-loop .before .before .pre .0) _ _ (here .few) (here .same-lines) in
-    to-end (c .before .if1 .taken) (here .same-rest) _ (c .so-far .ensures)
+    let at-loop = at-end .before .before .before .before in
+    let inv = at-loop .loop .inv in
+    let to-end = judged-to-end _ _ _ (inv .within) (at-end .find-end .ensures) _ _ _ (at-loop .before .before .pre .0) _ _ (inv .few) (inv .same-lines) in
+    to-end (c .before .if2 .taken) (inv .same-rest) _ (c .so-far .ensures)
 
 sub-line-step : tie.Need-sub-line-step Inv-loop μ-loop
 sub-line-step c = search needs
@@ -56,16 +69,18 @@ enum-known-next c = search needs
 enum-known-fault : tie.Need-enum-known-fault Inv-loop μ-loop
 enum-known-fault c = search needs
 
+stopped-requires : tie.Need-stopped-requires Inv-loop μ-loop
+stopped-requires c κs = search needs
+
 returns-2 : tie.Need-returns-2 Inv-loop μ-loop
 returns-2 c =
-    let at-step = c .before .before .before in
-    let at-if1 = at-step .before .before in
-    let at-end = at-if1 .before in
-    let at-ahead = at-end .before .before .before in
-    let at-loop = at-ahead .before .before in
-    let here = reached-ahead _ _ _ _ _ _ _ _ (at-loop .loop .inv) (at-ahead .run-ahead .ensures) in
-    let stop = judged-to-stop _ _ _ (here .within) (at-end .find-end .ensures) _ _ _ (at-loop .before .before .pre .0) _ _ (here .few) (here .same-lines) in
-    stop (at-if1 .if1 .left) _ (at-step .line-step .ensures) _ (c .before .fault .given .1)
+    let at-step = c .before .before .before .before in
+    let at-if2 = at-step .before .before in
+    let at-end = at-if2 .before in
+    let at-loop = at-end .before .before .before .before in
+    let inv = at-loop .loop .inv in
+    let stop = judged-to-stop _ _ _ (inv .within) (at-end .find-end .ensures) _ _ _ (at-loop .before .before .pre .0) _ _ (inv .few) (inv .same-lines) in
+    stop (at-if2 .if2 .left) _ (at-step .line-step .ensures) _ (c .before .before .fault .given .1) _ (c .stopped .ensures)
 
 add-n-2 : tie.Need-add-n-2 Inv-loop μ-loop
 add-n-2 c = search needs
@@ -73,23 +88,26 @@ add-n-2 c = search needs
 add-from : tie.Need-add-from Inv-loop μ-loop
 add-from c = search needs
 
-loop-less : tie.Need-loop-less Inv-loop μ-loop
-loop-less c = search needs
+less-requires : tie.Need-less-requires Inv-loop μ-loop
+less-requires c κs = search needs
 
-loop-again : tie.Need-loop-again Inv-loop μ-loop
-loop-again c =
-    let at-step = c .before .before .before in
-    let at-if1 = at-step .before .before in
-    let at-end = at-if1 .before in
-    let at-ahead = at-end .before .before .before in
-    let inv = at-ahead .before .before .loop .inv in
-    let here = reached-ahead _ _ _ _ _ _ _ _ inv (at-ahead .run-ahead .ensures) in
-    let next = lines-next _ _ _ (here .within) (at-end .find-end .ensures) (at-if1 .if1 .left) in
+loop-less-2 : tie.Need-loop-less-2 Inv-loop μ-loop
+loop-less-2 c =
+    let at-if2 = c .before .before .before .before .before .before in
+    line-less _ _ _ _ _ (at-if2 .before .find-end .ensures) (at-if2 .if2 .left)
+
+loop-again-2 : tie.Need-loop-again-2 Inv-loop μ-loop
+loop-again-2 c =
+    let at-step = c .before .before .before .before in
+    let at-if2 = at-step .before .before in
+    let at-end = at-if2 .before in
+    let inv = at-end .before .before .before .before .loop .inv in
+    let next = lines-next _ _ _ (inv .within) (at-end .find-end .ensures) (at-if2 .if2 .left) in
     record {
       within = search needs;
-      few = omega (arith, here .few, at-end .find-end .ensures);
-      same-lines = next _ _ _ (at-step .line-step .ensures) _ (c .before .next .given .1) ∙ here .same-lines;
-      same-rest = rest-next _ _ _ (here .within) (at-end .find-end .ensures) (at-if1 .if1 .left) ∙ here .same-rest;
+      few = omega (arith, inv .few, at-end .find-end .ensures);
+      same-lines = next _ _ _ (at-step .line-step .ensures) _ (c .before .before .next .given .1) ∙ inv .same-lines;
+      same-rest = rest-next _ _ _ (inv .within) (at-end .find-end .ensures) (at-if2 .if2 .left) ∙ inv .same-rest;
     }
 
 so-far-requires-2 : tie.Need-so-far-requires-2 Inv-loop μ-loop
@@ -109,8 +127,11 @@ judge-lines-spec =
     Inv-loop
     μ-loop
     loop-holds
+    in-data-requires
     run-ahead-requires
     add-n
+    loop-less
+    loop-again
     find-end-requires
     so-far-requires
     returns
@@ -120,10 +141,12 @@ judge-lines-spec =
     line-step-requires
     enum-known-next
     enum-known-fault
+    stopped-requires
     returns-2
     add-n-2
     add-from
-    loop-less
-    loop-again
+    less-requires
+    loop-less-2
+    loop-again-2
     so-far-requires-2
     returns-3)

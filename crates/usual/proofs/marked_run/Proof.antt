@@ -1,19 +1,12 @@
-use Rattle.usual.specs.TakenLaws.{ran-none, first-width, not-false}
-use Rattle.layout.specs.LayoutLaws.{widths-six}
-use Rattle.layout.specs.ColumnsLaws.{fieldStart-total}
+-- `usual::marked_run` meets its contract.
 use mathlib.Core.Path.{sym, _∙_}
 use native.Mathlib.Omega.{arith}
+use Rattle.layout.specs.LayoutLaws.{widths-six}
+use Rattle.layout.specs.ColumnsLaws.{fieldStart-total}
+use Rattle.usual.specs.TakenLaws.{ran-none, first-width, not-false}
 use borrow.Author.Needs.{needs}
 use Rattle.usual.proofs.marked_run.Statement.{statement}
 use Rattle.usual.proofs.marked_run.Tie as tie
-use Rattle.usual.proofs.marked_run.Reads as reads
-use Rattle.usual.proofs.marked_run.Lts as lts
-use Rattle.layout.proofs.field_start.Reads as field-start-reads
-use Rattle.layout.proofs.field_width.Reads as field-width-reads
-use Rattle.layout.proofs.fields_of.Reads as fields-of-reads
-use Rattle.real.proofs.is_letter.Reads as is-letter-reads
-use Rattle.usual.proofs.no_run.Reads as no-run-reads
-use Rattle.usual.proofs.tabled_run.Reads as tabled-run-reads
 
 field-start-requires : tie.Need-field-start-requires
 field-start-requires c κs = search needs

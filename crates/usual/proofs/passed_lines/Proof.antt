@@ -1,18 +1,14 @@
-use Rattle.usual.specs.TakenLaws.{ready-size, Parts, run-next}
+-- `usual::passed_lines` meets its contract.
+use mathlib.Core.List.{List}
+use Prim.Native.Nat.{ℕ, _+_, _-_, _≤_, _<_}
+use lib.ListN.{length}
+use Rattle.usual.specs.TakenLaws.{ready-size, Parts, parts-of, run-next}
 use Rattle.usual.specs.Taken.{Taken, dataState, Ready}
 use Rattle.usual.specs.Cells.{Tables, tables}
 use Rattle.usual.specs.declared.Shape.{Shape}
-use lib.ListN.{length}
-use Prim.Native.Nat.{ℕ, _+_, _-_, _≤_, _<_}
-use mathlib.Core.List.{List}
-use mathlib.Core.Path.{_≡_, refl}
 use borrow.Author.Needs.{needs}
-use native.Mathlib.Omega.{arith}
 use Rattle.usual.proofs.passed_lines.Statement.{statement}
 use Rattle.usual.proofs.passed_lines.Tie as tie
-use Rattle.usual.proofs.passed_lines.Reads as reads
-use Rattle.usual.proofs.passed_lines.Lts as lts
-use Rattle.usual.proofs.passes.Reads as passes-reads
 
 -- the lines before byte a are taken
 record Going (s : List ℕ) (at left : ℕ) (t : Tables) (fields columns mark size a lines rest : ℕ) : Type 0 where
@@ -49,7 +45,7 @@ returns : tie.Need-returns Inv-loop μ-loop
 returns c =
     let inv = c .before .before .loop .inv in
     let at-start = c .before .before .before .before in
-    record { taken = inv .taken (at-start .args .shape) (record { fields-are = refl; columns-are = refl; mark-is = refl; size-is = refl }) (at-start .pre .1); within = inv .within; few = inv .few }
+    record { taken = inv .taken (at-start .args .shape) (parts-of (at-start .args .shape)) (at-start .pre .1); within = inv .within; few = inv .few }
 
 add-ends : tie.Need-add-ends Inv-loop μ-loop
 add-ends c = search needs
@@ -74,7 +70,7 @@ returns-2 c =
     let at-loop = c .before .before .before .before .before .before in
     let inv = at-loop .loop .inv in
     let at-start = at-loop .before .before in
-    record { taken = inv .taken (at-start .args .shape) (record { fields-are = refl; columns-are = refl; mark-is = refl; size-is = refl }) (at-start .pre .1); within = inv .within; few = inv .few }
+    record { taken = inv .taken (at-start .args .shape) (parts-of (at-start .args .shape)) (at-start .pre .1); within = inv .within; few = inv .few }
 
 add-a : tie.Need-add-a Inv-loop μ-loop
 add-a c = search needs
@@ -98,14 +94,17 @@ loop-again c =
       size-some = inv .size-some;
       size-most = inv .size-most;
       few = search needs;
-      taken = λ h same ready z n. run-next h _ _ _ _ _ _ _ _ _ _ _ ready same _ (c .before .passes .ensures) (c .if2 .left) (at-if1 .if1 .left) (at-if1 .before .loop-test .taken) z n (inv .taken h same ready z n);
+      taken
+          = λ h same ready z n.
+          run-next h _ _ _ _ _ _ _ _ _ _ _ ready same _ (c .before .passes .ensures) (c .if2 .left) (at-if1 .if1 .left) (at-if1 .before .loop-test .taken) z n
+          (inv .taken h same ready z n);
     }
 
 returns-3 : tie.Need-returns-3 Inv-loop μ-loop
 returns-3 c =
     let inv = c .before .loop .inv in
     let at-start = c .before .before .before in
-    record { taken = inv .taken (at-start .args .shape) (record { fields-are = refl; columns-are = refl; mark-is = refl; size-is = refl }) (at-start .pre .1); within = inv .within; few = inv .few }
+    record { taken = inv .taken (at-start .args .shape) (parts-of (at-start .args .shape)) (at-start .pre .1); within = inv .within; few = inv .few }
 
 pub passed-lines-spec : {M : Type 1} → statement M
 passed-lines-spec =

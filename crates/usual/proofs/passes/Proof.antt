@@ -1,16 +1,13 @@
-use Rattle.usual.specs.CellsLaws.{passed-none, passed-more, passed-all}
-use Rattle.usual.specs.Cells.{Tables, tables, Passed}
-use Prim.Native.Nat.{ℕ, _-_, _+_, _≤_}
+-- `usual::passes` meets its contract.
 use mathlib.Core.List.{List}
 use mathlib.Core.Bool.{Bool, true}
 use mathlib.Core.Path.{_≡_}
+use Prim.Native.Nat.{ℕ, _-_, _≤_}
+use Rattle.usual.specs.CellsLaws.{passed-none, passed-more, passed-all}
+use Rattle.usual.specs.Cells.{Tables, tables, Passed}
 use borrow.Author.Needs.{needs}
-use native.Mathlib.Omega.{arith}
 use Rattle.usual.proofs.passes.Statement.{statement}
 use Rattle.usual.proofs.passes.Tie as tie
-use Rattle.usual.proofs.passes.Reads as reads
-use Rattle.usual.proofs.passes.Lts as lts
-use Rattle.std.proofs.num.wrapping_sub_u8.Reads as wrapping-sub-u8-reads
 
 -- where all bytes were taken so far, the first i are
 record Going (s : List ℕ) (at : ℕ) (t : Tables) (ok : Bool) (i : ℕ) : Type 0 where

@@ -1,10 +1,8 @@
+-- `usual::put_column` meets its contract.
 use Rattle.usual.specs.CellsLaws.{grown-set}
-use native.Mathlib.Omega.{arith}
 use borrow.Author.Needs.{needs}
 use Rattle.usual.proofs.put_column.Statement.{statement}
 use Rattle.usual.proofs.put_column.Tie as tie
-use Rattle.usual.proofs.put_column.Reads as reads
-use Rattle.usual.proofs.put_column.Lts as lts
 
 element-write-lo : tie.Need-element-write-lo
 element-write-lo c = search needs

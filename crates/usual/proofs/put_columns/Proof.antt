@@ -1,15 +1,11 @@
-use Rattle.usual.specs.CellsLaws.{grown-start, grown-next, grown-all}
-use Rattle.usual.specs.Cells.{Cell, cell, Tables, tables, Grown}
+-- `usual::put_columns` meets its contract.
+use Prim.Native.Nat.{ℕ, _-_, _≤_}
 use lib.ListN.{replicate}
-use Prim.Native.Nat.{ℕ, _-_, _+_, _≤_}
-use mathlib.Core.Path.{_≡_, refl}
+use Rattle.usual.specs.CellsLaws.{grown-begin, grown-next, grown-all}
+use Rattle.usual.specs.Cells.{Cell, cell, Tables, tables, Grown}
 use borrow.Author.Needs.{needs}
-use native.Mathlib.Omega.{arith}
 use Rattle.usual.proofs.put_columns.Statement.{statement}
 use Rattle.usual.proofs.put_columns.Tie as tie
-use Rattle.usual.proofs.put_columns.Reads as reads
-use Rattle.usual.proofs.put_columns.Lts as lts
-use Rattle.usual.proofs.put_column.Reads as put-column-reads
 
 -- the columns before i take it
 record Going (t₀ : Tables) (at past : ℕ) (c : Cell) (t : Tables) (i : ℕ) : Type 0 where
@@ -24,7 +20,7 @@ abbrev μ-loop : tie.MeasureT-loop
 μ-loop lo₀ span₀ alt₀ at past least reach other i₀ lo span alt i = past - i
 
 loop-holds : tie.Need-loop-holds Inv-loop μ-loop
-loop-holds c = record { from = search needs; within = search needs; grown = grown-start _ _ _ }
+loop-holds c = record { from = search needs; within = search needs; grown = grown-begin _ _ _ }
 
 put-column-requires : tie.Need-put-column-requires Inv-loop μ-loop
 put-column-requires c κs = search needs

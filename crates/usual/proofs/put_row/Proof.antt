@@ -1,19 +1,16 @@
-use Rattle.usual.specs.RowLaws.{row-grown-none, row-grown-next, row-grown-all, row-room, row-on}
-use Rattle.usual.specs.Cells.{Tables, tables, Grown, rowCells}
-use Rattle.layout.specs.Columns.{fieldStart}
-use Rattle.layout.specs.ColumnsLaws.{fieldStart-total}
-use lib.ListN.{length, take}
-use Prim.Native.Nat.{ℕ, _-_, _≤_}
+-- `usual::put_row` meets its contract.
 use mathlib.Core.List.{List}
 use mathlib.Core.Path.{_≡_, refl, _∙_}
-use borrow.Author.Needs.{needs}
+use Prim.Native.Nat.{ℕ, _-_, _≤_}
 use native.Mathlib.Omega.{arith}
+use lib.ListN.{length, take}
+use Rattle.layout.specs.Columns.{fieldStart}
+use Rattle.layout.specs.ColumnsLaws.{fieldStart-total}
+use Rattle.usual.specs.RowLaws.{row-grown-none, row-grown-next, row-grown-all, row-room, row-on}
+use Rattle.usual.specs.Cells.{Tables, tables, Grown, rowCells}
+use borrow.Author.Needs.{needs}
 use Rattle.usual.proofs.put_row.Statement.{statement}
 use Rattle.usual.proofs.put_row.Tie as tie
-use Rattle.usual.proofs.put_row.Reads as reads
-use Rattle.usual.proofs.put_row.Lts as lts
-use Rattle.laws.proofs.index.Reads as index-reads
-use Rattle.usual.proofs.put_field.Reads as put-field-reads
 
 -- the fields before field k stand
 record Going (t₀ : Tables) (widths : List ℕ) (letter : ℕ) (t : Tables) (at k : ℕ) : Type 0 where

@@ -1,11 +1,8 @@
-use Rattle.usual.specs.CellsLaws.{grown-four}
-use native.Mathlib.Omega.{arith}
+-- `usual::put_start` meets its contract.
+use Rattle.usual.specs.CellsLaws.{grown-start}
 use borrow.Author.Needs.{needs}
 use Rattle.usual.proofs.put_start.Statement.{statement}
 use Rattle.usual.proofs.put_start.Tie as tie
-use Rattle.usual.proofs.put_start.Reads as reads
-use Rattle.usual.proofs.put_start.Lts as lts
-use Rattle.usual.proofs.put_column.Reads as put-column-reads
 
 put-column-requires : tie.Need-put-column-requires
 put-column-requires c κs = search needs
@@ -22,18 +19,12 @@ add-put-column-2 c = search needs
 put-column-requires-3 : tie.Need-put-column-requires-3
 put-column-requires-3 c κs = search needs
 
-add-put-column-3 : tie.Need-add-put-column-3
-add-put-column-3 c = search needs
-
-put-column-requires-4 : tie.Need-put-column-requires-4
-put-column-requires-4 c κs = search needs
-
 returns : tie.Need-returns
 returns c =
-    let at-third = c .before .before .before .before in
-    let at-second = at-third .before .before .before .before in
+    let at-second = c .before .before .before .before in
     let at-first = at-second .before .before .before .before in
-    grown-four _ _ _ _ _ _ _ _ _ _ (at-first .put-column .ensures) (at-second .put-column2 .ensures) (at-third .put-column3 .ensures) (c .put-column4 .ensures)
+    let at-start = at-first .before .before .before .before in
+    grown-start _ _ _ _ _ _ _ _ (at-start .pre) (at-first .put-column .ensures) (at-second .put-column2 .ensures) (c .put-column3 .ensures)
 
 pub put-start-spec : {M : Type 1} → statement M
 put-start-spec =
@@ -44,6 +35,4 @@ put-start-spec =
     put-column-requires-2
     add-put-column-2
     put-column-requires-3
-    add-put-column-3
-    put-column-requires-4
     returns)

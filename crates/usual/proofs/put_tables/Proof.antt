@@ -1,12 +1,8 @@
+-- `usual::put_tables` meets its contract.
 use Rattle.usual.specs.TakenLaws.{table-laid}
-use native.Mathlib.Omega.{arith}
 use borrow.Author.Needs.{needs}
 use Rattle.usual.proofs.put_tables.Statement.{statement}
 use Rattle.usual.proofs.put_tables.Tie as tie
-use Rattle.usual.proofs.put_tables.Reads as reads
-use Rattle.usual.proofs.put_tables.Lts as lts
-use Rattle.usual.proofs.put_columns.Reads as put-columns-reads
-use Rattle.usual.proofs.put_row.Reads as put-row-reads
 
 put-row-requires : tie.Need-put-row-requires
 put-row-requires c κs = search needs
@@ -23,7 +19,7 @@ returns c =
     let at-row = at-columns .before .before .before .before in
     let at-start = at-row .before .before .before .before .before .before .before .before in
     let row = at-row .put-row .ensures in
-    table-laid _ _ _ _ _ _ _ (at-start .pre .0) (at-start .pre .1) (at-start .pre .2) (row .0) 0 0 0 (row .1) (at-columns .put-columns .ensures) (c .put-columns2 .ensures)
+    table-laid _ _ _ _ _ _ _ (at-start .pre .0) (at-start .pre .1) (at-start .pre .2) (row .0) (row .1) (at-columns .put-columns .ensures) (c .put-columns2 .ensures)
 
 pub put-tables-spec : {M : Type 1} → statement M
 put-tables-spec =

@@ -1,16 +1,12 @@
-use Rattle.usual.specs.TakenLaws.{fields-six, shape-widths, shape-fits}
-use Rattle.record.specs.ConditionLaws.{data-six}
-use lib.Seq.{length-take-le}
+-- `usual::tabled_run` meets its contract.
 use mathlib.Core.Path.{sym}
 use native.Mathlib.Omega.{arith}
+use lib.Seq.{length-take-le}
+use Rattle.record.specs.ConditionLaws.{data-six}
+use Rattle.usual.specs.TakenLaws.{fields-six, shape-widths, shape-fits}
 use borrow.Author.Needs.{needs}
 use Rattle.usual.proofs.tabled_run.Statement.{statement}
 use Rattle.usual.proofs.tabled_run.Tie as tie
-use Rattle.usual.proofs.tabled_run.Reads as reads
-use Rattle.usual.proofs.tabled_run.Lts as lts
-use Rattle.layout.proofs.line_widths.Reads as line-widths-reads
-use Rattle.usual.proofs.passed_lines.Reads as passed-lines-reads
-use Rattle.usual.proofs.put_tables.Reads as put-tables-reads
 
 line-widths-requires : tie.Need-line-widths-requires
 line-widths-requires c κs = search needs
