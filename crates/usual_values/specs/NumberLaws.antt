@@ -192,8 +192,8 @@ module _ (l : List ℕ) (u : UsualField l) where
   part-digits =
       record {
         digit = λ i h.
-        let k : i < w - 4 - 4 = rw (between-length 4 (w - 4) (omega arith)) at h in
-        rw (between-at 4 (w - 4) i k) (u .part (4 + i) (omega arith) (omega arith));
+            let k : i < w - 4 - 4 = rw (between-length 4 (w - 4) (omega arith)) at h in
+            rw (between-at 4 (w - 4) i k) (u .part (4 + i) (omega arith) (omega arith));
       }
 
   pub part-length : length (between 4 (w - 4) l) ≡ w - 8

@@ -38,6 +38,7 @@ pub record UsualLine (file : List ℕ) (d : Data) (at next : ℕ) : Type 0 where
 -- none of the numbers from j up to the turn's is refused
 pub record Skipped (file : List ℕ) (d : Data) (count j : ℕ) (t : Turn) : Type 0 where
   pub at-spot : AtSpot file d (t .number) (t .spot)
+  pub later : j ≤ t .number
   pub within : t .number ≤ count
   pub same : refusalIn (reads (realAt file d) (t .number) (count - t .number)) ≡ refusalIn (reads (realAt file d) j (count - j))
 
@@ -53,6 +54,7 @@ pub record FilledTo (file : List ℕ) (d : Data) (j e : ℕ) (before after : Lis
 -- the numbers from j up to the turn's are put
 pub record Filled (file : List ℕ) (d : Data) (count j : ℕ) (before after : List ℕ) (t : Turn) : Type 0 where
   pub at-spot : AtSpot file d (t .number) (t .spot)
+  pub later : j ≤ t .number
   pub within : t .number ≤ count
   pub long : length after ≡ length before
   pub same : filled (realAt file d) count (t .number) after ≡ filled (realAt file d) count j before

@@ -3,13 +3,13 @@ use mathlib.Core.Path.{_≡_, refl, sym, ap, _∙_}
 use mathlib.Core.Logic.{_⊎_, inl, inr, ⊎-elim}
 use mathlib.Core.Bool.{Bool, true, false, _||_}
 use mathlib.Core.List.{List}
-use Prim.Native.Nat.{ℕ, zero, suc, _+_, _-_, _*_, _/_, _%_, _≤_, _<_}
-use native.Mathlib.Nat.{div-self, mod-self, div-eq-of-lt, mod-eq-of-lt, mul-add-div-right, mul-add-mod-self-right}
+use Prim.Native.Nat.{ℕ, zero, suc, _+_, _-_, _*_, _/_, _%_, _≤_, _<_, min}
+use native.Mathlib.Nat.{eq-zero-or-pos, div-self, mod-self, div-eq-of-lt, mod-eq-of-lt, mul-add-div-right, mul-add-mod-self-right}
 use native.Mathlib.Omega.{arith}
 use borrow.Author.Tests.{le-leb, lt-ltb, eqb-true}
 use lib.Dec.{eqb}
 use lib.Ieee.{Float}
-use lib.ListN.{length, getD, take, drop}
+use lib.ListN.{length, getD, take, drop, set, length-set}
 use Rattle.laws.specs.Cut.{cut, lineLen}
 use Rattle.laws.specs.Ranges.{allAre}
 use Rattle.laws.specs.RangesLaws.{in-range}
@@ -31,15 +31,22 @@ use Rattle.reader.specs.Reader.{readIn, readOf, reads}
 use Rattle.reader.specs.Find.{lineAt, spanOf, realAt}
 use Rattle.usual_values.specs.Usual.{Passed, UsualField}
 use Rattle.usual_values.specs.UsualLaws.{field-usual, end-past}
-use Rattle.usual_values.specs.Number.{UsualRead}
+use Rattle.usual_values.specs.Number.{PowersTo, UsualRead}
 use Rattle.usual_values.specs.NumberLaws.{usual-value}
 use Rattle.values.specs.declared.Spot.{Spot}
 use Rattle.values.specs.declared.Turn.{Turn}
 use Rattle.values.specs.Spot.{spot, spotOf, AtSpot}
 use Rattle.values.specs.SpotLaws.{skip-further}
 use Rattle.values.specs.Fill.{refusalIn, patternOr, patternsPut}
-use Rattle.values.specs.FillLaws.{refusal-next}
-use Rattle.values.specs.Lines.{field, TableFor, UsualLine, Skipped, Filled}
+use Rattle.values.specs.FillLaws.{refusal-next, patterns-next}
+use Rattle.values.specs.Lines.{field, TableFor, UsualLine, filled, Filled}
+
+pub some : (n : ℕ) → (n ≡ 0 → ⊥) → 0 < n
+some n h = ⊎-elim (λ (e : n ≡ 0). absurd (h e)) (λ (p : 0 < n). p) (eq-zero-or-pos n)
+
+-- all the powers of ten, where the file has a line
+pub powers-all : (n : ℕ) (t : List Float) → 22 ≤ n → PowersTo (min n 22) t → PowersTo 22 t
+powers-all n t h p = let z : min n 22 ≡ 22 = omega arith in rw z at p
 
 -- The fields of a case: the code's row of six widths, without the zeros past its last, and each of 13 or 20 columns.
 
@@ -61,6 +68,10 @@ width-either c k h l = go (eqb (getD (layoutOf c .widths) k 0) 13) refl (width-f
     go true e q = inl (eqb-true _ 13 e)
     go false e q = inr (eqb-true _ 20 q)
 
+pub row-length : (c : ℕ) → c < 8 → fieldsOf c ≡ length (take (fieldsOf c) (tabulate (cellOf c) 0 6))
+unfolding fieldsOf
+row-length c h = sym (ap length (row-widths c h))
+
 -- the code's widths are the layout's
 pub width-own : (c k : ℕ) (ws : List ℕ) → ws ≡ tabulate (cellOf c) 0 6 → k < fieldsOf c → getD ws k 0 ≡ getD (layoutOf c .widths) k 0
 unfolding cellOf fieldsOf
@@ -77,6 +88,7 @@ columns-total c n m e f = f ∙ rw e (fieldStart-total (layoutOf c .widths) _ (o
 module _ (file : List ℕ) (d : Data) (t : List ℕ) (at : ℕ) (eight : d .case < 8) (table : TableFor d t) (passed : Passed t file at) where
   pub usual-line : (n end : ℕ) → n ≡ total (layoutOf (d .case) .widths) → at < d .closing → end ≡ at + n + lineLen (drop (at + n) file) → end < length file
       → UsualLine file d at (end + 1)
+  unfolding skipTo
   usual-line n end e before f inside =
       let ws = layoutOf (d .case) .widths in
       let room = passed .inside in
@@ -85,16 +97,25 @@ module _ (file : List ℕ) (d : Data) (t : List ℕ) (at : ℕ) (eight : d .case
       let here : end ≡ at + lineLen (drop at file) = f ∙ own in
       record {
         fields = λ k h.
-        let either = width-either (d .case) k eight h in
-        field-usual (table .letter) ws t file at (table .table) passed k
-        (⊎-elim (λ (q : getD ws k 0 ≡ 13). omega arith) (λ (q : getD ws k 0 ≡ 20). omega arith) either)
-        (⊎-elim (λ (q : getD ws k 0 ≡ 13). omega arith) (λ (q : getD ws k 0 ≡ 20). omega arith) either)
-        (fieldPast-inside (d .case) k)
-        (table .letter-is);
+            let either = width-either (d .case) k eight h in
+            field-usual (table .letter) ws t file at (table .table) passed k
+            (⊎-elim (λ (q : getD ws k 0 ≡ 13). omega arith) (λ (q : getD ws k 0 ≡ 20). omega arith) either)
+            (⊎-elim (λ (q : getD ws k 0 ≡ 13). omega arith) (λ (q : getD ws k 0 ≡ 20). omega arith) either)
+            (fieldPast-inside (d .case) k)
+            (table .letter-is);
         room = room;
         next-is = sym (skip-next file 1 (d .closing) at end (omega arith) before (omega arith) here inside);
         next-inside = omega arith;
       }
+
+-- a number that is the first of its line's fields opens the line
+pub spot-opens : (file : List ℕ) (d : Data) (j : ℕ) (s : Spot) → AtSpot file d j s → s .field ≤ 0 → AtSpot file d j (spot (s .line) 0 (s .line))
+unfolding spotOf spanOf fieldStart
+spot-opens file d j s at h =
+    let f : fieldOf (fieldsOf (d .case)) j ≡ 0 = sym (ap (λ (x : Spot). x .field) (at .spot-is)) ∙ omega arith in
+    let l : s .line ≡ lineAt file d j = ap (λ (x : Spot). x .line) (at .spot-is) in
+    let o : lineAt file d j + 0 ≡ lineAt file d j = omega arith in
+    record { spot-is = rw (l, f, o) refl; inside = at .inside }
 
 -- a number that opens a line
 module _ (file : List ℕ) (d : Data) (body : d .body ≤ length file) (eight : d .case < 8) (j line next : ℕ) (at : AtSpot file d j (spot line 0 line)) (usual : UsualLine file d line next) where
@@ -138,7 +159,8 @@ module _ (file : List ℕ) (d : Data) (body : d .body ≤ length file) (eight : 
       let q = next-line in
       let z : headerLines + suc (lineOf n j) ≡ suc (headerLines + lineOf n j) = omega arith in
       let further = skip-further file (d .closing) (headerLines + lineOf n j) (d .body) body in
-      let a : lineAt file d (j + n) ≡ next = rw (q .0, z) further ∙ rw begins (sym (usual .next-is)) in
+      let after : ℕ → ℕ = λ x. skipTo 1 (d .closing) x (cut (drop x file) .lines) in
+      let a : lineAt file d (j + n) ≡ next = rw (q .0, z) (further ∙ ap after begins ∙ sym (usual .next-is)) in
       let o : next + 0 ≡ next = omega arith in
       record { spot-is = rw (a, q .1, o) refl; inside = usual .next-inside }
 
@@ -169,3 +191,14 @@ module _ (file : List ℕ) (d : Data) (body : d .body ≤ length file) (eight : 
           let v = line-value k (omega arith) in
           let z : j + k + 1 ≡ j + suc k = omega arith in
           rw (← z) (refusal-next (realAt file d) (j + k) count (omega arith) (read.Value (v .0)) 0 (sym (v .1)) refl (omega arith) ∙ go k (omega arith))
+
+-- after the usual lines one number more is put
+module _ {file : List ℕ} {d : Data} {count j : ℕ} {before after : List ℕ} {t : Turn} (f : Filled file d count j before after t) (a : Read) (l : List ℕ)
+    (e : l ≡ set after (t .number) (patternOr (getD after (t .number) 0) a)) where
+  pub filled-length : length l ≡ length before
+  filled-length = ap length e ∙ simp length-set (f .long)
+
+  pub filled-next : t .number < count → count ≤ length before → a ≡ readOf (realAt file d (t .number))
+      → filled (realAt file d) count (t .number + 1) l ≡ filled (realAt file d) count j before
+  filled-next h n q =
+      rw e (patterns-next (realAt file d) (t .number) count h after (omega (arith, f .long)) 0 _ (ap (patternOr (getD after (t .number) 0)) q) ∙ f .same)

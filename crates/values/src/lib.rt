@@ -3,7 +3,7 @@ ghost use mathlib.Core.Path.{_≡_};
 ghost use mathlib.Core.Bool.{true};
 ghost use mathlib.Core.Logic.{_⊎_};
 ghost use Prim.Native.Nat.{_+_, _≤_, _<_, min};
-ghost use lib.ListN.{length, getD};
+ghost use lib.ListN.{length, getD, set};
 ghost use Rattle.reader.specs.Reader.{readIn, readOf, reads};
 ghost use Rattle.reader.specs.Find.{realAt};
 ghost use Rattle.values.specs.Values.{allReply, allPlaces};
@@ -115,6 +115,14 @@ fn pattern_or(a: Read, instead: u64) -> u64
     }
 }
 
+// Puts the bit pattern of a value into place j; a refusal leaves the place.
+fn put_read(a: Read, j: usize, out: &mut [u64])
+    requires { ⌜ j < length (now out) ⌝ }
+    ensures { λ _. ⌜ now (out .exit) ≡ set (now (out .entry)) j (patternOr (getD (now (out .entry)) j 0) a) ⌝ }
+{
+    out[j] = pattern_or(a, out[j]);
+}
+
 // The letter of the exponent in the field that ends before byte `past`; E where there is none.
 fn letter_before(file: &[u8], past: usize) -> u8
     ensures { λ r. ⌜ isLetter r ≡ true ⌝ }
@@ -136,9 +144,9 @@ fn line_table(file: &[u8], d: Data) -> [u8; 240]
 {
     let fields = layout::fields_of(d.case);
     let widths = layout::line_widths(d.case);
-    let all: &[u8] = &widths;
     let line = line_start(file, d.body, d.closing, record_table::HEADER_LINES);
     let letter = letter_before(file, line + index(widths[0]));
+    let all: &[u8] = &widths;
     usual_values::usual_table(letter, &all[..fields])
 }
 
@@ -197,12 +205,13 @@ fn first_refusal(file: &[u8], d: Data, table: &[u8; 240], stored: usize) -> u8
         if stored <= t.number {
             return 0;
         }
+        let after = t.number + 1;
         let number = refusal_of(read_here(file, &widths, t.spot));
         if 0 < number {
             return number;
         }
         s = next_spot(file, d.closing, fields, &widths, t.spot);
-        j = t.number + 1;
+        j = after;
     }
     0
 }
@@ -222,17 +231,24 @@ fn field_bits(file: &[u8], at: usize, width: usize, tens: &[f64; 23]) -> u64
 }
 
 // Puts the bit patterns of the numbers of a usual line into their places, the first of which is place j.
-fn put_line(file: &[u8], d: Data, tens: &[f64; 23], line: usize, next: usize, j: usize, out: &mut [u64])
+fn put_line(
+    file: &[u8],
+    d: Data,
+    tens: &[f64; 23],
+    line: usize,
+    next: usize,
+    j: usize,
+    out: &mut [u64],
+)
     requires { ⌜ (d .body ≤ length (now file)) × ((d .case < 8) × (j + fieldsOf (d .case) ≤ length (now out))) ⌝ }
     requires { ⌜ AtSpot (now file) d j (spot line 0 line) × (UsualLine (now file) d line next × PowersTo (min (length (now file)) 22) (now tens)) ⌝ }
     ensures { λ _. ⌜ FilledTo (now (file .entry)) d j (j + fieldsOf (d .case)) (now (out .entry)) (now (out .exit)) ⌝ }
 {
     let fields = layout::fields_of(d.case);
-    let widths = layout::line_widths(d.case);
     let mut at = line;
     let mut k = 0;
     while k < fields {
-        let width = index(widths[k]);
+        let width = layout::field_width(d.case, k);
         out[j + k] = field_bits(file, at, width, tens);
         at += width;
         k += 1;
@@ -240,7 +256,15 @@ fn put_line(file: &[u8], d: Data, tens: &[f64; 23], line: usize, next: usize, j:
 }
 
 // Puts the bit patterns of the numbers from this one on that are on usual lines with all their fields, up to so many numbers; the first that is not.
-fn fill_usual(file: &[u8], d: Data, table: &[u8; 240], tens: &[f64; 23], t: Turn, stored: usize, out: &mut [u64]) -> Turn
+fn fill_usual(
+    file: &[u8],
+    d: Data,
+    table: &[u8; 240],
+    tens: &[f64; 23],
+    t: Turn,
+    stored: usize,
+    out: &mut [u64],
+) -> Turn
     requires { ⌜ (d .body ≤ length (now file)) × ((d .case < 8) × ((t .number ≤ stored) × (stored ≤ length (now out)))) ⌝ }
     requires { ⌜ AtSpot (now file) d (t .number) (t .spot) × (TableFor d (now table) × PowersTo (min (length (now file)) 22) (now tens)) ⌝ }
     ensures { λ r. ⌜ Filled (now (file .entry)) d stored (t .number) (now (out .entry)) (now (out .exit)) r ⌝ }
@@ -276,14 +300,23 @@ fn fill(file: &[u8], d: Data, table: &[u8; 240], stored: usize, out: &mut [u64])
     let mut s = first_spot(file, d);
     let mut j = 0;
     while j < stored {
-        let t = fill_usual(file, d, table, &tens, Turn { number: j, spot: s }, stored, out);
+        let t = fill_usual(
+            file,
+            d,
+            table,
+            &tens,
+            Turn { number: j, spot: s },
+            stored,
+            out,
+        );
         let number = t.number;
         if stored <= number {
             return;
         }
-        out[number] = pattern_or(read_here(file, &widths, t.spot), out[number]);
+        let after = number + 1;
+        put_read(read_here(file, &widths, t.spot), number, out);
         s = next_spot(file, d.closing, fields, &widths, t.spot);
-        j = number + 1;
+        j = after;
     }
 }
 

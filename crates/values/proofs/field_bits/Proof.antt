@@ -1,58 +1,68 @@
+-- `values::field_bits` meets its contract.
+use mathlib.Core.Path.{_≡_}
+use mathlib.Core.Logic.{⊎-elim}
+use Prim.Native.Nat.{ℕ, _+_, _-_}
 use native.Mathlib.Omega.{arith}
 use borrow.Author.Needs.{needs}
 use Rattle.values.proofs.field_bits.Statement.{statement}
 use Rattle.values.proofs.field_bits.Tie as tie
-use Rattle.values.proofs.field_bits.Reads as reads
-use Rattle.values.proofs.field_bits.Lts as lts
-use Rattle.usual_values.proofs.usual_bits.Reads as usual-bits-reads
 
--- src/lib.rt:217:20
 add-past : tie.Need-add-past
 add-past c = search needs
 
--- src/lib.rt:218:41
 sub-usual-bits : tie.Need-sub-usual-bits
 sub-usual-bits c = search needs
 
--- src/lib.rt:218:41
 part-usual-bits-start : tie.Need-part-usual-bits-start
 part-usual-bits-start c = search needs
 
--- src/lib.rt:218:41
 part-usual-bits-end : tie.Need-part-usual-bits-end
 part-usual-bits-end c = search needs
 
--- src/lib.rt:218:9
 usual-bits-requires : tie.Need-usual-bits-requires
-usual-bits-requires c κs = ?
+usual-bits-requires c κs =
+    let at-start = c .before .before .before in
+    let args = at-start .args in
+    let w : args .at + 13 - args .at ≡ args .width = omega arith in
+    (rw w (at-start .pre .1 .1 .0), at-start .pre .1 .1 .1)
 
--- src/lib.rt:218:9
 returns : tie.Need-returns
-returns c = ?
+returns c =
+    let at-start = c .before .before .before .before in
+    let args = at-start .args in
+    let w : args .at + 13 - args .at ≡ args .width = omega arith in
+    rw w at (c .usual-bits .ensures)
 
--- src/lib.rt:220:16
 add-past-2 : tie.Need-add-past-2
 add-past-2 c = search needs
 
--- src/lib.rt:221:30
 sub-usual-bits-2 : tie.Need-sub-usual-bits-2
 sub-usual-bits-2 c = search needs
 
--- src/lib.rt:221:30
 part-usual-bits-start-2 : tie.Need-part-usual-bits-start-2
 part-usual-bits-start-2 c = search needs
 
--- src/lib.rt:221:30
 part-usual-bits-end-2 : tie.Need-part-usual-bits-end-2
-part-usual-bits-end-2 c = ?
+part-usual-bits-end-2 c =
+    let at-start = c .before .before in
+    let w : at-start .args .width ≡ 20 = ⊎-elim (λ e. absurd (c .if1 .left e)) (λ e. e) (at-start .pre .0) in
+    omega (arith, at-start .pre .1 .0)
 
--- src/lib.rt:221:5
 usual-bits-requires-2 : tie.Need-usual-bits-requires-2
-usual-bits-requires-2 c κs = ?
+usual-bits-requires-2 c κs =
+    let at-start = c .before .before .before in
+    let args = at-start .args in
+    let e : args .width ≡ 20 = ⊎-elim (λ e. absurd (c .before .if1 .left e)) (λ e. e) (at-start .pre .0) in
+    let w : args .at + 20 - args .at ≡ args .width = omega arith in
+    (rw w (at-start .pre .1 .1 .0), at-start .pre .1 .1 .1)
 
--- src/lib.rt:211:1
 returns-2 : tie.Need-returns-2
-returns-2 c = ?
+returns-2 c =
+    let at-start = c .before .before .before .before in
+    let args = at-start .args in
+    let e : args .width ≡ 20 = ⊎-elim (λ e. absurd (c .before .before .if1 .left e)) (λ e. e) (at-start .pre .0) in
+    let w : args .at + 20 - args .at ≡ args .width = omega arith in
+    rw w at (c .usual-bits2 .ensures)
 
 pub field-bits-spec : {M : Type 1} → statement M
 field-bits-spec =

@@ -1,43 +1,44 @@
+-- `values::usual_next` meets its contract.
 use native.Mathlib.Omega.{arith}
+use borrow.Author.Tests.{not-false}
+use Rattle.layout.specs.LayoutLaws.{total-inside}
+use Rattle.values.specs.LinesLaws.{usual-line}
 use borrow.Author.Needs.{needs}
 use Rattle.values.proofs.usual_next.Statement.{statement}
 use Rattle.values.proofs.usual_next.Tie as tie
-use Rattle.values.proofs.usual_next.Reads as reads
-use Rattle.values.proofs.usual_next.Lts as lts
-use Rattle.line.proofs.find_end.Reads as find-end-reads
-use Rattle.usual_values.proofs.passes.Reads as passes-reads
 
--- src/lib.rt:151:9
 returns : tie.Need-returns
-returns c = ?
+returns c = λ h. absurd (omega arith)
 
--- src/lib.rt:153:9
 passes-requires : tie.Need-passes-requires
 passes-requires c κs = search needs
 
--- src/lib.rt:154:9
 returns-2 : tie.Need-returns-2
-returns-2 c = ?
+returns-2 c = λ h. absurd (omega arith)
 
--- src/lib.rt:156:36
 add-find-end : tie.Need-add-find-end
-add-find-end c = ?
+add-find-end c =
+    let at-start = c .before .before .before .before .before in
+    let passed = c .before .passes .ensures (not-false _ (c .if2 .left)) in
+    omega (arith, passed .inside, at-start .pre .1 .0, total-inside (at-start .args .d .case))
 
--- src/lib.rt:156:9
 find-end-requires : tie.Need-find-end-requires
 find-end-requires c κs = search needs
 
--- src/lib.rt:158:9
 returns-3 : tie.Need-returns-3
-returns-3 c = ?
+returns-3 c = λ h. absurd (omega arith)
 
--- src/lib.rt:160:5
 add-result : tie.Need-add-result
 add-result c = search needs
 
--- src/lib.rt:146:1
 returns-4 : tie.Need-returns-4
-returns-4 c = ?
+returns-4 c =
+    let at-if2 = c .before .before in
+    let at-if1 = at-if2 .before .before in
+    let at-start = at-if1 .before .before .before in
+    let args = at-start .args in
+    let passed = at-if2 .before .passes .ensures (not-false _ (at-if2 .if2 .left)) in
+    λ h. usual-line (args .file .now) (args .d) _ (args .at) (at-start .pre .0) (at-start .pre .1 .1) passed _ _ (at-start .pre .1 .0) (at-if1 .if1 .left) (c .before .find-end .ensures) (c .if3 .left)
 
 pub usual-next-spec : {M : Type 1} → statement M
 usual-next-spec =
