@@ -6,3 +6,5 @@ pub mod FillLaws
 pub mod ValuesLaws
 pub mod Each
 pub mod EachLaws
+pub mod Lines
+pub mod LinesLaws

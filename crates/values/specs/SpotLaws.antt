@@ -39,7 +39,7 @@ module _ (f : List ℕ) (stop : ℕ) where
   stays : (k at : ℕ) → ((m : ℕ) → skips m at ≡ at) → skips (suc k) at ≡ skips 1 (skips k at)
   stays k at e = e (suc k) ∙ sym (ap (skips 1) (e k) ∙ e 1)
 
-  skip-further : (k at : ℕ) → at ≤ length f → skips (suc k) at ≡ skips 1 (skips k at)
+  pub skip-further : (k at : ℕ) → at ≤ length f → skips (suc k) at ≡ skips 1 (skips k at)
   unfolding skipTo
   skip-further zero at a = refl
   skip-further (suc k) at a =

@@ -1,12 +1,20 @@
 // All values of a 58 at once.
 ghost use mathlib.Core.Path.{_≡_};
-ghost use Prim.Native.Nat.{_+_, _≤_, _<_};
-ghost use lib.ListN.{length, getD};
+ghost use mathlib.Core.Bool.{true};
+ghost use mathlib.Core.Logic.{_⊎_};
+ghost use Prim.Native.Nat.{_+_, _≤_, _<_, min};
+ghost use lib.ListN.{length, getD, set};
 ghost use Rattle.reader.specs.Reader.{readIn, readOf, reads};
 ghost use Rattle.reader.specs.Find.{realAt};
 ghost use Rattle.values.specs.Values.{allReply, allPlaces};
-ghost use Rattle.values.specs.Spot.{spotOf, nextSpot};
+ghost use Rattle.values.specs.Spot.{spot, spotOf, nextSpot, AtSpot};
+ghost use Rattle.layout.specs.Columns.{total};
+ghost use Rattle.layout.specs.Layout.{layoutOf, fieldsOf};
+ghost use Rattle.real.specs.Real.{isLetter};
+ghost use Rattle.usual_values.specs.Usual.{UsualField};
+ghost use Rattle.usual_values.specs.Number.{PowersTo, UsualRead};
 ghost use Rattle.values.specs.Fill.{refusalOf, refusalIn, patternOr, patternsPut};
+ghost use Rattle.values.specs.Lines.{field, TableFor, UsualLine, Skipped, Filled, FilledTo};
 use judge::Reply;
 use laws::index;
 use parts::line_start;
@@ -23,6 +31,12 @@ pub struct Spot {
     pub first: usize,
 }
 
+// A stored number, from 0, and where it is.
+pub struct Turn {
+    pub number: usize,
+    pub spot: Spot,
+}
+
 // Where the first stored number is.
 fn first_spot(file: &[u8], d: Data) -> Spot
     requires { ⌜ d .body ≤ length (now file) ⌝ }
@@ -33,6 +47,20 @@ fn first_spot(file: &[u8], d: Data) -> Spot
         line,
         field: 0,
         first: line,
+    }
+}
+
+// The number j, which opens the line that begins at byte `line`.
+fn at_line(j: usize, line: usize) -> Turn
+    ensures { λ r. ⌜ (r .number ≡ j) × (r .spot ≡ spot line 0 line) ⌝ }
+{
+    Turn {
+        number: j,
+        spot: Spot {
+            line,
+            field: 0,
+            first: line,
+        },
     }
 }
 
@@ -87,9 +115,85 @@ fn pattern_or(a: Read, instead: u64) -> u64
     }
 }
 
-// The first refusal of the first so many numbers; 0 where there is none.
-fn first_refusal(file: &[u8], d: Data, stored: usize) -> u8
+// Puts the bit pattern of a value into place j; a refusal leaves the place.
+fn put_read(a: Read, j: usize, out: &mut [u64])
+    requires { ⌜ j < length (now out) ⌝ }
+    ensures { λ _. ⌜ now (out .exit) ≡ set (now (out .entry)) j (patternOr (getD (now (out .entry)) j 0) a) ⌝ }
+{
+    out[j] = pattern_or(a, out[j]);
+}
+
+// The letter of the exponent in the field that ends before byte `past`; E where there is none.
+fn letter_before(file: &[u8], past: usize) -> u8
+    ensures { λ r. ⌜ isLetter r ≡ true ⌝ }
+{
+    if past < 4 {
+        return usual_values::letter_of(69);
+    }
+    if file.len() < past {
+        return usual_values::letter_of(69);
+    }
+    let at = past - 4;
+    usual_values::letter_of(file[at])
+}
+
+// What the columns of a set's full lines take in the usual spelling, with the letter of its first number.
+fn line_table(file: &[u8], d: Data) -> [u8; 240]
     requires { ⌜ (d .body ≤ length (now file)) × (d .case < 8) ⌝ }
+    ensures { λ r. ⌜ TableFor d r ⌝ }
+{
+    let fields = layout::fields_of(d.case);
+    let widths = layout::line_widths(d.case);
+    let line = line_start(file, d.body, d.closing, record_table::HEADER_LINES);
+    let letter = letter_before(file, line + index(widths[0]));
+    let all: &[u8] = &widths;
+    usual_values::usual_table(letter, &all[..fields])
+}
+
+// The first byte of the line after the one that begins at byte `at`, whose fields are all in the usual spelling; 0 where it is no such line.
+fn usual_next(file: &[u8], d: Data, columns: usize, table: &[u8; 240], at: usize) -> usize
+    requires { ⌜ (d .case < 8) × ((columns ≡ total (layoutOf (d .case) .widths)) × TableFor d (now table)) ⌝ }
+    ensures { λ r. ⌜ (0 < r → UsualLine (now (file .entry)) d at r) ⌝ }
+{
+    if d.closing <= at {
+        return 0;
+    }
+    if !usual_values::passes(file, at, table) {
+        return 0;
+    }
+    let end = line::find_end(file, at + columns);
+    if file.len() <= end {
+        return 0;
+    }
+    end + 1
+}
+
+// The first number from this one on that is not on a usual line with all its fields, up to so many numbers.
+fn skip_usual(file: &[u8], d: Data, table: &[u8; 240], t: Turn, stored: usize) -> Turn
+    requires { ⌜ (d .body ≤ length (now file)) × ((d .case < 8) × ((t .number ≤ stored) × (AtSpot (now file) d (t .number) (t .spot) × TableFor d (now table)))) ⌝ }
+    ensures { λ r. ⌜ Skipped (now (file .entry)) d stored (t .number) r ⌝ }
+{
+    if 0 < t.spot.field {
+        return t;
+    }
+    let fields = layout::fields_of(d.case);
+    let columns = layout::field_start(d.case, fields);
+    let mut line = t.spot.line;
+    let mut j = t.number;
+    while fields <= stored - j {
+        let next = usual_next(file, d, columns, table, line);
+        if next == 0 {
+            return at_line(j, line);
+        }
+        line = next;
+        j += fields;
+    }
+    at_line(j, line)
+}
+
+// The first refusal of the first so many numbers; 0 where there is none.
+fn first_refusal(file: &[u8], d: Data, table: &[u8; 240], stored: usize) -> u8
+    requires { ⌜ (d .body ≤ length (now file)) × ((d .case < 8) × TableFor d (now table)) ⌝ }
     ensures { λ r. ⌜ r ≡ refusalIn (reads (realAt (now (file .entry)) d) 0 stored) ⌝ }
 {
     let fields = layout::fields_of(d.case);
@@ -97,30 +201,122 @@ fn first_refusal(file: &[u8], d: Data, stored: usize) -> u8
     let mut s = first_spot(file, d);
     let mut j = 0;
     while j < stored {
-        let number = refusal_of(read_here(file, &widths, s));
+        let t = skip_usual(file, d, table, Turn { number: j, spot: s }, stored);
+        if stored <= t.number {
+            return 0;
+        }
+        let after = t.number + 1;
+        let number = refusal_of(read_here(file, &widths, t.spot));
         if 0 < number {
             return number;
         }
-        s = next_spot(file, d.closing, fields, &widths, s);
-        j += 1;
+        s = next_spot(file, d.closing, fields, &widths, t.spot);
+        j = after;
     }
     0
 }
 
+// The bit pattern of the number in a usual field, which has 13 or 20 columns.
+fn field_bits(file: &[u8], at: usize, width: usize, tens: &[f64; 23]) -> u64
+    requires { ⌜ (width ≡ 13) ⊎ (width ≡ 20) ⌝ }
+    requires { ⌜ (at + width ≤ length (now file)) × (UsualField (field (now file) at width) × PowersTo 22 (now tens)) ⌝ }
+    ensures { λ r. ⌜ UsualRead (field (now (file .entry)) at width) r ⌝ }
+{
+    if width == 13 {
+        let past = at + 13;
+        return usual_values::usual_bits(&file[at..past], tens);
+    }
+    let past = at + 20;
+    usual_values::usual_bits(&file[at..past], tens)
+}
+
+// Puts the bit patterns of the numbers of a usual line into their places, the first of which is place j.
+fn put_line(
+    file: &[u8],
+    d: Data,
+    tens: &[f64; 23],
+    line: usize,
+    next: usize,
+    j: usize,
+    out: &mut [u64],
+)
+    requires { ⌜ (d .body ≤ length (now file)) × ((d .case < 8) × (j + fieldsOf (d .case) ≤ length (now out))) ⌝ }
+    requires { ⌜ AtSpot (now file) d j (spot line 0 line) × (UsualLine (now file) d line next × PowersTo (min (length (now file)) 22) (now tens)) ⌝ }
+    ensures { λ _. ⌜ FilledTo (now (file .entry)) d j (j + fieldsOf (d .case)) (now (out .entry)) (now (out .exit)) ⌝ }
+{
+    let fields = layout::fields_of(d.case);
+    let mut at = line;
+    let mut k = 0;
+    while k < fields {
+        let width = layout::field_width(d.case, k);
+        out[j + k] = field_bits(file, at, width, tens);
+        at += width;
+        k += 1;
+    }
+}
+
+// Puts the bit patterns of the numbers from this one on that are on usual lines with all their fields, up to so many numbers; the first that is not.
+fn fill_usual(
+    file: &[u8],
+    d: Data,
+    table: &[u8; 240],
+    tens: &[f64; 23],
+    t: Turn,
+    stored: usize,
+    out: &mut [u64],
+) -> Turn
+    requires { ⌜ (d .body ≤ length (now file)) × ((d .case < 8) × ((t .number ≤ stored) × (stored ≤ length (now out)))) ⌝ }
+    requires { ⌜ AtSpot (now file) d (t .number) (t .spot) × (TableFor d (now table) × PowersTo (min (length (now file)) 22) (now tens)) ⌝ }
+    ensures { λ r. ⌜ Filled (now (file .entry)) d stored (t .number) (now (out .entry)) (now (out .exit)) r ⌝ }
+{
+    if 0 < t.spot.field {
+        return t;
+    }
+    let fields = layout::fields_of(d.case);
+    let columns = layout::field_start(d.case, fields);
+    let mut line = t.spot.line;
+    let mut j = t.number;
+    while fields <= stored - j {
+        let next = usual_next(file, d, columns, table, line);
+        if next == 0 {
+            return at_line(j, line);
+        }
+        put_line(file, d, tens, line, next, j, out);
+        line = next;
+        j += fields;
+    }
+    at_line(j, line)
+}
+
 // Puts the bit patterns of the first so many numbers into the places lent, one after the other; a number that is refused leaves its
 // place.
-fn fill(file: &[u8], d: Data, stored: usize, out: &mut [u64])
-    requires { ⌜ (d .body ≤ length (now file)) × ((d .case < 8) × (stored ≤ length (now out))) ⌝ }
+fn fill(file: &[u8], d: Data, table: &[u8; 240], stored: usize, out: &mut [u64])
+    requires { ⌜ (d .body ≤ length (now file)) × ((d .case < 8) × ((stored ≤ length (now out)) × TableFor d (now table))) ⌝ }
     ensures { λ _. ⌜ now (out .exit) ≡ patternsPut (reads (realAt (now (file .entry)) d) 0 stored) (now (out .entry)) ⌝ }
 {
     let fields = layout::fields_of(d.case);
     let widths = layout::line_widths(d.case);
+    let tens = usual_values::powers(file.len());
     let mut s = first_spot(file, d);
     let mut j = 0;
     while j < stored {
-        out[j] = pattern_or(read_here(file, &widths, s), out[j]);
-        s = next_spot(file, d.closing, fields, &widths, s);
-        j += 1;
+        let t = fill_usual(
+            file,
+            d,
+            table,
+            &tens,
+            Turn { number: j, spot: s },
+            stored,
+            out,
+        );
+        let number = t.number;
+        if stored <= number {
+            return;
+        }
+        let after = number + 1;
+        put_read(read_here(file, &widths, t.spot), number, out);
+        s = next_spot(file, d.closing, fields, &widths, t.spot);
+        j = after;
     }
 }
 
@@ -138,13 +334,14 @@ pub fn values(file: &[u8], set: u32, out: &mut [u64]) -> Reply
         return judge::bare_reply(18, 0);
     }
     let stored = (d.count as usize) * layout::numbers_of(d.case);
-    let number = first_refusal(file, d, stored);
+    let table = line_table(file, d);
+    let number = first_refusal(file, d, &table, stored);
     if 0 < number {
         return judge::bare_reply(number, 0);
     }
     if out.len() < stored {
         return judge::bare_reply(20, 0);
     }
-    fill(file, d, stored, out);
+    fill(file, d, &table, stored, out);
     judge::bare_reply(0, stored)
 }

@@ -44,11 +44,18 @@ mul-stored c =
     let inside = data-inside (at-start .args .file .now) _ _ (found .ensures) in
     let few : found .result .count * c .numbers-of .result ≤ found .result .count * 3 = start-most _ _ _ (inside .1) (c .numbers-of .ensures) in search needs
 
-first-refusal-requires : tie.Need-first-refusal-requires
-first-refusal-requires c κs =
+line-table-requires : tie.Need-line-table-requires
+line-table-requires c κs =
     let at-find-data = c .before .before .before .before in
     let at-start = at-find-data .before .before .before .before .before .before in
     data-inside (at-start .args .file .now) _ _ (at-find-data .find-data .ensures)
+
+first-refusal-requires : tie.Need-first-refusal-requires
+first-refusal-requires c κs =
+    let at-line-table = c .before in
+    let at-find-data = at-line-table .before .before .before .before .before in
+    let at-start = at-find-data .before .before .before .before .before .before in
+    let i = data-inside (at-start .args .file .now) _ _ (at-find-data .find-data .ensures) in (i .0, (i .1, at-line-table .line-table .ensures))
 
 bare-reply-requires-2 : tie.Need-bare-reply-requires-2
 bare-reply-requires-2 c κs = search needs
@@ -56,14 +63,15 @@ bare-reply-requires-2 c κs = search needs
 returns-3 : tie.Need-returns-3
 returns-3 c =
     let at-if3 = c .before in
-    let at-if2 = at-if3 .before .before .before .before in
+    let at-numbers-of = at-if3 .before .before .before .before in
+    let at-if2 = at-numbers-of .before .before in
     let at-find-data = at-if2 .before .before in
     let at-if1 = at-find-data .before in
     let at-judge = at-if1 .before .before in
     let at-start = at-judge .before .before .before in
     let args = at-start .args in
     let refused = one-refused (args .file .now) (args .set) (args .out .now) _ (at-judge .judge .ensures) (at-if1 .if1 .left) _ (at-find-data .find-data .ensures) (at-if2 .if2 .left) in
-    rw (c .bare-reply2 .ensures) (refused _ _ _ refl (at-if3 .before .before .numbers-of .ensures) (at-if3 .before .first-refusal .ensures) (at-if3 .if3 .taken))
+    rw (c .bare-reply2 .ensures) (refused _ _ _ refl (at-numbers-of .numbers-of .ensures) (at-if3 .before .first-refusal .ensures) (at-if3 .if3 .taken))
 
 bare-reply-requires-3 : tie.Need-bare-reply-requires-3
 bare-reply-requires-3 c κs = search needs
@@ -72,20 +80,23 @@ returns-4 : tie.Need-returns-4
 returns-4 c =
     let at-if4 = c .before in
     let at-if3 = at-if4 .before in
-    let at-if2 = at-if3 .before .before .before .before in
+    let at-numbers-of = at-if3 .before .before .before .before in
+    let at-if2 = at-numbers-of .before .before in
     let at-find-data = at-if2 .before .before in
     let at-if1 = at-find-data .before in
     let at-judge = at-if1 .before .before in
     let at-start = at-judge .before .before .before in
     let args = at-start .args in
     let few = too-few (args .file .now) (args .set) (args .out .now) _ (at-judge .judge .ensures) (at-if1 .if1 .left) _ (at-find-data .find-data .ensures) (at-if2 .if2 .left) in
-    rw (c .bare-reply3 .ensures) (few _ _ _ refl (at-if3 .before .before .numbers-of .ensures) (at-if3 .before .first-refusal .ensures) (at-if3 .if3 .left) (at-if4 .if4 .taken))
+    rw (c .bare-reply3 .ensures) (few _ _ _ refl (at-numbers-of .numbers-of .ensures) (at-if3 .before .first-refusal .ensures) (at-if3 .if3 .left) (at-if4 .if4 .taken))
 
 fill-requires : tie.Need-fill-requires
 fill-requires c κs =
-    let at-find-data = c .before .before .before .before .before .before .before .before in
+    let at-if4 = c .before .before in
+    let at-line-table = at-if4 .before .before .before .before in
+    let at-find-data = at-line-table .before .before .before .before .before in
     let at-start = at-find-data .before .before .before .before .before .before in
-    let i = data-inside (at-start .args .file .now) _ _ (at-find-data .find-data .ensures) in (i .0, (i .1, c .before .if4 .left))
+    let i = data-inside (at-start .args .file .now) _ _ (at-find-data .find-data .ensures) in (i .0, (i .1, (at-if4 .if4 .left, at-line-table .line-table .ensures)))
 
 bare-reply-requires-4 : tie.Need-bare-reply-requires-4
 bare-reply-requires-4 c κs = search needs
@@ -96,10 +107,10 @@ same-length c = search needs
 returns-5 : tie.Need-returns-5
 returns-5 c =
     let at-fill = c .before in
-    let at-if4 = at-fill .before .before .before .before in
+    let at-if4 = at-fill .before .before .before .before .before in
     let at-if3 = at-if4 .before in
     let at-first-refusal = at-if3 .before in
-    let at-numbers-of = at-first-refusal .before in
+    let at-numbers-of = at-first-refusal .before .before .before in
     let at-if2 = at-numbers-of .before .before in
     let at-find-data = at-if2 .before .before in
     let at-if1 = at-find-data .before in
@@ -122,6 +133,7 @@ values-spec =
     cast-stored
     numbers-of-requires
     mul-stored
+    line-table-requires
     first-refusal-requires
     bare-reply-requires-2
     returns-3

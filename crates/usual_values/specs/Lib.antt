@@ -1,0 +1,4 @@
+pub mod Usual
+pub mod UsualLaws
+pub mod Number
+pub mod NumberLaws
