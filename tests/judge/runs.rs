@@ -61,16 +61,20 @@ fn beside(place: usize, width: usize) -> &'static [u8] {
     }
 }
 
+/// Six full lines with another letter in all their exponents.
+fn lettered(case: usize, letter: &str) -> Vec<u8> {
+    let text = String::from_utf8(six_lines(case)).expect("plain text");
+    text.replace("E-01", &format!("{letter}-01")).into_bytes()
+}
+
 /// Every case with six full lines in four writings: nothing is wrong. Tells apart: a line advanced by one byte too many.
 fn good(list: &mut List) {
     for case in 1..=8 {
         for (name, file) in writings(&six_lines(case)) {
             list.add(&format!("run, case {case}, {name}"), file, accepted(20));
         }
-        // With another letter throughout.
         for letter in ["D", "e", "d"] {
-            let text = String::from_utf8(six_lines(case)).expect("plain text").replace("E-01", &format!("{letter}-01"));
-            list.add(&format!("run, case {case}, {letter}"), text, accepted(20));
+            list.add(&format!("run, case {case}, {letter}"), lettered(case, letter), accepted(20));
         }
     }
 }
@@ -87,6 +91,29 @@ fn bytes_beside(list: &mut List) {
                     list.add(&name, made(file, line, first + place, byte), refused(12, line as u32, first as u32));
                 }
             }
+        }
+    }
+}
+
+/// Past the fields, and beside each letter; a letter that is none in all exponents. Tells apart: the same, and a letter
+/// taken from the first field unseen.
+fn letters_beside(list: &mut List) {
+    for (case, (fields, ..)) in (1..).zip(CASES) {
+        for (column, line) in (columns_of(fields) + 1..=80).zip((FIRST..FIRST + 5).cycle()) {
+            let file = made(&filled(&six_lines(case), b"\n"), line, column, b'!');
+            list.add(&format!("run, case {case}: '!' in column {column}"), file, refused(13, line as u32, column as u32));
+        }
+        for letter in ["D", "e", "d"] {
+            for (&(first, width), line) in fields.iter().zip((FIRST + 1..FIRST + 5).cycle()) {
+                for &other in b"CFcf" {
+                    let file = made(&lettered(case, letter), line, first + width - 4, other);
+                    let name = format!("run, case {case}, {letter}: {:?} in the field at column {first}", other as char);
+                    list.add(&name, file, refused(12, line as u32, first as u32));
+                }
+            }
+        }
+        for letter in ["C", "F", "c", "f", "0", " "] {
+            list.add(&format!("run, case {case}, {letter:?} in all exponents"), lettered(case, letter), refused(12, 14, 1));
         }
     }
 }
@@ -164,6 +191,7 @@ fn columns_81(list: &mut List) {
             list.add(&format!("run, case {case}: a blank for the CR of line {line}"), made(&crlf, line, 81, b' '), refused(3, place, 1));
             list.add(&format!("run, case {case}: x for the CR of line {line}"), made(&crlf, line, 81, b'x'), refused(3, place, 1));
             list.add(&format!("run, case {case}: 12 for the CR of line {line}"), made(&crlf, line, 81, 12), refused(2, place, 81));
+            list.add(&format!("run, case {case}: x for the LF of line {line}"), made(&crlf, line, 82, b'x'), refused(2, place, 81));
             let end = begins(&lf, line) + 80;
             for (what, put, reply) in [
                 ("a CR", &b"\r"[..], accepted(20)),
@@ -202,6 +230,7 @@ fn lines_due(list: &mut List) {
 pub(super) fn add_all(list: &mut List) {
     good(list);
     bytes_beside(list);
+    letters_beside(list);
     columns_tested(list);
     one_byte_short(list);
     one_byte_more(list);

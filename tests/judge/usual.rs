@@ -417,7 +417,7 @@ fn odd_lines(random: &mut Random, share: &mut Share, take: &mut Take) {
                     let at = bytes.start + random.below(bytes.len());
                     let mut file = one.file.clone();
                     file[at] = NEAR[random.below(NEAR.len())];
-                    if share.picks(false) {
+                    if share.picks(true) {
                         take(format_args!("{}: data line {} odd, byte {at} damaged", one.name, odd + 1), &file, at);
                     }
                 }
