@@ -2,18 +2,22 @@
 //!
 //! `compare` takes every edge file, a few hundred thousand generated files and arbitrary strings of
 //! bytes, asks both judges and stops at the first disagreement (exit 1). `compare --self` asks the
-//! plain judge alone and checks it against the replies typed by hand.
+//! plain judge alone and checks it against the replies typed by hand. `compare --million` takes usual files
+//! alone, damaged with every byte value, and `compare --million N` one in N of them.
 
 #[path = "../common/mod.rs"]
 mod common;
 mod edges;
 mod generate;
 mod judge;
+mod usual;
 
 use common::files::print_lines;
 use common::uff::{self, Word, SETS};
 use generate::Random;
 use judge::Reply;
+use std::fmt::Arguments;
+use usual::Share;
 
 /// Generated files, half of them proper and half of them faulty or damaged.
 const FILES: usize = 240_000;
@@ -55,6 +59,9 @@ const LEAST_WITHOUT_LETTER: u32 = 400_000;
 /// So many sets of the proper files must have padding.
 const LEAST_PADDED: u32 = 10_000;
 
+/// So many usual files, most of them damaged, must be among those of the gate.
+const LEAST_USUAL: u32 = 50_000;
+
 /// The proved judge's whole reply. An empty file is lent as null and otherwise, in turn.
 fn proved(file: &[u8]) -> Word {
     if file.is_empty() {
@@ -74,9 +81,15 @@ struct Run {
     without_letter: u32,
     /// Sets with padding in the proper files.
     padded: u32,
+    /// Usual files, damaged ones too.
+    usual: u32,
 }
 
 impl Run {
+    fn new(alone: bool) -> Run {
+        Run { alone, files: 0, bytes: 0, came: [0; 26], without_letter: 0, padded: 0, usual: 0 }
+    }
+
     /// Takes one file; a wrong reply ends the program. `expected` is what the papers give, if known.
     fn take(&mut self, name: &str, file: &[u8], expected: Option<Reply>) {
         let plain = judge::judge(file);
@@ -95,6 +108,20 @@ impl Run {
         if word != Word::from(plain) {
             fail(name, file, &[("proved", word), ("plain", plain.into())]);
         }
+    }
+
+    /// Takes usual files and damaged ones; what is damaged is told only where the replies differ.
+    fn take_usual(&mut self, share: &mut Share) {
+        usual::files(share, &mut |name: Arguments, file: &[u8], _: usize| {
+            let plain = judge::judge(file);
+            self.usual += 1;
+            self.files += 1;
+            self.bytes += file.len();
+            self.came[plain.number as usize] += 1;
+            if !self.alone && proved(file) != Word::from(plain) {
+                fail(&name.to_string(), file, &[("proved", proved(file)), ("plain", plain.into())]);
+            }
+        });
     }
 }
 
@@ -178,9 +205,28 @@ fn check_outcomes(run: &Run) {
     }
 }
 
+/// Prints how often each refusal came.
+fn print_came(run: &Run) {
+    for (number, came) in run.came.iter().enumerate().filter(|(_, &came)| came > 0) {
+        println!("{number:7}  {came:10}");
+    }
+}
+
+/// Usual files alone, damaged with every byte value in every column.
+fn million(share: &mut Share) {
+    let mut run = Run::new(false);
+    run.take_usual(share);
+    print_came(&run);
+    println!("{} million bytes", run.bytes / 1_000_000);
+    println!("compared {} usual files", run.usual);
+}
+
 fn main() {
+    if let Some(mut share) = Share::by_hand() {
+        return million(&mut share);
+    }
     let alone = std::env::args().any(|argument| argument == "--self");
-    let mut run = Run { alone, files: 0, bytes: 0, came: [0; 26], without_letter: 0, padded: 0 };
+    let mut run = Run::new(alone);
     for edge in edges::edges() {
         run.take(&edge.name, &edge.file, Some(edge.reply));
     }
@@ -197,6 +243,9 @@ fn main() {
     if alone {
         println!("the plain judge alone, {edge_files} edge files as the papers say");
     } else {
+        run.take_usual(&mut Share::of_gate(20, true));
+        println!("{} usual files, damaged ones too", run.usual);
+        assert!(run.usual >= LEAST_USUAL, "too few usual files");
         println!("{} million bytes, of them {edge_files} edge files", run.bytes / 1_000_000);
     }
     println!("compared {} files", run.files);

@@ -4,6 +4,8 @@
 pub mod columns;
 #[path = "padding.rs"]
 pub mod padding;
+#[path = "runs.rs"]
+mod runs;
 
 use crate::common::files::{empty_sets, filled, function, joined, lines, EXAMPLE};
 use crate::judge::Reply;
@@ -157,6 +159,7 @@ pub fn edges() -> Vec<Edge> {
     orders(&mut list);
     columns::add_all(&mut list);
     padding::add_all(&mut list);
+    runs::add_all(&mut list);
     list.0
 }
 

@@ -100,7 +100,7 @@ const TYPED: [i64; 5] = [58, 82, 151, 164, 1815];
 const DATA_TYPES: [i64; 16] = [0, 1, 2, 3, 5, 6, 8, 9, 11, 12, 13, 15, 16, 17, 18, 19];
 
 /// Ordinate type, spacing, field widths and numbers in a value of the eight cases.
-const CASES: [(i64, i64, &[usize], usize); 8] = [
+pub const CASES: [(i64, i64, &[usize], usize); 8] = [
     (2, 1, &[13, 13, 13, 13, 13, 13], 1),
     (2, 0, &[13, 13, 13, 13, 13, 13], 2),
     (5, 1, &[13, 13, 13, 13, 13, 13], 2),

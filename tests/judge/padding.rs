@@ -22,14 +22,14 @@ pub struct Padded {
 }
 
 /// First column (from 1) and width of each field of a full line: 6E13.5, 4E20.12, 2(E13.5,E20.12), E13.5,2E20.12.
-type Fields = &'static [(usize, usize)];
+pub(super) type Fields = &'static [(usize, usize)];
 const SINGLE: Fields = &[(1, 13), (14, 13), (27, 13), (40, 13), (53, 13), (66, 13)];
 const DOUBLE: Fields = &[(1, 20), (21, 20), (41, 20), (61, 20)];
 const BOTH: Fields = &[(1, 13), (14, 20), (34, 13), (47, 20)];
 const THREE: Fields = &[(1, 13), (14, 20), (34, 20)];
 
 /// The eight cases: fields, numbers in a value, and by the counted numbers of the last line (from 1) its padding.
-const CASES: [(Fields, usize, &[u32]); 8] = [
+pub(super) const CASES: [(Fields, usize, &[u32]); 8] = [
     (SINGLE, 1, &[5, 4, 3, 2, 1, 0]),
     (SINGLE, 2, &[5, 4, 3, 2, 1, 0]),
     (SINGLE, 2, &[5, 4, 3, 2, 1, 0]),

@@ -5,11 +5,13 @@
 //! difference (exit 1). All values of a set are also held against its values one by one, both of the
 //! proved side, in the fixed files and where they are few. `compare --self` asks the plain side alone:
 //! against the answers typed by hand, and against what must hold of its answers whatever the file is.
-//! Each call has a file of its own.
+//! Each call has a file of its own. `compare --million` takes usual files alone, damaged with every byte value, and
+//! `compare --million N` one in N of them.
 
 mod alone;
 #[path = "../common/mod.rs"]
 mod common;
+mod damaged;
 #[path = "../judge/edges.rs"]
 mod edges;
 mod fixed;
@@ -27,11 +29,14 @@ mod reader;
 mod rewrite;
 mod run;
 mod subject;
+#[path = "../judge/usual.rs"]
+mod usual;
 mod value;
 mod values;
 
 use run::{Call, Run};
 use subject::Subject;
+use usual::Share;
 
 /// Holds the plain side against the answers typed by hand; says how many there are.
 fn check_fixed() -> usize {
@@ -45,7 +50,21 @@ fn check_fixed() -> usize {
     answers + padded::check_padded()
 }
 
+/// So many usual files, most of them damaged, must be among those of the gate.
+const LEAST_USUAL: u32 = 20_000;
+
+/// Usual files alone, damaged with every byte value in every column.
+fn million(share: &mut Share) {
+    let mut run = Run::new(false);
+    run.take_usual(share);
+    outcomes::print_tallies(&run);
+    println!("compared {} usual files", run.usual);
+}
+
 fn main() {
+    if let Some(mut share) = Share::by_hand() {
+        return million(&mut share);
+    }
     let alone = std::env::args().any(|argument| argument == "--self");
     println!("{} answers as the papers say", check_fixed());
     let mut run = Run::new(alone);
@@ -63,6 +82,9 @@ fn main() {
         return;
     }
     alone::check_one_pass();
+    run.take_usual(&mut Share::of_gate(40, false));
+    println!("{} usual files, damaged ones too", run.usual);
+    assert!(run.usual >= LEAST_USUAL, "too few usual files");
     let compared = |call: Call| run.tally(call).compared;
     println!(
         "compared {} files, {} lists, {} numbers, {} values, {} rewritten, {} all values, {} sets alone",

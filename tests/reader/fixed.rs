@@ -39,6 +39,12 @@ pub fn fixed() -> Vec<Fixed> {
         double_complex_uneven_exact(),
         exact_path(),
         every_scale(),
+        single_run(),
+        double_run(),
+        run_outside("a run, 21 in the first field", 1, 0, "  1.00000E+28"),
+        run_outside("a run, 21 in a middle line", 3, 3, " -1.00000E-18"),
+        run_outside("a run, 21 in the last full line", 4, 5, "  0.00000E+28"),
+        run_outside("a run, 21 in the last line", 5, 1, " -0.00000E-18"),
         single_without_letter(),
         double_without_letter(),
         exact_without_letter(),
@@ -480,6 +486,73 @@ fn every_scale() -> Fixed {
     let file = function(4, 180, 1, &lines);
     let values = (0..180).map(|i| (i, real(all_values[i as usize]))).collect();
     alone("every scale of the exact path", file, 180, Vec::new(), values, Ok(all_values))
+}
+
+/// Full lines in the usual spelling of E13.5 and a last one in part: both zeros, the scales -22 and 22.
+const SINGLE_RUN: [&str; 5] = [
+    "  1.00000E-01 -2.00000E-01  3.14159E+00  0.00000E+00 -0.00000E+00  9.99999E+27",
+    "  1.00000E-17 -1.00000E-17  0.00000E+27 -0.00000E-17  1.00000E+27 -9.99999E-17",
+    "  0.00001E+27 -0.00001E-17  1.00000E+05 -1.00000E+06  1.00000E+04  5.00000E-05",
+    "  9.99999E+05 -9.99999E+04  1.23456E+00 -6.54321E+10  0.10000E+01 -0.99999E-10",
+    "  1.23456E+05 -0.00001E+00",
+];
+
+fn single_run() -> Fixed {
+    let file = function(2, 26, 1, &SINGLE_RUN);
+    let numbers = vec![
+        (4, number(&file, (14, 53, 65), true, 0, -5)),
+        (5, number(&file, (14, 66, 78), false, 999_999, 22)),
+        (11, number(&file, (15, 66, 78), true, 999_999, -22)),
+        (12, number(&file, (16, 1, 13), false, 1, 22)),
+        (23, number(&file, (17, 66, 78), true, 99_999, -15)),
+        (24, number(&file, (18, 1, 13), false, 123_456, 0)),
+        (25, number(&file, (18, 14, 26), true, 1, -5)),
+        (26, Err(18)),
+    ];
+    #[rustfmt::skip]
+    let all_values = vec![
+        0.1, -0.2, 3.14159, 0.0, -0.0, 9.99999e27,
+        1e-17, -1e-17, 0.0, -0.0, 1e27, -9.99999e-17,
+        1e22, -1e-22, 1e5, -1e6, 1e4, 5e-5,
+        999_999.0, -99_999.9, 1.23456, -65_432_100_000.0, 1.0, -9.9999e-11,
+        123_456.0, -1e-5,
+    ];
+    let values = (0..26).map(|i| (i, real(all_values[i as usize]))).collect();
+    alone("a run of E13.5", file, 26, numbers, values, Ok(all_values))
+}
+
+/// The same with a number outside the exact path in a field (from 0) of a line (from 1): all values are 21.
+fn run_outside(name: &'static str, line: usize, field: usize, text: &str) -> Fixed {
+    let mut lines = SINGLE_RUN.map(String::from);
+    lines[line - 1].replace_range(13 * field..13 * field + 13, text);
+    let file = function(2, 26, 1, &lines.each_ref().map(String::as_str));
+    let index = (6 * (line - 1) + field) as u32;
+    alone(name, file, 26, Vec::new(), vec![(index, Err(21))], Err(21))
+}
+
+/// Full lines in the usual spelling of E20.12, with D, and a last one in part.
+fn double_run() -> Fixed {
+    let file = function(4, 13, 1, &[
+        "  1.000000000000D-01 -2.000000000000D-01  3.141592653590D+00 -0.000000000000D+00",
+        "  9.999999999999D+34 -9.999999999999D-10  1.000000000000D+12 -1.000000000000D+34",
+        "  0.000000000001D+34 -0.000000000001D-10  1.234567890123D+12 -0.000000000000D-10",
+        " -7.000000000000D+00",
+    ]);
+    let numbers = vec![
+        (4, number(&file, (15, 1, 20), false, 9_999_999_999_999, 22)),
+        (5, number(&file, (15, 21, 40), true, 9_999_999_999_999, -22)),
+        (12, number(&file, (17, 1, 20), true, 7_000_000_000_000, -12)),
+        (13, Err(18)),
+    ];
+    #[rustfmt::skip]
+    let all_values = vec![
+        0.1, -0.2, 3.14159265359, -0.0,
+        9.999999999999e34, -9.999999999999e-10, 1e12, -1e34,
+        1e22, -1e-22, 1_234_567_890_123.0, -0.0,
+        -7.0,
+    ];
+    let values = (0..13).map(|i| (i, real(all_values[i as usize]))).collect();
+    alone("a run of E20.12", file, 13, numbers, values, Ok(all_values))
 }
 
 /// Exponents without a letter in E13.5; with the letter `1.0E+005` is the same number as `1.0+005`.

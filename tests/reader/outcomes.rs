@@ -41,8 +41,8 @@ const LEAST_WITHOUT_LETTER: u32 = 1_000;
 
 const CALLS: [Call; 5] = [Call::List, Call::Number, Call::Value, Call::Values, Call::Rewrite];
 
-/// Prints how often each outcome came and ends the program if one came too seldom.
-pub fn check_outcomes(run: &Run) {
+/// Prints how often each outcome came.
+pub fn print_tallies(run: &Run) {
     let tallies = CALLS.map(|call| run.tally(call));
     println!("refusal    lists  numbers   values  all values  rewritten");
     for number in 0..26 {
@@ -51,10 +51,15 @@ pub fn check_outcomes(run: &Run) {
             println!("{number:7} {a:8} {b:8} {c:8} {d:11} {e:10}");
         }
     }
+}
+
+/// Prints how often each outcome came and ends the program if one came too seldom.
+pub fn check_outcomes(run: &Run) {
+    print_tallies(run);
     println!("values of the four kinds: {:?}", &run.kinds[1..]);
     println!("numbers and values without a letter: {:?}", run.without_letter);
     println!("sets with padding: {}", run.padded);
-    let mut seldom = refusals_seldom(tallies);
+    let mut seldom = refusals_seldom(CALLS.map(|call| run.tally(call)));
     seldom |= run.padded < LEAST_PADDED;
     seldom |= run.without_letter.iter().any(|&came| came < LEAST_WITHOUT_LETTER);
     seldom |= run.kinds[1..].iter().any(|&came| came < LEAST_OF_A_KIND);

@@ -52,6 +52,8 @@ pub struct Run {
     pub alone: bool,
     pub random: Random,
     pub files: u32,
+    /// Usual files, damaged ones too.
+    pub usual: u32,
     tallies: [Tally; 5],
     pub kinds: [u32; 5],
     /// Numbers and values with an exponent without a letter.
@@ -70,6 +72,7 @@ impl Run {
             alone,
             random: Random::new(0x5EED_0A5C_0018_0020),
             files: 0,
+            usual: 0,
             tallies: Default::default(),
             kinds: [0; 5],
             without_letter: [0; 2],
@@ -142,7 +145,7 @@ impl Run {
     }
 
     /// Every call gives the judge's refusal, whatever is asked and lent.
-    fn take_refused(&mut self, subject: &Subject) {
+    pub fn take_refused(&mut self, subject: &Subject) {
         let set = self.random.below(4) as u32;
         let index = self.random.below(4) as u32;
         let lent = self.random.below(60);
@@ -289,7 +292,7 @@ fn function_of(subject: &Subject, set: u32, row: &Row) -> Option<Function> {
 }
 
 /// What must hold of the plain side's answers on every accepted file.
-fn sound(subject: &Subject) {
+pub fn sound(subject: &Subject) {
     let rows = subject.accepted().list();
     list::sound(subject, &rows);
     for (set, row) in (1..).zip(&rows).filter(|(_, row)| row[5] > 0) {

@@ -4,10 +4,13 @@
 //! of none; after each burst the answer must be what the plain judge says of the lines whose LF has
 //! come, at the end what it says of the whole file, column included, and again when asked again; a
 //! burst after that is 23. Lines with bad bytes and CRs also come in bursts that end just before, at and
-//! after each of these, 58s with padding in bursts that end at each byte of their last line. The program stops at the first difference (exit 1).
+//! after each of these, 58s with padding in bursts that end at each byte of their last line. Usual
+//! files, damaged ones too, come in bursts that end inside runs of data lines; `compare --million` takes these alone,
+//! damaged with every byte value, and `compare --million N` one in N of them. The program stops at the first difference (exit 1).
 
 #[path = "../common/mod.rs"]
 mod common;
+mod damaged;
 #[allow(dead_code)]
 #[path = "../judge/edges.rs"]
 mod edges;
@@ -16,6 +19,8 @@ mod edges;
 mod generate;
 #[path = "../judge/judge.rs"]
 mod judge;
+#[path = "../judge/usual.rs"]
+mod usual;
 
 use common::files::{ends, print_lines};
 use common::lent::Lent;
@@ -23,6 +28,7 @@ use common::uff::{self, Word, LONGEST, SO_FAR, STREAM_LINE, STREAM_NUMBERS};
 use edges::{columns, padding};
 use generate::Random;
 use judge::Reply;
+use usual::Share;
 
 /// Generated files, half of them proper and half of them faulty or damaged.
 const FILES: usize = 12_000;
@@ -112,9 +118,15 @@ struct Run {
     bursts: u32,
     /// How often each end came.
     ends: [u32; 26],
+    /// Usual files, damaged ones too.
+    usual: u32,
 }
 
 impl Run {
+    fn new() -> Run {
+        Run { random: Random::new(0x5EED_0C11_0B57_0127), cuts: 0, bursts: 0, ends: [0; 26], usual: 0 }
+    }
+
     /// The length of the next burst: often short, so that cuts come inside lines and line ends; long in long files.
     fn length(&mut self, left: usize) -> usize {
         if left > 200_000 {
@@ -165,14 +177,21 @@ impl Run {
 
     /// One file in bursts that end at these bytes, which do not fall, and a last one.
     fn take_cut(&mut self, name: &str, file: &[u8], ends: &[usize]) {
+        self.take_cut_seldom(name, file, ends, 1);
+    }
+
+    /// The same, with one answer on the way in so many held against the plain judge's.
+    fn take_cut_seldom(&mut self, name: &str, file: &[u8], ends: &[usize], seldom: usize) {
         self.cuts += 1;
         let mut record = Record::new();
         let mut at = 0;
-        for &end in ends.iter().chain([&file.len()]) {
+        for (n, &end) in ends.iter().chain([&file.len()]).enumerate() {
             self.bursts += 1;
             let answer = record.burst(&file[at..end]);
             at = end;
-            self.hold(name, file, at, "burst", answer, so_far(&file[..at]));
+            if n % seldom == 0 {
+                self.hold(name, file, at, "burst", answer, so_far(&file[..at]));
+            }
         }
         let answer = record.end();
         self.hold(name, file, at, "end", answer, judge::judge(file));
@@ -364,8 +383,21 @@ fn check_outcomes(run: &Run) {
     }
 }
 
+/// So many usual files, most of them damaged, must be among those of the gate.
+const LEAST_USUAL: u32 = 20_000;
+
+/// Usual files alone, damaged with every byte value in every column.
+fn million(share: &mut Share) {
+    let mut run = Run::new();
+    run.take_usual(share);
+    println!("compared {} usual files, {} cuts, {} bursts", run.usual, run.cuts, run.bursts);
+}
+
 fn main() {
-    let mut run = Run { random: Random::new(0x5EED_0C11_0B57_0127), cuts: 0, bursts: 0, ends: [0; 26] };
+    if let Some(mut share) = Share::by_hand() {
+        return million(&mut share);
+    }
+    let mut run = Run::new();
     run.take_columns();
     run.take_padding();
     for edge in edges::edges() {
@@ -380,5 +412,8 @@ fn main() {
     too_short();
     made_up(&mut random, 20_000);
     check_outcomes(&run);
+    run.take_usual(&mut Share::of_gate(40, false));
+    println!("{} usual files, damaged ones too", run.usual);
+    assert!(run.usual >= LEAST_USUAL, "too few usual files");
     println!("compared {} cuts, {} bursts", run.cuts, run.bursts);
 }
