@@ -22,7 +22,7 @@ use Rattle.real.specs.Real.{at, scaled, realEnd, realOf}
 use Rattle.real.specs.EndLaws.{realEnd-minus, realEnd-less, realEnd-rest}
 use Rattle.real.specs.StepLaws.{digit-below, below-more}
 use Rattle.real.specs.Plain.{between, Few}
-use Rattle.real.specs.PlainLaws.{digits-next, lettered-last, plain-real}
+use Rattle.real.specs.PlainLaws.{digits-next, lettered-last, plain-front, columns-real}
 use Rattle.exact.specs.Exact.{magnitudeOf, withSign, exactOf}
 use Rattle.exact.specs.ExactLaws.{magnitudeOf-times, magnitudeOf-divided}
 use Rattle.exact.specs.Bits.{bitsOf}
@@ -234,7 +234,9 @@ module _ (l : List ℕ) (u : UsualField l) where
       let wide = u .wide in
       let narrow = u .narrow in
       let small = last-small in
-      let real = plain-real 0 l (u .wide) (u .plain) whole-digit (s .few) exponent (omega arith) in
+      let one : length (between 2 3 l) ≡ 1 = between-length 2 3 (omega arith) in
+      let rest : length (between 4 (w - 4) l) ≡ w - 8 = part-length in
+      let real = columns-real 0 l (plain-front l (u .wide) (u .plain)) (omega arith) (omega arith) whole-digit (s .few) exponent (omega arith) in
       ap readOf (sym (rw part-length at real))
       ∙ read-placed (eqb (getD l 1 0) 45) c (coefficient-small _ c s) (eqb (getD l (w - 3) 0) 45) (getD l (w - 1) 0 - 48) (w - 8) (omega arith) (omega arith)
 
