@@ -1,22 +1,6 @@
 /* What the command says to programs: a JSON object a line. */
 #include "command.h"
 
-#include <string.h>
-
-/* The bytes of the UTF-8 character that begins here, or 0 where none does: no longer spelling than needed, no surrogate. */
-static size_t character(const unsigned char *at)
-{
-    size_t count = at[0] < 0x80 ? 1 : at[0] < 0xc2 ? 0 : at[0] < 0xe0 ? 2 : at[0] < 0xf0 ? 3 : at[0] < 0xf5 ? 4 : 0;
-    for (size_t i = 1; i < count; i++)
-        if ((at[i] & 0xc0) != 0x80)
-            return 0;
-    if ((at[0] == 0xe0 && at[1] < 0xa0) || (at[0] == 0xed && at[1] > 0x9f))
-        return 0;
-    if ((at[0] == 0xf0 && at[1] < 0x90) || (at[0] == 0xf4 && at[1] > 0x8f))
-        return 0;
-    return count;
-}
-
 static bool is_utf8(const char *text)
 {
     const unsigned char *at = (const unsigned char *)text;
