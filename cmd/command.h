@@ -150,6 +150,9 @@ void print_json_verdict(FILE *to, const char *name, const struct verdict *v);
 /* What is told of a file and has no number. */
 void print_json_note(FILE *to, const char *name, const char *what, const char *why);
 
+/* The object of the only file, which could not be read for the reason in errno, where JSON is asked for. Gives TROUBLE. */
+int print_json_unread(const struct choices *o, const char *name);
+
 /* lister.c: the sets of a file. */
 
 /* The file's sets as the lister gives them; of an accepted reply the place is how many there are. */

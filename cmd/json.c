@@ -1,6 +1,9 @@
 /* What the command says to programs: a JSON object a line. */
 #include "command.h"
 
+#include <errno.h>
+#include <string.h>
+
 static bool is_utf8(const char *text)
 {
     const unsigned char *at = (const unsigned char *)text;
@@ -73,4 +76,11 @@ void print_json_note(FILE *to, const char *name, const char *what, const char *w
     fputs(", \"number\": null, \"line\": null, \"column\": null, \"text\": ", to);
     print_json_text(to, text);
     fputs("}\n", to);
+}
+
+int print_json_unread(const struct choices *o, const char *name)
+{
+    if (o->is_json)
+        print_json_note(stdout, name, "not read", strerror(errno));
+    return TROUBLE;
 }
