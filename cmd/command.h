@@ -37,9 +37,12 @@ int64_t now(void);
 /* Gives both outputs room for a file's report, so that it is one write, and several processes may share a file or a pipe. */
 void prepare_outputs(void);
 
+/* The bytes of the UTF-8 character that begins here, or 0 where none does: no longer spelling than needed, no surrogate. */
+size_t character(const unsigned char *at);
+
 /*
- * Prints a name or a typed word so that it can neither end the line nor command a terminal: a byte below 32, 127 and
- * the backslash as \n, \x1b, \\ and the like.
+ * Prints a name or a typed word so that it can neither end the line nor command a terminal: the characters below 32 and
+ * from 127 to 159, in UTF-8 or as one byte, and the backslash, as \n, \x1b, \xc2\x9b, \\ and the like. All else as it is.
  */
 void print_name(FILE *to, const char *name);
 
@@ -146,6 +149,9 @@ void print_json_verdict(FILE *to, const char *name, const struct verdict *v);
 
 /* What is told of a file and has no number. */
 void print_json_note(FILE *to, const char *name, const char *what, const char *why);
+
+/* The object of the only file, which could not be read for the reason in errno, where JSON is asked for. Gives TROUBLE. */
+int print_json_unread(const struct choices *o, const char *name);
 
 /* lister.c: the sets of a file. */
 

@@ -1,21 +1,8 @@
 /* What the command says to programs: a JSON object a line. */
 #include "command.h"
 
+#include <errno.h>
 #include <string.h>
-
-/* The bytes of the UTF-8 character that begins here, or 0 where none does: no longer spelling than needed, no surrogate. */
-static size_t character(const unsigned char *at)
-{
-    size_t count = at[0] < 0x80 ? 1 : at[0] < 0xc2 ? 0 : at[0] < 0xe0 ? 2 : at[0] < 0xf0 ? 3 : at[0] < 0xf5 ? 4 : 0;
-    for (size_t i = 1; i < count; i++)
-        if ((at[i] & 0xc0) != 0x80)
-            return 0;
-    if ((at[0] == 0xe0 && at[1] < 0xa0) || (at[0] == 0xed && at[1] > 0x9f))
-        return 0;
-    if ((at[0] == 0xf0 && at[1] < 0x90) || (at[0] == 0xf4 && at[1] > 0x8f))
-        return 0;
-    return count;
-}
 
 static bool is_utf8(const char *text)
 {
@@ -89,4 +76,11 @@ void print_json_note(FILE *to, const char *name, const char *what, const char *w
     fputs(", \"number\": null, \"line\": null, \"column\": null, \"text\": ", to);
     print_json_text(to, text);
     fputs("}\n", to);
+}
+
+int print_json_unread(const struct choices *o, const char *name)
+{
+    if (o->is_json)
+        print_json_note(stdout, name, "not read", strerror(errno));
+    return TROUBLE;
 }

@@ -71,7 +71,7 @@ int run_list(const struct choices *o, int count, char **words)
     int status;
     (void)count;
     if (!read_file(words[0], &t))
-        return TROUBLE;
+        return print_json_unread(o, words[0]);
     v = verdict_on_text(list_sets(&t), &t);
     v.unit = "set";
     if (UFF_NUMBER(v.reply) == UFF_ACCEPTED)

@@ -4,8 +4,14 @@
 #include <string.h>
 #include <unistd.h>
 
-/* Columns of a line that are shown, and of those how many before the caret where the line is cut. */
+/*
+ * The columns that a line is shown in, which a full line of a file fills; those left before it where there is room; and
+ * where it is cut, what marks that and the most columns between the mark and the caret.
+ */
 #define SHOWN 80
+#define INDENT 2
+#define MARK "..."
+#define MARK_WIDTH (sizeof MARK - 1)
 #define BEFORE 40
 
 uint64_t count_lines(const uint8_t *bytes, size_t count, bool open)
@@ -108,15 +114,20 @@ static size_t width_at(const struct line *line, size_t i)
     return (size_t)spell_byte(spelled, byte_at(line, i));
 }
 
-/* The first byte that is shown, so that the one at `aim` is: the first of all, where the line is not too long for that. */
+/* The columns of a line and of the byte at `aim`; where they are too many, some number that is too. */
+static size_t whole_width(const struct line *line, size_t aim)
+{
+    size_t width = 0, last = aim < line->count ? line->count : aim + 1;
+    for (size_t i = 0; i < last && width <= SHOWN; i++)
+        width += width_at(line, i);
+    return width;
+}
+
+/* The first byte that is shown of a line that is cut, so that the one at `aim` is. */
 static size_t first_shown(const struct line *line, size_t aim)
 {
-    size_t i, width = 0, last = aim < line->count ? line->count : aim + 1;
-    for (i = 0; i < last && width <= SHOWN; i++)
-        width += width_at(line, i);
-    if (width <= SHOWN)
-        return 0;
-    for (i = aim, width = 0; i > 0 && width + width_at(line, i - 1) <= BEFORE; i--)
+    size_t i, width = 0;
+    for (i = aim; i > 0 && width + width_at(line, i - 1) <= BEFORE; i--)
         width += width_at(line, i - 1);
     return i;
 }
@@ -124,21 +135,25 @@ static size_t first_shown(const struct line *line, size_t aim)
 void print_shown(FILE *to, uint64_t reply, const struct text *t)
 {
     struct line line;
-    size_t i, aim = UFF_COLUMN(reply) - (size_t)1, width = 0, caret = 2;
+    size_t i = 0, aim = UFF_COLUMN(reply) - (size_t)1, width = 0, room = SHOWN, whole, caret;
     char spelled[5];
     if (UFF_COLUMN(reply) == 0 || !find_line(t, UFF_PLACE(reply), &line))
         return;
-    i = first_shown(&line, aim);
-    caret += i > 0 ? 3 : 0;
-    fputs(i > 0 ? "  ..." : "  ", to);
-    for (; i < line.count && width + width_at(&line, i) <= SHOWN; i++) {
+    whole = whole_width(&line, aim);
+    if (whole > SHOWN) {
+        i = first_shown(&line, aim);
+        room -= 2 * MARK_WIDTH;
+    }
+    caret = i > 0 ? MARK_WIDTH : whole + INDENT <= SHOWN ? INDENT : 0;
+    fprintf(to, "%*s", (int)caret, i > 0 ? MARK : "");
+    for (; i < line.count && width + width_at(&line, i) <= room; i++) {
         spell_byte(spelled, byte_at(&line, i));
         fputs(spelled, to);
         width += width_at(&line, i);
         caret += i < aim ? width_at(&line, i) : 0;
     }
     caret += i < aim ? aim - i : 0;
-    fprintf(to, "%s\n%*s^\n", i < line.count ? "..." : "", (int)caret, "");
+    fprintf(to, "%s\n%*s^\n", i < line.count ? MARK : "", (int)caret, "");
 }
 
 bool is_line_shown(FILE *to, const struct choices *o, bool is_one)

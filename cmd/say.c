@@ -24,18 +24,50 @@ void prepare_outputs(void)
     setvbuf(stderr, errors, _IOLBF, sizeof errors);
 }
 
-void print_name(FILE *to, const char *name)
+size_t character(const unsigned char *at)
+{
+    size_t count = at[0] < 0x80 ? 1 : at[0] < 0xc2 ? 0 : at[0] < 0xe0 ? 2 : at[0] < 0xf0 ? 3 : at[0] < 0xf5 ? 4 : 0;
+    for (size_t i = 1; i < count; i++)
+        if ((at[i] & 0xc0) != 0x80)
+            return 0;
+    if ((at[0] == 0xe0 && at[1] < 0xa0) || (at[0] == 0xed && at[1] > 0x9f))
+        return 0;
+    if ((at[0] == 0xf0 && at[1] < 0x90) || (at[0] == 0xf4 && at[1] > 0x8f))
+        return 0;
+    return count;
+}
+
+/* Whether a byte, or what stands for one as a character, commands a terminal. */
+static bool is_control(unsigned byte)
+{
+    return byte < 32 || (byte > 126 && byte < 160);
+}
+
+/* Prints a byte that is no part of a longer character. */
+static void print_byte(FILE *to, unsigned byte)
 {
     static const char bytes[] = "\n\r\t\\", letters[] = "nrt\\";
-    for (; *name != '\0'; name++) {
-        unsigned byte = (unsigned char)*name;
-        const char *at = strchr(bytes, (int)byte);
-        if (at != NULL)
-            fprintf(to, "\\%c", letters[at - bytes]);
-        else if (byte < 32 || byte == 127)
-            fprintf(to, "\\x%02x", byte);
+    const char *at = strchr(bytes, (int)byte);
+    if (at != NULL)
+        fprintf(to, "\\%c", letters[at - bytes]);
+    else if (is_control(byte))
+        fprintf(to, "\\x%02x", byte);
+    else
+        putc((int)byte, to);
+}
+
+void print_name(FILE *to, const char *name)
+{
+    const unsigned char *at = (const unsigned char *)name;
+    while (*at != '\0') {
+        size_t count = character(at);
+        if (count < 2)
+            print_byte(to, *at);
+        else if (*at == 0xc2 && is_control(at[1]))
+            fprintf(to, "\\x%02x\\x%02x", (unsigned)at[0], (unsigned)at[1]);
         else
-            putc((int)byte, to);
+            fwrite(at, 1, count, to);
+        at += count == 0 ? 1 : count;
     }
 }
 

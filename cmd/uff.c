@@ -22,47 +22,57 @@ struct command {
 
 /* The letter of each option that a command has; one with a word after it is followed by a colon. */
 static const struct command commands[] = {
-    {"judge", "[-Hjqrv] FILE...", "say whether each file is a Universal File",
-     "Prints accepted and the number of lines, or refused with the number of the reason, line, column and reason of\n"
-     "the earliest bad line. With several files each line begins with the name, and a total ends the report.\n"
+    {"judge", "[-Hjqrv] FILE...", "say whether each is a Universal File",
+     "Prints accepted and the number of lines, or refused with the number of the\n"
+     "reason, line, column and reason of the earliest bad line. With several files\n"
+     "each line begins with the name, and a total ends the report.\n"
      "  -H  names and a total for one file too\n"
      "  -j  a JSON object for each file: file, number, line, column, text\n"
      "  -q  only files that are refused or cannot be read, and no total\n"
-     "  -r  go through folders, in order of name; links to folders in them are not followed\n"
-     "  -v  show the line of a refusal with a caret under the column, as for one file on a terminal\n",
+     "  -r  go through folders, in order of name, and judge every file there, whatever\n"
+     "      it is called; links to folders in them are not followed\n"
+     "  -v  show the line of each refusal with a caret under the column, as for one\n"
+     "      file on a terminal\n",
      "Hjqrv", 1, 1 << 30, run_judge},
     {"list", "[-jv] FILE", "list its sets",
-     "Prints a line for each set: its place from 1, opening line, dataset number, and the values that a set 58\n"
-     "declares (0 for other sets).\n"
+     "Prints a line for each set: its place from 1, opening line, dataset number, and\n"
+     "the values that a set 58 declares (0 for other sets).\n"
      "  -j  a JSON object for each set, which has its bytes and padding too\n"
      "  -v  " SHOWS_LINE,
      "jv", 1, 1, run_list},
-    {"number", "[-v] FILE SET INDEX", "show a stored number of a set 58 (SET from 1, INDEX from 0)",
-     "Prints the first byte of its columns and the byte past them, sign, coefficient and scale, and what it means,\n"
-     "exactly.\n"
+    {"number", "[-v] FILE SET INDEX", "show a stored number of a set 58",
+     "SET is counted from 1, INDEX from 0. Prints the first byte of its columns and\n"
+     "the byte past them, sign, coefficient and scale, and what it means, exactly.\n"
      "  -v  " SHOWS_LINE,
      "v", 3, 3, run_number},
-    {"values", "[-Hnv] FILE [SET...]", "show all values of its sets 58, one a line (SET from 1)",
-     "Before each set stands a line such as '# set 2: 4096 values, abscissa real', but not where one SET is asked for.\n"
-     "Each number has the shortest digits that read back as the same double. A set with a number that one operation\n"
-     "does not give exactly is refused with 21, and the other sets are shown; 'uff number' shows such a number.\n"
+    {"values", "[-Hnv] FILE [SET...]", "show all values of its sets 58",
+     "One value a line, of the sets that are asked for, counted from 1, or of all.\n"
+     "Before each set stands a line such as '# set 2: 4096 values, abscissa real', but\n"
+     "not where one SET is asked for. Each number has the shortest digits that read\n"
+     "back as the same double. A set with a number that one operation does not give\n"
+     "exactly is refused with 21, and the other sets are shown; 'uff number' shows\n"
+     "such a number.\n"
      "  -H  that line for one SET too\n"
      "  -n  no such lines\n"
      "  -v  " SHOWS_LINE,
      "Hnv", 1, 1 << 30, run_values},
     {"rewrite", "[-v] IN OUT", "write IN to OUT in plain form",
-     "LF ends, no blanks at line ends, no lines outside sets, no padding, delimiters and dataset numbers spelled\n"
-     "plainly, and all else as it was. OUT is replaced once the new bytes are wholly written, and may be IN. An OUT\n"
-     "of - is standard output.\n"
+     "LF ends, no blanks at line ends, no lines outside sets, no padding, delimiters\n"
+     "and dataset numbers spelled plainly, and all else as it was. OUT is replaced\n"
+     "once the new bytes are wholly written, and may be IN. An OUT of - is standard\n"
+     "output.\n"
      "  -v  " SHOWS_LINE,
      "v", 2, 2, run_rewrite},
     {"watch", "[-jvw] [-t SECONDS] FILE", "judge FILE while it arrives",
-     "Prints the finished lines so far once a second at most, a refusal at once, and the verdict at the end.\n"
-     "  -j           a JSON object a line: file, number, line, column, text\n"
-     "  -t SECONDS   a file has ended when nothing has come for so long, 10 if not given; with 0 its present end is\n"
-     "               its end. A pipe and standard input end at their end, whatever SECONDS are.\n"
-     "  -v           " SHOWS_LINE
-     "  -w           wait for a file that is not there yet\n",
+     "Prints the finished lines so far once a second at most, a refusal at once, and\n"
+     "the verdict at the end.\n"
+     "  -j  a JSON object a line: file, number, line, column, text\n"
+     "  -t SECONDS\n"
+     "      a file has ended when nothing has come for so long, 10 if not given;\n"
+     "      with 0 its present end is its end. A pipe and standard input end at\n"
+     "      their end, whatever SECONDS are.\n"
+     "  -v  " SHOWS_LINE
+     "  -w  wait for a file that is not there yet\n",
      "jt:vw", 1, 1, run_watch},
 };
 
@@ -80,9 +90,10 @@ static void print_usage(FILE *to)
 {
     for (size_t i = 0; i < COMMANDS; i++)
         print_synopsis(to, i == 0 ? "usage:" : "      ", &commands[i]);
-    fputs("       uff help [COMMAND] | --help | -h    show this, or what a command does and its options\n"
+    fputs("       uff help [COMMAND] | --help | -h    show this, or what a command does\n"
           "       uff version | --version | -V        show the version\n"
-          "'uff COMMAND -h' is 'uff help COMMAND'. Options may stand after other words too; after -- no word is one.\n"
+          "'uff COMMAND -h' is 'uff help COMMAND', and has its options. They may stand\n"
+          "after other words too; after -- no word is one.\n"
           "A FILE of - is standard input, an OUT of - standard output.\n"
           "Exit status: 0 accepted, 1 refused (the file, or what was asked of it),\n"
           "2 wrong usage or trouble with a file.\n",
@@ -129,8 +140,8 @@ static const char *nearest(const char *word)
     size_t best = 3;
     if (*word == '\0' || strlen(word) > LONGEST_WORD)
         return NULL;
-    for (size_t i = 0; i <= COMMANDS; i++) {
-        const char *name = i < COMMANDS ? commands[i].name : "help";
+    for (size_t i = 0; i < COMMANDS + 2; i++) {
+        const char *name = i < COMMANDS ? commands[i].name : i == COMMANDS ? "help" : "version";
         size_t far = strncmp(word, name, strlen(word)) == 0 ? 0 : distance(word, name);
         if (far < best && far * 2 <= strlen(name)) {
             best = far;
@@ -162,12 +173,28 @@ static const struct command *find_command(const char *word)
     return NULL;
 }
 
+static bool is_one_of(const char *word, const char *a, const char *b, const char *c)
+{
+    return strcmp(word, a) == 0 || strcmp(word, b) == 0 || strcmp(word, c) == 0;
+}
+
+static bool is_help(const char *word)
+{
+    return is_one_of(word, "help", "--help", "-h");
+}
+
+static bool is_version(const char *word)
+{
+    return is_one_of(word, "version", "--version", "-V");
+}
+
+/* Help for a command, or for all, which has what there is to say of help and version. */
 static int run_help(int count, char **words)
 {
     const struct command *c;
     if (count > 1)
         return misused("too many words after", "help");
-    if (count == 0 || strcmp(words[0], "help") == 0) {
+    if (count == 0 || is_help(words[0]) || is_version(words[0])) {
         print_usage(stdout);
         return ACCEPTED;
     }
@@ -277,11 +304,6 @@ static int run_command(const struct command *c, int count, char **words)
     return c->run(&o, count, words);
 }
 
-static bool is_one_of(const char *word, const char *a, const char *b, const char *c)
-{
-    return strcmp(word, a) == 0 || strcmp(word, b) == 0 || strcmp(word, c) == 0;
-}
-
 static int run(int count, char **words)
 {
     const struct command *c;
@@ -289,10 +311,10 @@ static int run(int count, char **words)
         print_usage(stderr);
         return TROUBLE;
     }
-    if (is_one_of(words[0], "help", "--help", "-h"))
+    if (is_help(words[0]))
         return run_help(count - 1, words + 1);
-    if (is_one_of(words[0], "version", "--version", "-V"))
-        return run_version(count - 1);
+    if (is_version(words[0]))
+        return count == 2 && is_help(words[1]) ? run_help(1, words) : run_version(count - 1);
     c = find_command(words[0]);
     return c != NULL ? run_command(c, count - 1, words + 1) : refuse_command(words[0]);
 }

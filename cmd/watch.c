@@ -401,8 +401,12 @@ int run_watch(const struct choices *o, int count, char **words)
     fd = open_watched(o, words[0]);
     if (fd >= 0)
         start(&w, &mine, words[0]);
-    if (fd < 0 || !take_all(&w, fd))
-        return trouble(shown_name(words[0]), strerror(errno));
+    if (fd < 0 || !take_all(&w, fd)) {
+        int error = errno;
+        trouble(shown_name(words[0]), strerror(error));
+        errno = error;
+        return print_json_unread(o, words[0]);
+    }
     w.reply = uff_stream_end(&w.record);
     if (w.reply != w.shown)
         show(&w);

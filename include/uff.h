@@ -34,12 +34,15 @@
 #define UFF_SETS 4096
 #define UFF_ROW_NUMBERS 7
 
-/* The bytes of an answer of uff_number, the most that uff_value gives, and the most doubles that uff_values gives. */
+/* The bytes that uff_number gives, the most that uff_value gives, and the most doubles that uff_values gives. */
 #define UFF_NUMBER_BYTES 20
 #define UFF_VALUE_BYTES 24
 #define UFF_DOUBLES 196608
 
-/* The record of the streaming calls: its numbers, and the bytes of its line. Some are not used yet: uff_start and uff_burst lay them as 0. */
+/*
+ * The record of the streaming calls: its numbers, and the bytes of its line. Some are not used yet:
+ * uff_start and uff_burst lay them as 0.
+ */
 #define UFF_STREAM_NUMBERS 16
 #define UFF_STREAM_LINE 96
 
@@ -121,8 +124,8 @@ uint64_t uff_list(const uint8_t *file, size_t file_len, uint32_t *rows, size_t r
 /*
  * The reader of stored numbers: number `index` of set `set`, a 58, in 20 bytes, each part with its
  * lowest byte first: first byte of its columns (4 bytes), byte past them (4), coefficient (8), scale
- * (2, two's complement), sign (1: 1 if negative), zero (1). It means coefficient * 10^scale, with that sign. The answer
- * is 20. Refused as by the judge, then with 18, 20.
+ * (2, two's complement), sign (1: 1 if negative), zero (1). It means coefficient * 10^scale, with that
+ * sign. The answer is 20. Refused as by the judge, then with 18, 20.
  */
 uint64_t uff_number(const uint8_t *file, size_t file_len, uint32_t set, uint32_t index, uint8_t *out, size_t out_len);
 
@@ -171,8 +174,10 @@ uint64_t uff_rewrite(const uint8_t *file, size_t file_len, uint8_t *out, size_t 
 
 /*
  * The writer: one whole set 58 from its eleven header lines and its stored numbers, each a coefficient
- * and a scale. The answer is its length. Refused as the header's lines are, counted from 1, then with
- * 22, 19 (the place is the number's index), 20.
+ * and a scale. The header is the lines between the number line and the data lines, each with its end;
+ * delimiters and number line are laid out too. The numbers are as many as the header's count of values
+ * times one, two or three, in the order in which they are stored. The answer is its length. Refused as
+ * the header's lines are, counted from 1, then with 22, 19 (the place is the number's index), 20.
  */
 uint64_t uff_write(const uint8_t *header, size_t header_len, const int64_t *coefficients, size_t coefficients_len,
                    const int16_t *scales, size_t scales_len, uint8_t *out, size_t out_len);
@@ -183,9 +188,9 @@ uint64_t uff_write(const uint8_t *header, size_t header_len, const int64_t *coef
  * laid out starts a new file.
  *
  * Of a line that is still open the record keeps its first 80 bytes, its last one, its length and, in
- * numbers[12], the column of its first byte that is not allowed (a CR that came last among them,
- * until its LF comes), or 0. Once a line is refused
- * numbers[12] is the refusal's column. No caller need read it: the replies have it.
+ * numbers[12], the column of its first byte that is not allowed (a CR that came last among them, until
+ * its LF comes), or 0. Once a line is refused numbers[12] is the refusal's column. No caller need read
+ * it: the replies have it.
  *
  * uff_start lays out such a record. The answer is 0. Refused with 20 where a buffer is shorter.
  */
