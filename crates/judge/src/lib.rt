@@ -131,13 +131,15 @@ pub fn judge_lines(state: State, lines: usize, bytes: &[u8], at: usize) -> Lines
     let mut n = lines;
     let mut from = at;
     let mut wait = 0;
+    let mut pause = 0;
     while from < bytes.len() {
         if (wait == 0) & usual::in_data(s) {
-            let ahead = usual::run_ahead(s, bytes, from);
+            let ahead = usual::run_ahead(s, bytes, from, pause);
             s = ahead.state;
             n += ahead.lines;
             from = ahead.at;
             wait = ahead.wait;
+            pause = wait;
             continue;
         }
         let end = line::find_end(bytes, from);

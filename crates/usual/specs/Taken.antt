@@ -73,6 +73,11 @@ pub record Ran (b : List ℕ) (c at left : ℕ) (r : Run) : Type 0 where
   pub within : r .at ≤ length b
   pub few : r .lines + at ≤ r .at
 
+-- no line, and a wait
+pub record NoneAhead (s : State) (at : ℕ) (r : Ahead) : Type 0 where
+  pub is : r ≡ ahead s 0 at (r .wait)
+  pub waits : 0 < r .wait
+
 -- whether a file stands among the data lines of a 58
 abbrev pub inData : Place → Bool
 inData Outside = false

@@ -45,7 +45,7 @@ use Rattle.usual.specs.Cells.{blank, any, rowCells, lineCells, tableCell
 use Rattle.usual.specs.CellsLaws.{grown-on, fits-split, fits-length, fits-passed}
 use Rattle.usual.specs.FieldLaws.{blanks-allowed, blanks-fit}
 use Rattle.usual.specs.RowLaws.{wide-at, row-length, row-allowed, row-passes, row-delimiter}
-use Rattle.usual.specs.Taken.{LineTaken, Taken, dataState, Ends, Shaped, Ready, run, Ran, ahead, RanAhead}
+use Rattle.usual.specs.Taken.{LineTaken, Taken, dataState, Ends, Shaped, Ready, run, Ran, ahead, NoneAhead, RanAhead}
 
 -- the widths of every case are such that a field may have them
 abbrev allWide : List ℕ → Bool
@@ -328,8 +328,10 @@ not-false false h = sym h
 pub ran-none : (b : List ℕ) (c at left : ℕ) (r : Run) → r ≡ run 0 at left → at ≤ length b → Ran b c at left r
 ran-none b c at left r e h = rw e (record { taken = λ z n. Taken.none; within = h; few = omega arith })
 
-pub ahead-none : (b : List ℕ) (s : State) (at : ℕ) (r : Ahead) → r ≡ ahead s 0 at 15 → at ≤ length b → RanAhead b s at r
-ahead-none b s at r e h = rw e (record { taken = Taken.none; within = h; few = omega arith; moves = λ m. omega arith })
+pub ahead-none : (b : List ℕ) (s : State) (at : ℕ) (r : Ahead) → NoneAhead s at r → at ≤ length b → RanAhead b s at r
+ahead-none b s at r n h =
+    let waits = n .waits in
+    rw (n .is) (record { taken = Taken.none; within = h; few = omega arith; moves = λ m. waits })
 
 -- data lines of a 58
 pub ahead-ran : (b : List ℕ) (d : Due) (n at wait : ℕ) (r : Run) → d .kind ≡ kind58 → d .at ≡ headerLines → Ran b (d .case) at (d .left) r → at < r .at

@@ -6,7 +6,7 @@ ghost use Prim.Native.Nat.{_+_, _-_, _≤_, _<_};
 ghost use lib.ListN.{length, replicate};
 ghost use Rattle.layout.specs.Columns.{total};
 ghost use Rattle.usual.specs.Cells.{cell, tables, Grown, Laid, Passed, startCells, exponentCells, fieldCells, rowCells, tableCells, Wide};
-ghost use Rattle.usual.specs.Taken.{Ends, Shaped, Ready, run, Ran, ahead, RanAhead, inData};
+ghost use Rattle.usual.specs.Taken.{Ends, Shaped, Ready, run, Ran, NoneAhead, RanAhead, inData};
 ghost use Rattle.walk.specs.Step.{state};
 use laws::index;
 use record_table::HEADER_LINES;
@@ -41,9 +41,6 @@ pub struct Ahead {
     pub at: usize,
     pub wait: usize,
 }
-
-// For how many lines a run is not tried again where none was taken.
-const WAIT: usize = 15;
 
 // Puts what one column takes: the bytes from `least` to as far as `reach` past it, and `other`.
 fn put_column(
@@ -328,20 +325,30 @@ pub fn in_data(s: State) -> bool
     }
 }
 
+// For how many lines a run is not tried where none was taken, by how long it waited before: twice as long and one more, at most 63.
+fn longer(pause: usize) -> usize
+    ensures { λ r. ⌜ 0 < r ⌝ }
+{
+    if pause < 32 {
+        return pause + pause + 1;
+    }
+    63
+}
+
 // No line is taken, and a run is not tried for some lines.
-fn not_ahead(state: State, at: usize) -> Ahead
-    ensures { λ r. ⌜ r ≡ ahead state 0 at 15 ⌝ }
+fn not_ahead(state: State, at: usize, pause: usize) -> Ahead
+    ensures { λ r. ⌜ NoneAhead state at r ⌝ }
 {
     Ahead {
         state,
         lines: 0,
         at,
-        wait: WAIT,
+        wait: longer(pause),
     }
 }
 
 // The data lines in their usual spelling from byte `at` on, where the file stands among those of a 58.
-fn typed_ahead(d: Due, sets: u32, bytes: &[u8], at: usize) -> Ahead
+fn typed_ahead(d: Due, sets: u32, bytes: &[u8], at: usize, pause: usize) -> Ahead
     requires { ⌜ at ≤ length (now bytes) ⌝ }
     ensures { λ r. ⌜ RanAhead (now (bytes .entry)) (state (Place.Typed d) sets) at r ⌝ }
 {
@@ -350,14 +357,14 @@ fn typed_ahead(d: Due, sets: u32, bytes: &[u8], at: usize) -> Ahead
         sets,
     };
     if d.kind != KIND_58 {
-        return not_ahead(here, at);
+        return not_ahead(here, at, pause);
     }
     if d.at != HEADER_LINES {
-        return not_ahead(here, at);
+        return not_ahead(here, at, pause);
     }
     let run = run_of(bytes, at, d.case, d.left);
     if run.at <= at {
-        return not_ahead(here, at);
+        return not_ahead(here, at, pause);
     }
     let due = Due {
         kind: KIND_58,
@@ -373,21 +380,22 @@ fn typed_ahead(d: Due, sets: u32, bytes: &[u8], at: usize) -> Ahead
         },
         lines: run.lines,
         at: run.at,
-        wait: 0,
+        wait: 1,
     }
 }
 
-// The lines in their usual spelling from byte `at` on: the state after them, as the step of each gives it. It takes some, or waits.
-pub fn run_ahead(s: State, bytes: &[u8], at: usize) -> Ahead
+// The lines in their usual spelling from byte `at` on: the state after them, as the step of each gives it. It takes some, or waits, the longer the longer it
+// waited before.
+pub fn run_ahead(s: State, bytes: &[u8], at: usize, pause: usize) -> Ahead
     requires { ⌜ at ≤ length (now bytes) ⌝ }
     ensures { λ r. ⌜ RanAhead (now (bytes .entry)) s at r ⌝ }
 {
     let place = s.place;
     match place {
-        Place::Typed(d) => typed_ahead(d, s.sets, bytes, at),
-        Place::Outside => not_ahead(s, at),
-        Place::Number => not_ahead(s, at),
-        Place::Plain => not_ahead(s, at),
+        Place::Typed(d) => typed_ahead(d, s.sets, bytes, at, pause),
+        Place::Outside => not_ahead(s, at, pause),
+        Place::Number => not_ahead(s, at, pause),
+        Place::Plain => not_ahead(s, at, pause),
     }
 }
 

@@ -9,10 +9,10 @@ use Rattle.judge.proofs.judge_lines.Statement.{statement}
 use Rattle.judge.proofs.judge_lines.Tie as tie
 
 abbrev Inv-loop : tie.InvT-loop
-Inv-loop lines bytes at s₀ n₀ from₀ wait₀ s n from wait = Reached bytes s₀ lines at s n from
+Inv-loop lines bytes at s₀ n₀ from₀ wait₀ pause₀ s n from wait pause = Reached bytes s₀ lines at s n from
 
 abbrev μ-loop : tie.MeasureT-loop
-μ-loop lines bytes at s₀ n₀ from₀ wait₀ s n from wait = toGo (length bytes - from) wait
+μ-loop lines bytes at s₀ n₀ from₀ wait₀ pause₀ s n from wait pause = toGo (length bytes - from) wait
 
 loop-holds : tie.Need-loop-holds Inv-loop μ-loop
 loop-holds c = record { within = search needs; few = search needs; same-lines = refl; same-rest = refl }
