@@ -72,6 +72,10 @@ pub row-length : (c : ℕ) → c < 8 → fieldsOf c ≡ length (take (fieldsOf c
 unfolding fieldsOf
 row-length c h = sym (ap length (row-widths c h))
 
+pub fields-six : (c : ℕ) → fieldsOf c ≤ 6
+unfolding fieldsOf
+fields-six c = widths-six c
+
 -- the code's widths are the layout's
 pub width-own : (c k : ℕ) (ws : List ℕ) → ws ≡ tabulate (cellOf c) 0 6 → k < fieldsOf c → getD ws k 0 ≡ getD (layoutOf c .widths) k 0
 unfolding cellOf fieldsOf

@@ -3,13 +3,15 @@ ghost use mathlib.Core.Path.{_≡_};
 ghost use mathlib.Core.Bool.{true};
 ghost use mathlib.Core.Logic.{_⊎_};
 ghost use Prim.Native.Nat.{_+_, _≤_, _<_, min};
-ghost use lib.ListN.{length, getD, set};
+ghost use lib.ListN.{length, getD, drop, set};
 ghost use Rattle.reader.specs.Reader.{readIn, readOf, reads};
 ghost use Rattle.reader.specs.Find.{realAt};
 ghost use Rattle.values.specs.Values.{allReply, allPlaces};
 ghost use Rattle.values.specs.Spot.{spot, spotOf, nextSpot, AtSpot};
 ghost use Rattle.layout.specs.Columns.{total};
-ghost use Rattle.layout.specs.Layout.{layoutOf, fieldsOf};
+ghost use Rattle.laws.specs.Cut.{lineLen};
+ghost use Rattle.laws.specs.Table.{tabulate};
+ghost use Rattle.layout.specs.Layout.{layoutOf, fieldsOf, cellOf};
 ghost use Rattle.real.specs.Real.{isLetter};
 ghost use Rattle.usual_values.specs.Usual.{UsualField};
 ghost use Rattle.usual_values.specs.Number.{PowersTo, UsualRead};
@@ -150,6 +152,19 @@ fn line_table(file: &[u8], d: Data) -> [u8; 240]
     usual_values::usual_table(letter, &all[..fields])
 }
 
+// The place of the first LF at or after `from`, as `line::find_end` has it; most often it is there.
+fn end_from(file: &[u8], from: usize) -> usize
+    ensures { λ r. ⌜ r ≡ from + lineLen (drop from (now (file .entry))) ⌝ }
+{
+    if file.len() <= from {
+        return line::find_end(file, from);
+    }
+    if file[from] == 10 {
+        return from;
+    }
+    line::find_end(file, from)
+}
+
 // The first byte of the line after the one that begins at byte `at`, whose fields are all in the usual spelling; 0 where it is no such line.
 fn usual_next(file: &[u8], d: Data, columns: usize, table: &[u8; 240], at: usize) -> usize
     requires { ⌜ (d .case < 8) × ((columns ≡ total (layoutOf (d .case) .widths)) × TableFor d (now table)) ⌝ }
@@ -161,7 +176,7 @@ fn usual_next(file: &[u8], d: Data, columns: usize, table: &[u8; 240], at: usize
     if !usual_values::passes(file, at, table) {
         return 0;
     }
-    let end = line::find_end(file, at + columns);
+    let end = end_from(file, at + columns);
     if file.len() <= end {
         return 0;
     }
@@ -230,10 +245,12 @@ fn field_bits(file: &[u8], at: usize, width: usize, tens: &[f64; 23]) -> u64
     usual_values::usual_bits(&file[at..past], tens)
 }
 
-// Puts the bit patterns of the numbers of a usual line into their places, the first of which is place j.
+// Puts the bit patterns of the numbers of a usual line, of so many fields of these widths, into their places, the first of which is place j.
 fn put_line(
     file: &[u8],
     d: Data,
+    fields: usize,
+    widths: &[u8; 6],
     tens: &[f64; 23],
     line: usize,
     next: usize,
@@ -241,32 +258,33 @@ fn put_line(
     out: &mut [u64],
 )
     requires { ⌜ (d .body ≤ length (now file)) × ((d .case < 8) × (j + fieldsOf (d .case) ≤ length (now out))) ⌝ }
-    requires { ⌜ AtSpot (now file) d j (spot line 0 line) × (UsualLine (now file) d line next × PowersTo (min (length (now file)) 22) (now tens)) ⌝ }
+    requires { ⌜ AtSpot (now file) d j (spot line 0 line) × (UsualLine (now file) d line next × (PowersTo (min (length (now file)) 22) (now tens) × ((fields ≡ fieldsOf (d .case)) × (now widths ≡ tabulate (cellOf (d .case)) 0 6)))) ⌝ }
     ensures { λ _. ⌜ FilledTo (now (file .entry)) d j (j + fieldsOf (d .case)) (now (out .entry)) (now (out .exit)) ⌝ }
 {
-    let fields = layout::fields_of(d.case);
     let mut at = line;
     let mut k = 0;
     while k < fields {
-        let width = layout::field_width(d.case, k);
+        let width = index(widths[k]);
         out[j + k] = field_bits(file, at, width, tens);
         at += width;
         k += 1;
     }
 }
 
-// Puts the bit patterns of the numbers from this one on that are on usual lines with all their fields, up to so many numbers; the first that is not.
+// Puts the bit patterns of the numbers from this one on that are on usual lines with all their fields, up to so many numbers; the first
+// that is not.
 fn fill_usual(
     file: &[u8],
     d: Data,
     table: &[u8; 240],
+    widths: &[u8; 6],
     tens: &[f64; 23],
     t: Turn,
     stored: usize,
     out: &mut [u64],
 ) -> Turn
     requires { ⌜ (d .body ≤ length (now file)) × ((d .case < 8) × ((t .number ≤ stored) × (stored ≤ length (now out)))) ⌝ }
-    requires { ⌜ AtSpot (now file) d (t .number) (t .spot) × (TableFor d (now table) × PowersTo (min (length (now file)) 22) (now tens)) ⌝ }
+    requires { ⌜ AtSpot (now file) d (t .number) (t .spot) × (TableFor d (now table) × (PowersTo (min (length (now file)) 22) (now tens) × (now widths ≡ tabulate (cellOf (d .case)) 0 6))) ⌝ }
     ensures { λ r. ⌜ Filled (now (file .entry)) d stored (t .number) (now (out .entry)) (now (out .exit)) r ⌝ }
 {
     if 0 < t.spot.field {
@@ -281,7 +299,7 @@ fn fill_usual(
         if next == 0 {
             return at_line(j, line);
         }
-        put_line(file, d, tens, line, next, j, out);
+        put_line(file, d, fields, widths, tens, line, next, j, out);
         line = next;
         j += fields;
     }
@@ -304,6 +322,7 @@ fn fill(file: &[u8], d: Data, table: &[u8; 240], stored: usize, out: &mut [u64])
             file,
             d,
             table,
+            &widths,
             &tens,
             Turn { number: j, spot: s },
             stored,

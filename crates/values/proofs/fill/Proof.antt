@@ -56,23 +56,23 @@ loop-holds c =
 
 fill-usual-requires : tie.Need-fill-usual-requires Inv-loop μ-loop
 fill-usual-requires c κs =
-    let at-loop = c .before .before .before in
+    let at-loop = c .before .before .before .before in
     let at-powers = at-loop .before .before in
     let at-start = at-powers .before .before .before .before .before in
     let pre = at-start .pre in
     let inv = at-loop .loop .inv in
     let places : at-start .args .stored ≤ length (at-loop .loop .out) = omega (arith, inv .length-is, pre .1 .1 .0) in
-    ((pre .0, (pre .1 .0, (inv .within, places))), (inv .at-spot, (pre .1 .1 .1, at-powers .powers .ensures)))
+    ((pre .0, (pre .1 .0, (inv .within, places))), (inv .at-spot, (pre .1 .1 .1, (at-powers .powers .ensures, at-powers .before .line-widths .ensures))))
 
 same-length : tie.Need-same-length Inv-loop μ-loop
 same-length c =
     let at-fill = c .before .before .before in
-    at-fill .fill-usual .ensures .long ∙ at-fill .before .before .before .before .loop .inv .length-is
+    at-fill .fill-usual .ensures .long ∙ at-fill .before .before .before .before .before .loop .inv .length-is
 
 returns : tie.Need-returns Inv-loop μ-loop
 returns c =
     let at-fill = c .before .before .before in
-    let at-loop = at-fill .before .before .before .before in
+    let at-loop = at-fill .before .before .before .before .before in
     patterns-none _ _ _ (c .if1 .taken) _ ∙ at-fill .fill-usual .ensures .same ∙ at-loop .loop .inv .same
 
 add-after : tie.Need-add-after Inv-loop μ-loop
@@ -81,7 +81,7 @@ add-after c = omega (arith, c .if1 .left)
 read-here-requires : tie.Need-read-here-requires Inv-loop μ-loop
 read-here-requires c κs =
     let at-fill = c .before .before .before .before in
-    let at-widths = at-fill .before .before .before .before .before .before .before in
+    let at-widths = at-fill .before .before .before .before .before .before .before .before in
     let at-start = at-widths .before .before .before .before in
     here (at-start .args .file .now) (at-start .args .d) (at-start .pre .0) (at-start .pre .1 .0) _ _ (at-fill .fill-usual .ensures .at-spot) _ (at-widths .line-widths .ensures)
 
@@ -89,14 +89,14 @@ put-read-requires : tie.Need-put-read-requires Inv-loop μ-loop
 put-read-requires c κs =
     let at-if1 = c .before .before .before in
     let at-fill = at-if1 .before .before .before in
-    let at-loop = at-fill .before .before .before .before in
+    let at-loop = at-fill .before .before .before .before .before in
     let at-start = at-loop .before .before .before .before .before .before .before in
     omega (arith, at-if1 .if1 .left, at-fill .fill-usual .ensures .long, at-loop .loop .inv .length-is, at-start .pre .1 .1 .0)
 
 next-spot-requires : tie.Need-next-spot-requires Inv-loop μ-loop
 next-spot-requires c κs =
     let at-fill = c .before .before .before .before .before .before .before .before .before .before in
-    let at-widths = at-fill .before .before .before .before .before .before .before in
+    let at-widths = at-fill .before .before .before .before .before .before .before .before in
     let at-start = at-widths .before .before .before .before in
     let put = at-fill .fill-usual .ensures in
     (put .at-spot .inside, here (at-start .args .file .now) (at-start .args .d) (at-start .pre .0) (at-start .pre .1 .0) _ _ (put .at-spot) _ (at-widths .line-widths .ensures))
@@ -105,7 +105,7 @@ loop-less : tie.Need-loop-less Inv-loop μ-loop
 loop-less c =
     let at-if1 = c .before .before .before .before .before .before .before .before in
     let at-fill = at-if1 .before .before .before in
-    omega (arith, at-if1 .if1 .left, at-fill .fill-usual .ensures .later, at-fill .before .before .before .loop-test .taken)
+    omega (arith, at-if1 .if1 .left, at-fill .fill-usual .ensures .later, at-fill .before .before .before .before .loop-test .taken)
 
 loop-again : tie.Need-loop-again Inv-loop μ-loop
 loop-again c =
@@ -113,7 +113,7 @@ loop-again c =
     let at-read = at-put .before .before in
     let at-if1 = at-read .before .before in
     let at-fill = at-if1 .before .before .before in
-    let at-loop = at-fill .before .before .before .before in
+    let at-loop = at-fill .before .before .before .before .before in
     let at-widths = at-loop .before .before .before in
     let at-fields = at-widths .before in
     let at-start = at-fields .before .before .before in

@@ -24,10 +24,10 @@ record Going (file : List ℕ) (d : Data) (count : ℕ) (out₀ : List ℕ) (fir
   same : filled (realAt file d) count j out ≡ filled (realAt file d) count first out₀
 
 abbrev Inv-loop : tie.InvT-loop
-Inv-loop file d table tens stored out₀ fields columns line₀ j₀ out line j = Going file d stored out₀ j₀ out line j
+Inv-loop file d table widths tens stored out₀ fields columns line₀ j₀ out line j = Going file d stored out₀ j₀ out line j
 
 abbrev μ-loop : tie.MeasureT-loop
-μ-loop file d table tens stored out₀ fields columns line₀ j₀ out line j = stored - j
+μ-loop file d table widths tens stored out₀ fields columns line₀ j₀ out line j = stored - j
 
 returns : tie.Need-returns Inv-loop μ-loop
 returns c =
@@ -86,7 +86,7 @@ put-line-requires c κs =
     let usual = c .before .before .usual-next .ensures (some _ (c .before .if2 .left)) in
     let room : at-loop .loop .j + fieldsOf (args .d .case) ≤ length (at-loop .loop .out)
     = omega (arith, at-fields .fields-of .ensures, inv .within, inv .long, pre .0 .1 .1 .1, at-loop-test .loop-test .taken) in
-    ((pre .0 .0, (pre .0 .1 .0, room)), (inv .at-spot, (usual, pre .1 .1 .1)))
+    ((pre .0 .0, (pre .0 .1 .0, room)), (inv .at-spot, (usual, (pre .1 .1 .1 .0, (at-fields .fields-of .ensures, pre .1 .1 .1 .1)))))
 
 add-j : tie.Need-add-j Inv-loop μ-loop
 add-j c =

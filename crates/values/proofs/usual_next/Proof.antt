@@ -16,14 +16,14 @@ passes-requires c κs = search needs
 returns-2 : tie.Need-returns-2
 returns-2 c = λ h. absurd (omega arith)
 
-add-find-end : tie.Need-add-find-end
-add-find-end c =
+add-end-from : tie.Need-add-end-from
+add-end-from c =
     let at-start = c .before .before .before .before .before in
     let passed = c .before .passes .ensures (not-false _ (c .if2 .left)) in
     omega (arith, passed .inside, at-start .pre .1 .0, total-inside (at-start .args .d .case))
 
-find-end-requires : tie.Need-find-end-requires
-find-end-requires c κs = search needs
+end-from-requires : tie.Need-end-from-requires
+end-from-requires c κs = search needs
 
 returns-3 : tie.Need-returns-3
 returns-3 c = λ h. absurd (omega arith)
@@ -38,7 +38,7 @@ returns-4 c =
     let at-start = at-if1 .before .before .before in
     let args = at-start .args in
     let passed = at-if2 .before .passes .ensures (not-false _ (at-if2 .if2 .left)) in
-    λ h. usual-line (args .file .now) (args .d) _ (args .at) (at-start .pre .0) (at-start .pre .1 .1) passed _ _ (at-start .pre .1 .0) (at-if1 .if1 .left) (c .before .find-end .ensures) (c .if3 .left)
+    λ h. usual-line (args .file .now) (args .d) _ (args .at) (at-start .pre .0) (at-start .pre .1 .1) passed _ _ (at-start .pre .1 .0) (at-if1 .if1 .left) (c .before .end-from .ensures) (c .if3 .left)
 
 pub usual-next-spec : {M : Type 1} → statement M
 usual-next-spec =
@@ -47,8 +47,8 @@ usual-next-spec =
     returns
     passes-requires
     returns-2
-    add-find-end
-    find-end-requires
+    add-end-from
+    end-from-requires
     returns-3
     add-result
     returns-4)
