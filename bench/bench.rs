@@ -20,7 +20,7 @@ mod sets;
 
 use calls::ARCHIVES;
 use common::files;
-use common::uff::{self, Word, LONGEST, ROW_NUMBERS, SETS};
+use common::uff::{self, Row, Word, LONGEST, ROW_NUMBERS, SETS};
 use std::hint::black_box;
 use std::time::Instant;
 
@@ -83,6 +83,11 @@ fn row(name: &str, bytes: usize, speeds: &[f64]) {
 
 // Judging --------------------------------------------------------------------------------------
 
+/// What memory allows: the bytes summed up, eight at a time, and nothing asked of them.
+fn sum(file: &[u8]) -> u64 {
+    file.as_chunks::<8>().0.iter().fold(0, |sum: u64, &word| sum.wrapping_add(u64::from_le_bytes(word)))
+}
+
 fn judge_row(name: &str, file: &[u8]) {
     let mut words = [Word::accepted(0); ARCHIVES.len()];
     let mut plain = judge::judge(b"");
@@ -91,6 +96,9 @@ fn judge_row(name: &str, file: &[u8]) {
         sides.push(Box::new(|| *word = black_box((archive.judge)(black_box(file)))));
     }
     sides.push(Box::new(|| plain = black_box(judge::judge(black_box(file)))));
+    sides.push(Box::new(|| {
+        black_box(sum(black_box(file)));
+    }));
     let mut speeds = best(file, sides);
     let good = Word::accepted(plain.place);
     check(name, plain.number == 0 && words[0] == good);
@@ -104,14 +112,22 @@ fn judge_row(name: &str, file: &[u8]) {
 }
 
 fn judge_table() {
-    heading("the judge", "file", &["Rust"]);
+    heading("the judge, beside a plain one and beside a sum over the bytes", "file", &["Rust", "sum"]);
     judge_row("case 1, 16 MB", &sets::many(1, LONGEST));
     judge_row("case 5, 16 MB", &sets::many(5, LONGEST));
+    judge_row("case 6, 16 MB", &sets::many(6, LONGEST));
+    judge_row("case 8, 16 MB", &sets::many(8, LONGEST));
     judge_row("case 1, one set of 65,536 values", &sets::set(1, 65_536));
     judge_row("the same, signs and exponents vary", &sets::signed(1, 65_536));
+    judge_row("case 1, D in every exponent, 16 MB", &sets::lettered(sets::many(1, LONGEST), b'D'));
+    judge_row("case 1, CR LF, 16 MB", &sets::ended(false, b"\r\n"));
+    judge_row("case 1, 80 columns, 16 MB", &sets::ended(true, b"\n"));
+    judge_row("case 1, CR LF, 80 columns, 16 MB", &sets::ended(true, b"\r\n"));
+    judge_row("4,096 sets 58 of one value", &sets::tiny());
     judge_row("4,096 plain sets without lines", &files::empty_sets(SETS));
     judge_row("4,096 sets 82 of one entry", &sets::traces());
-    judge_row("case 1, CR LF, 80 columns, 16 MB", &sets::filled());
+    judge_row("case 1, every line odd, 16 MB", &sets::odd(sets::many(1, LONGEST), 1));
+    judge_row("case 1, each tenth line odd, 16 MB", &sets::odd(sets::many(1, LONGEST), 10));
     judge_row("case 1, no letters, 16 MB", &sets::without_letters(sets::many(1, LONGEST)));
     judge_row("case 5, no letters, 16 MB", &sets::without_letters(sets::many(5, LONGEST)));
     judge_row("case 1, 1 MB", &sets::many(1, LONGEST / 16));
@@ -141,7 +157,7 @@ fn list_table() {
     heading("the lister", "file", &["Rust"]);
     list_row("4,096 plain sets without lines", &files::empty_sets(SETS));
     list_row("4,096 sets 82 of one entry", &sets::traces());
-    list_row("4,096 sets 58 of one value", &files::function(1, 1, 1).repeat(SETS));
+    list_row("4,096 sets 58 of one value", &sets::tiny());
     list_row("case 1, 16 MB", &sets::many(1, LONGEST));
 }
 
@@ -210,6 +226,43 @@ fn columns_row(name: &str, case: usize, file: &[u8]) {
     row(name, file.len(), &speeds);
 }
 
+/// All values of all sets: the file listed once, then each set read from its own bytes. The rows of an earlier archive may have fewer
+/// numbers, so the sets' places are those of the present one.
+fn all_values_row(name: &str, file: &[u8]) {
+    let rows = calls::list(file);
+    let due: Vec<Vec<f64>> = rows.iter().map(|row| reader::values(own(file, row), 1).unwrap_or_default()).collect();
+    let most = due.iter().map(Vec::len).max().unwrap_or(0);
+    let numbers: usize = due.iter().map(Vec::len).sum();
+    let mut read = [0; ARCHIVES.len()];
+    let mut sides: Vec<Side> = Vec::new();
+    for (archive, read) in ARCHIVES.iter().zip(&mut read) {
+        let (mut listed, mut out, rows) = (vec![1; SETS * ROW_NUMBERS], vec![1.0; most], &rows);
+        sides.push(Box::new(move || {
+            black_box((archive.list)(black_box(file), &mut listed));
+            *read = rows.iter().map(|row| (archive.values)(own(file, row), 1, &mut out).place() as usize).sum();
+        }));
+    }
+    let mut plain = 0;
+    sides.push(Box::new(|| {
+        let listed = black_box(reader::list(black_box(file)).unwrap_or_default());
+        let values = |row: &Row| black_box(reader::values(own(file, row), 1).unwrap_or_default()).len();
+        plain = listed.iter().map(values).sum();
+    }));
+    let speeds = best(file, sides);
+    check(name, numbers > 0 && plain == numbers && read == [numbers; ARCHIVES.len()]);
+    let mut out = vec![1.0; most];
+    for (row, due) in rows.iter().zip(&due) {
+        uff::values(own(file, row), 1, &mut out);
+        check(name, same_bits(&out[..due.len()], due));
+    }
+    row(&format!("{name}, {} sets", rows.len()), file.len(), &speeds);
+}
+
+/// The bytes of the set that stands in this row.
+fn own<'a>(file: &'a [u8], row: &Row) -> &'a [u8] {
+    &file[row[3] as usize..row[4] as usize]
+}
+
 fn values_tables() {
     let others = ["Rust", "strtod", "gfortran"];
     let title = "the judge and all values of a file's one set; strtod and gfortran judge nothing";
@@ -226,6 +279,11 @@ fn values_tables() {
     heading("the judge and all values of the last of many sets", "file", &["Rust"]);
     values_row("case 1, 16 MB", &sets::many(1, LONGEST));
     values_row("case 5, 16 MB", &sets::many(5, LONGEST));
+
+    heading("all values of all sets, each by its own bytes", "file", &["Rust"]);
+    all_values_row("case 1, 16 MB", &sets::many(1, LONGEST));
+    all_values_row("case 5, 16 MB", &sets::many(5, LONGEST));
+    all_values_row("4,096 sets of one value", &sets::tiny());
 }
 
 // Rewriting ------------------------------------------------------------------------------------
@@ -252,7 +310,7 @@ fn rewrite_table() {
     rewrite_row("case 1, one set of 65,536 values", &sets::set(1, 65_536));
     rewrite_row("4,096 plain sets without lines", &files::empty_sets(SETS));
     rewrite_row("4,096 sets 82 of one entry", &sets::traces());
-    rewrite_row("case 1, CR LF, 80 columns, 16 MB", &sets::filled());
+    rewrite_row("case 1, CR LF, 80 columns, 16 MB", &sets::ended(true, b"\r\n"));
 }
 
 // Bursts ---------------------------------------------------------------------------------------

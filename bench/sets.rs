@@ -62,11 +62,33 @@ pub fn many(case: usize, length: usize) -> Vec<u8> {
     while file.len() + one.len() <= length {
         file.extend_from_slice(&one);
     }
-    // The rest: a value takes at most 14 (case 1) or 21 (case 5) bytes with its line's end.
+    // The rest: a value takes at most as many bytes as in the large set, with its line's end and a share of the header.
     let rest = length - file.len();
-    let value = if case == 5 { 21 } else { 14 };
+    let value = one.len().div_ceil(65_536);
     if rest > 1_000 + value {
         file.extend_from_slice(&set(case, (rest - 1_000) / value));
+    }
+    file
+}
+
+/// The same file with this letter in every exponent.
+pub fn lettered(mut file: Vec<u8>, letter: u8) -> Vec<u8> {
+    for n in 1..file.len() {
+        if file[n - 1] == b'E' && b"+-".contains(&file[n]) {
+            file[n - 1] = letter;
+        }
+    }
+    file
+}
+
+/// The same file with a plus sign before every number of each data line of so many.
+pub fn odd(mut file: Vec<u8>, of: usize) -> Vec<u8> {
+    let mut line = 0;
+    for n in 2..file.len() {
+        line += usize::from(file[n] == b'\n');
+        if file[n] == b'.' && file[n - 2] == b' ' && line % of == 0 {
+            file[n - 2] = b'+';
+        }
     }
     file
 }
@@ -82,10 +104,16 @@ pub fn without_letters(mut file: Vec<u8>) -> Vec<u8> {
     file
 }
 
-/// Sets of case 1 with CR LF and every line filled to column 80.
-pub fn filled() -> Vec<u8> {
-    let one = files::filled(&set(1, 65_536), b"\r\n");
+/// Sets of case 1 with this line end, and every line filled to column 80 if so.
+pub fn ended(fill: bool, end: &[u8]) -> Vec<u8> {
+    let one = set(1, 65_536);
+    let one = if fill { files::filled(&one, end) } else { files::joined(&files::lines(&one), end) };
     one.repeat(LONGEST / one.len())
+}
+
+/// 4,096 sets 58 of one value.
+pub fn tiny() -> Vec<u8> {
+    files::function(1, 1, 1).repeat(SETS)
 }
 
 /// 4,096 sets 82 of one entry.
