@@ -38,6 +38,7 @@ check: target/uff target/canaries
 	target/canaries samples/bearing.uff
 	$(if $(VALGRIND),$(VALGRIND) -q --error-exitcode=1 --leak-check=full target/canaries samples/bearing.uff,@echo 'no valgrind: canaries were run without it')
 	bash tests/host/command target/uff
+	bash tests/host/field target/uff
 	bash tests/host/watch target/uff
 	bash tests/host/faults target/uff
 	bash tests/host/many target/uff

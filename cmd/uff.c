@@ -40,6 +40,13 @@ static const struct command commands[] = {
      "exactly.\n"
      "  -v  show the line of a refusal with a caret under the column, as on a terminal\n",
      "v", 3, 3, run_number},
+    {"field", "[-v] FORMAT FILE LINE [N]", "show the fields of a line by a FORMAT (LINE from 1, N from 0)",
+     "Reads line LINE alone, without its end, by a FORMAT as the data sheets print it, such as '3I10,3E13.5' or\n"
+     "'(I10,3I5,2(1X,20A1))', and prints each field, or field N: its number, kind (text, integer or real), the first byte\n"
+     "of its columns and the byte past them, from 0 in the line, and what stands there; of a real what it means, exactly.\n"
+     "The file is not judged. A refusal is of line 1, as the line is read alone; its place in the file follows.\n"
+     "  -v  show the line of a refusal with a caret under the column, as on a terminal\n",
+     "v", 3, 4, run_field},
     {"values", "[-Hnv] FILE [SET...]", "show all values of its sets 58, one a line (SET from 1)",
      "Before each set stands a line such as '# set 2: 4096 values, abscissa real', but not where one SET is asked for.\n"
      "Each number has the shortest digits that read back as the same double. A set with a number that one operation\n"
