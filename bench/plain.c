@@ -1,6 +1,6 @@
 /*
  * A plain strict reader of Universal Files, from the papers alone: every line is checked, every field of a 58 too, and all
- * values of all 58 are read in one pass, by strtod. Sets of other numbers are kept as plain lines.
+ * values of all 58 are read in one pass, by strtod. Sets of other numbers are kept as plain lines, and no padding is taken.
  */
 #include "plain.h"
 

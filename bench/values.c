@@ -11,8 +11,8 @@
 #include <stdio.h>
 #include <stdlib.h>
 #include <string.h>
+#include <sys/resource.h>
 #include <sys/wait.h>
-#include <time.h>
 #include <unistd.h>
 
 #define ROUNDS 9
@@ -29,11 +29,17 @@ static void fail(const char *what)
     exit(1);
 }
 
-static double now(void)
+/* Seconds of the processor that this program and the commands that it ran have used: on a busy machine too. */
+static double used(void)
 {
-    struct timespec t;
-    clock_gettime(CLOCK_MONOTONIC, &t);
-    return (double)t.tv_sec + (double)t.tv_nsec / 1e9;
+    double seconds = 0;
+    for (int i = 0; i < 2; i++) {
+        struct rusage u;
+        if (getrusage(i == 0 ? RUSAGE_SELF : RUSAGE_CHILDREN, &u) != 0)
+            fail("no times");
+        seconds += (double)(u.ru_utime.tv_sec + u.ru_stime.tv_sec) + (double)(u.ru_utime.tv_usec + u.ru_stime.tv_usec) / 1e6;
+    }
+    return seconds;
 }
 
 /* Adds a set of case 1 with so many values, whose digits, signs and exponents vary. */
@@ -65,11 +71,11 @@ static uint32_t step_of(uint32_t sets)
 /* Seconds for every set by its place in the whole file. */
 static double time_by_place(size_t count, uint32_t sets)
 {
-    double start = now();
+    double start = used();
     for (uint32_t k = 1; k <= sets; k += step_of(sets))
         if (UFF_NUMBER(uff_values((uint8_t *)file, count, k, other, NUMBERS)) != UFF_ACCEPTED)
             fail("a set is refused");
-    return (now() - start) * step_of(sets);
+    return (used() - start) * step_of(sets);
 }
 
 /* Reads all sets by their own bytes. Gives how many numbers that are, or -1. */
@@ -100,9 +106,9 @@ static void time_calls(const char *name, size_t count, uint32_t sets)
     long read = read_by_rows(count, numbers);
     for (int round = 0; round < ROUNDS; round++)
         for (int i = 1; i < 3; i++) {
-            double start = now(), took;
+            double start = used(), took;
             long again = i == 1 ? read_by_rows(count, other) : read_plainly(file, count, other, NUMBERS);
-            took = now() - start;
+            took = used() - start;
             if (again != read || read < 0 || memcmp(numbers, other, (size_t)read * sizeof *other) != 0)
                 fail("the readers differ");
             best[i] = took < best[i] ? took : best[i];
@@ -129,13 +135,13 @@ static void run(const char *program, const char *a, const char *b, const char *c
 /* Seconds for every set by a command of its own. */
 static double time_each(const char *path, uint32_t sets, const char *uff)
 {
-    double start = now();
+    double start = used();
     for (uint32_t k = 1; k <= sets; k += step_of(sets)) {
         char set[16];
         snprintf(set, sizeof set, "%u", k);
         run(uff, "values", path, set);
     }
-    return (now() - start) * step_of(sets);
+    return (used() - start) * step_of(sets);
 }
 
 /* Every set by a command of its own, all by one, and the plain reader. */
@@ -149,9 +155,9 @@ static void time_commands(const char *name, size_t count, uint32_t sets, const c
     best[0] = time_each(path, sets, programs[0]);
     for (int round = 0; round < ROUNDS; round++)
         for (int i = 1; i < 3; i++) {
-            double start = now(), took;
+            double start = used(), took;
             run(programs[i], i == 1 ? "values" : "plain", path, NULL);
-            took = now() - start;
+            took = used() - start;
             best[i] = took < best[i] ? took : best[i];
         }
     unlink(path);

@@ -54,7 +54,8 @@ void tell(const char *name, const char *what, int error);
 /* Says what is wrong with a file. Gives TROUBLE. */
 int trouble(const char *name, const char *what);
 
-/* Says what is wrong with the words typed. Gives TROUBLE. */
+/* Says what is wrong with the words typed, and where help for the command is. Gives TROUBLE. */
+void set_command(const char *name);
 int misused(const char *what, const char *word);
 
 /* Nothing, or the s of more than one. */

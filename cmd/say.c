@@ -84,11 +84,19 @@ int trouble(const char *name, const char *what)
     return TROUBLE;
 }
 
+/* The command that was typed, if it is one. */
+static const char *command = "";
+
+void set_command(const char *name)
+{
+    command = name;
+}
+
 int misused(const char *what, const char *word)
 {
     fprintf(stderr, "uff: %s%s", what, *word ? ": " : "");
     print_name(stderr, word);
-    fputs("\nTry 'uff help'.\n", stderr);
+    fprintf(stderr, "\nTry 'uff help%s%s'.\n", *command ? " " : "", command);
     return TROUBLE;
 }
 

@@ -18,6 +18,8 @@ struct command {
     int (*run)(const struct choices *o, int count, char **words);
 };
 
+#define SHOWS_LINE "show the line of a refusal with a caret under the column, as on a terminal\n"
+
 /* The letter of each option that a command has; one with a word after it is followed by a colon. */
 static const struct command commands[] = {
     {"judge", "[-Hjqrv] FILE...", "say whether each file is a Universal File",
@@ -33,19 +35,19 @@ static const struct command commands[] = {
      "Prints a line for each set: its place from 1, opening line, dataset number, and the values that a set 58\n"
      "declares (0 for other sets).\n"
      "  -j  a JSON object for each set, which has its bytes and padding too\n"
-     "  -v  show the line of a refusal with a caret under the column, as on a terminal\n",
+     "  -v  " SHOWS_LINE,
      "jv", 1, 1, run_list},
     {"number", "[-v] FILE SET INDEX", "show a stored number of a set 58 (SET from 1, INDEX from 0)",
      "Prints the first byte of its columns and the byte past them, sign, coefficient and scale, and what it means,\n"
      "exactly.\n"
-     "  -v  show the line of a refusal with a caret under the column, as on a terminal\n",
+     "  -v  " SHOWS_LINE,
      "v", 3, 3, run_number},
     {"field", "[-v] FORMAT FILE LINE [N]", "show the fields of a line by a FORMAT (LINE from 1, N from 0)",
      "Reads line LINE alone, without its end, by a FORMAT as the data sheets print it, such as '3I10,3E13.5' or\n"
      "'(I10,3I5,2(1X,20A1))', and prints each field, or field N: its number, kind (text, integer or real), the first byte\n"
      "of its columns and the byte past them, from 0 in the line, and what stands there; of a real what it means, exactly.\n"
      "The file is not judged. A refusal is of line 1, as the line is read alone; its place in the file follows.\n"
-     "  -v  show the line of a refusal with a caret under the column, as on a terminal\n",
+     "  -v  " SHOWS_LINE,
      "v", 3, 4, run_field},
     {"values", "[-Hnv] FILE [SET...]", "show all values of its sets 58, one a line (SET from 1)",
      "Before each set stands a line such as '# set 2: 4096 values, abscissa real', but not where one SET is asked for.\n"
@@ -53,20 +55,20 @@ static const struct command commands[] = {
      "does not give exactly is refused with 21, and the other sets are shown; 'uff number' shows such a number.\n"
      "  -H  that line for one SET too\n"
      "  -n  no such lines\n"
-     "  -v  show the line of a refusal with a caret under the column, as on a terminal\n",
+     "  -v  " SHOWS_LINE,
      "Hnv", 1, 1 << 30, run_values},
     {"rewrite", "[-v] IN OUT", "write IN to OUT in plain form",
      "LF ends, no blanks at line ends, no lines outside sets, no padding, delimiters and dataset numbers spelled\n"
      "plainly, and all else as it was. OUT is replaced once the new bytes are wholly written, and may be IN. An OUT\n"
      "of - is standard output.\n"
-     "  -v  show the line of a refusal with a caret under the column, as on a terminal\n",
+     "  -v  " SHOWS_LINE,
      "v", 2, 2, run_rewrite},
     {"watch", "[-jvw] [-t SECONDS] FILE", "judge FILE while it arrives",
      "Prints the finished lines so far once a second at most, a refusal at once, and the verdict at the end.\n"
      "  -j           a JSON object a line: file, number, line, column, text\n"
      "  -t SECONDS   a file has ended when nothing has come for so long, 10 if not given; with 0 its present end is\n"
      "               its end. A pipe and standard input end at their end, whatever SECONDS are.\n"
-     "  -v           show the line of a refusal with a caret under the column, as on a terminal\n"
+     "  -v           " SHOWS_LINE
      "  -w           wait for a file that is not there yet\n",
      "jt:vw", 1, 1, run_watch},
 };
@@ -269,6 +271,7 @@ static int sort_words(const struct command *c, struct choices *o, int count, cha
 static int run_command(const struct command *c, int count, char **words)
 {
     struct choices o = {.quiet_time = 10000};
+    set_command(c->name);
     count = sort_words(c, &o, count, words);
     if (count < 0)
         return TROUBLE;

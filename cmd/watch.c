@@ -394,10 +394,11 @@ int run_watch(const struct choices *o, int count, char **words)
 {
     static struct watch w;
     static struct choices mine;
-    int fd = open_watched(o, words[0]);
+    int fd;
     (void)count;
     mine = *o;
     mine.is_shown = !o->is_json && is_line_shown(stdout, o, true);
+    fd = open_watched(o, words[0]);
     if (fd >= 0)
         start(&w, &mine, words[0]);
     if (fd < 0 || !take_all(&w, fd))
