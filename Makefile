@@ -58,7 +58,7 @@ install: target/uff
 # The speeds of the calls beside plain Rust, C's strtod and, where there is gfortran, its formatted READ; with BEFORE=ARCHIVE also beside
 # the calls of that archive, in each round.
 GFORTRAN = $(shell command -v gfortran)
-BENCH = $(wildcard bench/* tests/common/*.rs) tests/judge/judge.rs tests/reader/reader.rs include/uff.h samples/bearing.uff
+BENCH = $(wildcard bench/* tests/common/*.rs) tests/field/field.rs tests/judge/judge.rs tests/reader/reader.rs include/uff.h samples/bearing.uff
 TIMED = target/bench$(if $(BEFORE),-before)
 
 # The other archive's calls, by names that begin with before_.
