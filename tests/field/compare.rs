@@ -57,7 +57,13 @@ fn take_fixed(run: &mut Run) {
     let typed = run.questions;
     for wrong in fixed::wrong_programs() {
         if wrong.instead == wrong.case.answer {
-            run::fail(&wrong.case.name, &wrong.case.format, &wrong.case.line, wrong.case.field, &format!("{}: not told apart", wrong.program));
+            run::fail(
+                &wrong.case.name,
+                &wrong.case.format,
+                &wrong.case.line,
+                wrong.case.field,
+                &format!("{}: not told apart", wrong.program),
+            );
         }
         run.take_typed(&wrong.case);
     }

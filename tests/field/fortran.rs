@@ -1,4 +1,5 @@
-//! Lines that both sides and gfortran take, read by gfortran's own formatted READ. What gfortran takes beyond (blanks as zeros among it) is not asked.
+//! Lines that both sides and gfortran take, read by gfortran's own formatted READ. What gfortran takes beyond (blanks as
+//! zeros among it) is not asked.
 
 use crate::field::{self, Field, Kind, Shown};
 use crate::generate::{self, Random};
@@ -147,8 +148,8 @@ fn read_by(program: &Path, questions: &[Question]) -> String {
     }
 }
 
-/// Takes a field's items from what the program printed. An integer has the value of its columns, a real is the double next to what is shown, a
-/// text's items are its columns, each without the blanks at its end.
+/// Takes a field's items from what the program printed. An integer has the value of its columns, a real is the double next
+/// to what is shown, a text's items are its columns, each without the blanks at its end.
 fn same<'a>(question: &Question, n: u32, printed: &mut impl Iterator<Item = &'a str>) -> Result<(), String> {
     let (field, items) = (&question.fields[n as usize], question.items[n as usize]);
     let columns = columns(&question.line, field);

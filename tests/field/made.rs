@@ -10,8 +10,8 @@ pub fn pick<T: Copy>(random: &mut Random, list: &[T]) -> T {
     list[random.below(list.len())]
 }
 
-/// A FORMAT text and what it holds by its making: its fields, X columns left out, for each how many items Fortran has there (an A item with a
-/// count is several to it), its columns and how deep its groups are.
+/// A FORMAT text and what it holds by its making: its fields, X columns left out, for each how many items Fortran has there
+/// (an A item with a count is several to it), its columns and how deep its groups are.
 pub struct Made {
     pub text: Vec<u8>,
     pub fields: Vec<Field>,
@@ -172,8 +172,8 @@ fn plain(random: &mut Random, room: usize) -> Made {
 
 /// Pieces of FORMAT texts.
 const PIECES: [&[u8]; 24] = [
-    b"I5", b"I10", b"A1", b"10A2", b"E13.5", b"1PE13.5", b"1P", b"D25.17", b"X", b"2X", b"(", b")", b"2(", b"1(", b"),", b",", b",", b" ", b"0", b"2", b".",
-    b"18446744073709551616", b"99999999", b"\t",
+    b"I5", b"I10", b"A1", b"10A2", b"E13.5", b"1PE13.5", b"1P", b"D25.17", b"X", b"2X", b"(", b")", b"2(", b"1(", b"),", b",",
+    b",", b" ", b"0", b"2", b".", b"18446744073709551616", b"99999999", b"\t",
 ];
 
 /// A proper text, a damaged one, or bytes that are a FORMAT by chance only.

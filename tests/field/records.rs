@@ -6,8 +6,7 @@ type Printed = &'static [&'static str];
 const TEXT: Printed = &["80A1"];
 
 /// 58, records 6, 7 and 8 to 11 (001, 000, 002).
-const R58_DOF: Printed =
-    &["2(I5,I10),2(1X,10A1,I10,I4)", "2(I5, I10), 2(1X, 10A1, I10, I4)", "2(I5,I10),2(1X, 10A1,I10,I4)"];
+const R58_DOF: Printed = &["2(I5,I10),2(1X,10A1,I10,I4)", "2(I5, I10), 2(1X, 10A1, I10, I4)", "2(I5,I10),2(1X, 10A1,I10,I4)"];
 const R58_FORM: Printed = &["3I10,3E13.5"];
 const R58_AXIS: Printed = &["I10,3I5,2(1X,20A1)"];
 
@@ -29,17 +28,36 @@ const R164: [Printed; 3] = [&["I10,20A1,I10"], &["3D25.17"], &["1D25.17"]];
 
 /// 1815, records 1 to 24 (004).
 const R1815: [&str; 24] = [
-    "I12, 10A2", "1P2E15.7", "2(1I2,1I6),1I12", "1P2E15.7", "1P2E15.7", "1P3E15.7,1I12,1I2", "1P1E15.7,1I2,1I12,1I6", "1I12", "1I6,1P1E15.7",
-    "1I2,1I6,1I12,1P2E15.7", "1I2,1I6,1P3E15.7", "3I6,8I2", "10A2", "40A2", "1I12,3I6,1I2", "1I6,1P2E15.7", "1I2,1I12,1P1E15.7", "1I2", "2I2,1I12", "6I12",
-    "6I12", "1P5E15.7", "1P5E15.7", "2I12",
+    "I12, 10A2", "1P2E15.7", "2(1I2,1I6),1I12", "1P2E15.7", "1P2E15.7", "1P3E15.7,1I12,1I2", "1P1E15.7,1I2,1I12,1I6", "1I12",
+    "1I6,1P1E15.7", "1I2,1I6,1I12,1P2E15.7", "1I2,1I6,1P3E15.7", "3I6,8I2", "10A2", "40A2", "1I12,3I6,1I2", "1I6,1P2E15.7",
+    "1I2,1I12,1P1E15.7", "1I2", "2I2,1I12", "6I12", "6I12", "1P5E15.7", "1P5E15.7", "2I12",
 ];
 
 /// Every text printed for a record.
 pub fn printed() -> Vec<&'static str> {
-    let rows = [TEXT, R58_DOF, R58_FORM, R58_AXIS, SINGLE, DOUBLE, DOUBLE_UNEVEN, DOUBLE_COMPLEX_UNEVEN, R82_HEAD, &["8I10"], R151_MADE, R151_DATE];
+    let rows = [
+        TEXT,
+        R58_DOF,
+        R58_FORM,
+        R58_AXIS,
+        SINGLE,
+        DOUBLE,
+        DOUBLE_UNEVEN,
+        DOUBLE_COMPLEX_UNEVEN,
+        R82_HEAD,
+        &["8I10"],
+        R151_MADE,
+        R151_DATE,
+    ];
     let more: [&[&str]; 2] = [&R1815, &["1P5E15.7"]];
     rows.into_iter().chain(R164).chain(more).flatten().copied().collect()
 }
+
+/// What last lines of numbers hold: 58's, 82's and 1815's, every number of fields but the full line's.
+pub const CUT: [&str; 20] = [
+    "1E13.5", "2E13.5", "3E13.5", "4E13.5", "5E13.5", "1E20.12", "2E20.12", "3E20.12", "E13.5,E20.12", "1I10", "2I10", "3I10",
+    "4I10", "5I10", "6I10", "7I10", "1P1E15.7", "1P2E15.7", "1P3E15.7", "1P4E15.7",
+];
 
 /// A line of a file, without its end, and the FORMATs of its record. None for what C-15 leaves out, and for plain sets.
 pub struct Line<'a> {
@@ -162,7 +180,11 @@ impl Place {
             _ => {
                 let here = self.left.min(8);
                 self.left -= here;
-                if here > 0 { vec![format!("{here}I10")] } else { Vec::new() }
+                if here > 0 {
+                    vec![format!("{here}I10")]
+                } else {
+                    Vec::new()
+                }
             }
         }
     }
@@ -199,7 +221,11 @@ impl Place {
                 }
                 let here = self.left.min(5);
                 self.left -= here;
-                if here > 0 { vec![format!("1P{here}E15.7")] } else { Vec::new() }
+                if here > 0 {
+                    vec![format!("1P{here}E15.7")]
+                } else {
+                    Vec::new()
+                }
             }
         }
     }
@@ -214,12 +240,13 @@ fn row(ordinate: i64, spacing: i64) -> Row {
     }
 }
 
-/// The FORMAT of a row's first fields.
+/// The FORMAT of a row's first fields, fewer than all.
 fn cut(row: Row, fields: usize) -> String {
     match row.widths {
         [13, 13, ..] => format!("{fields}E13.5"),
         [20, ..] => format!("{fields}E20.12"),
-        _ => ["E13.5", "E13.5,E20.12", "E13.5,E20.12,E13.5"][fields - 1].to_string(),
+        // Case 6, of two numbers a value; case 8 has one value a line.
+        _ => "E13.5,E20.12".to_string(),
     }
 }
 
