@@ -346,8 +346,8 @@ fn bursts_table() {
 
 // A line by a FORMAT ---------------------------------------------------------------------------
 
-/// One question on a full line, four reals in 80 columns, the last of them asked for: nanoseconds of the best round. An earlier archive may not
-/// have the call, so it is not asked.
+/// One question on a full line, four reals in 80 columns, the last of them asked for: nanoseconds of the best round. An
+/// earlier archive may not have the call, so it is not asked.
 fn field_line() {
     const QUESTIONS: u32 = 100_000;
     let (format, line) = (b"4E20.12", b"  1.000000000000E-01".repeat(4));
@@ -369,7 +369,8 @@ fn field_line() {
     let due = plain.expect("a real");
     check("a line by a FORMAT", word == Word::accepted(due.kind()) && out.to_vec() == due.bytes());
     let [proved, rust] = best;
-    println!("\na question by a FORMAT on a full line (4E20.12, the last field)\nproved {proved:.0} ns, Rust {rust:.0} ns, Rust/proved {:.2}", rust / proved);
+    println!("\na question by a FORMAT on a full line (4E20.12, the last field)");
+    println!("proved {proved:.0} ns, Rust {rust:.0} ns, Rust/proved {:.2}", rust / proved);
 }
 
 fn main() {
