@@ -18,16 +18,16 @@ struct question {
     struct line line;
 };
 
-static uint64_t ask(const struct question *q, uint32_t field, uint8_t answer[UFF_NUMBER_BYTES])
+static uint64_t ask(const struct question *q, uint32_t field, uint8_t answer[UFF_FIELD_BYTES])
 {
     return uff_field((const uint8_t *)q->format, q->format_count, q->line.bytes, q->line.count, field, answer,
-                     UFF_NUMBER_BYTES);
+                     UFF_FIELD_BYTES);
 }
 
 /* How many fields the FORMAT has, where the line is good. */
 static uint32_t count_fields(const struct question *q)
 {
-    uint8_t answer[UFF_NUMBER_BYTES];
+    uint8_t answer[UFF_FIELD_BYTES];
     uint32_t fields = 0;
     while (UFF_NUMBER(ask(q, fields, answer)) == UFF_ACCEPTED)
         fields++;
@@ -85,7 +85,7 @@ static int refuse(const struct question *q, uint64_t reply)
 /* Shows the fields from one on, and before another. */
 static int show(const struct question *q, uint32_t from, uint32_t past)
 {
-    uint8_t answer[UFF_NUMBER_BYTES];
+    uint8_t answer[UFF_FIELD_BYTES];
     uint64_t reply = ask(q, from, answer);
     if (UFF_NUMBER(reply) != UFF_ACCEPTED)
         return refuse(q, reply);
