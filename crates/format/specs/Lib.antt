@@ -1,0 +1,5 @@
+pub mod Format
+pub mod Reading
+pub mod Laid
+pub mod Computed
+pub mod Examples

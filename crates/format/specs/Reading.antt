@@ -1,0 +1,140 @@
+-- How a FORMAT text is read (02, C-15). `ReadingLaws` proves that it agrees with the grammar of `Format`.
+use mathlib.Core.Bool.{Bool, true, false, _&&_, _||_}
+use mathlib.Core.List.{List, [], _∷_}
+use Prim.Native.Nat.{ℕ, zero, suc, _+_, _-_, _*_}
+use lib.Dec.{leb, ltb, eqb}
+use lib.ListN.{length, take, drop, getD}
+use Rattle.laws.specs.Choice.{pick}
+use Rattle.laws.specs.Run.{run}
+use Rattle.text.specs.Parts.{isDigit}
+use Rattle.format.specs.Format.{Kind, skip, text, integer, real, Field, Count, once, times, Format, plain, group, join, fieldsOf, columns, groups, unblanked}
+
+-- one or the other, of which only the one asked for is worked out
+abbrev pub choose : {A : Type 0} → Bool → (Unit {0} → A) → (Unit {0} → A) → A
+choose true x y = x tt
+choose false x y = y tt
+
+-- how many digits stand first
+unfoldable pub digitsBefore : List ℕ → ℕ
+digitsBefore [] = 0
+digitsBefore (b ∷ bs) = pick (isDigit b) (suc (digitsBefore bs)) 0
+
+unfoldable pub withDigit : ℕ → ℕ → ℕ
+withDigit m b = m * 10 + (b - 48)
+
+-- a number and how many bytes it takes; 0 and 0 where there is none
+pub record Number : Type 0 where
+  pub value : ℕ
+  pub used : ℕ
+
+abbrev pub numbered : ℕ → ℕ → Number
+numbered v k = record { value = v; used = k }
+
+-- the number of k digits that stand first, none with a leading zero
+unfoldable pub numberIn : ℕ → List ℕ → Number
+numberIn k l = pick (eqb k 0) (numbered 0 0) (pick (eqb (getD l 0 0) 48 && ltb 1 k) (numbered 0 0) (numbered (run withDigit 0 (take k l)) k))
+
+unfoldable pub numberOf : List ℕ → Number
+numberOf l = numberIn (digitsBefore l) l
+
+-- a count, left out or written, and its bytes
+pub data Counting : Type 0 where
+  none : Counting
+  some : Count → ℕ → Counting
+
+unfoldable pub countOf : List ℕ → Counting
+countOf l = pick (isDigit (getD l 0 0)) (pick (eqb (numberOf l .value) 0) none (some (times (numberOf l .value)) (numberOf l .used))) (some once 0)
+
+-- an item without brackets and its bytes
+pub data Leaf : Type 0 where
+  none : Leaf
+  some : Count → Kind → ℕ → ℕ → Leaf
+
+-- an item's width from byte k on
+unfoldable pub widthOf : Count → Kind → ℕ → List ℕ → Leaf
+widthOf c k at l = pick (leb 1 (numberOf (drop at l) .value) && leb (numberOf (drop at l) .value) 80) (some c k (numberOf (drop at l) .value) (at + numberOf (drop at l) .used)) none
+
+-- the decimals of an item of width w from byte at on
+unfoldable pub decimalsOf : Count → ℕ → ℕ → List ℕ → Leaf
+decimalsOf c w at l = pick (ltb 0 (numberOf (drop at l) .used) && leb (numberOf (drop at l) .value) w) (some c real w (at + numberOf (drop at l) .used)) none
+
+unfoldable pub pointed : Leaf → List ℕ → Leaf
+pointed none l = none
+pointed (some c k w at) l = pick (eqb (getD l at 0) 46) (decimalsOf c w (at + 1) l) none
+
+-- a real with its letter at byte at
+unfoldable pub realOf : Count → ℕ → List ℕ → Leaf
+realOf c at l = pick (eqb (getD l at 0) 69 || eqb (getD l at 0) 68) (pointed (widthOf c real (at + 1) l) l) none
+
+-- what follows 1P
+unfoldable pub scaledOf : Counting → ℕ → List ℕ → Leaf
+scaledOf none at l = none
+scaledOf (some c k) at l = realOf c (at + k) l
+
+unfoldable pub isOne : Count → Bool
+isOne once = false
+isOne (times n) = eqb n 1
+
+-- an item whose count ends before byte at
+unfoldable pub leafOf : Count → ℕ → List ℕ → Leaf
+leafOf c at l =
+    pick (eqb (getD l at 0) 88) (some c skip 1 (at + 1))
+    (pick (eqb (getD l at 0) 73) (widthOf c integer (at + 1) l)
+    (pick (eqb (getD l at 0) 65) (widthOf c text (at + 1) l)
+    (pick (eqb (getD l at 0) 80) (pick (isOne c) (scaledOf (countOf (drop (at + 1) l)) (at + 1) l) none)
+    (realOf c at l))))
+
+-- a format that stands first, and its bytes
+pub data Parsed : Type 0 where
+  none : Parsed
+  some : Format → ℕ → Parsed
+
+unfoldable pub leaf : Leaf → Parsed
+leaf none = none
+leaf (some c k w at) = some (plain c k w) at
+
+-- the bracket that closes a group whose list begins at byte at
+unfoldable pub closed : Count → ℕ → List ℕ → Parsed → Parsed
+closed c at l none = none
+closed c at l (some t k) = pick (eqb (getD l (at + k) 0) 41) (some (group c t) (at + k + 1)) none
+
+-- a list after the item t and its comma, which end before byte at
+unfoldable pub joined : Format → ℕ → Parsed → Parsed
+joined t at none = none
+joined t at (some u k) = some (join t u) (at + k)
+
+-- "an item may be a list, and a list is made of items": of n bytes an item is read, of n bytes and one a list
+unfoldable mutual
+  pub itemOf : ℕ → List ℕ → Parsed
+  itemOf zero l = none
+  itemOf (suc n) l = elim (countOf l) [
+    | none ↦ none
+    | some c k ↦ choose (eqb (getD l k 0) 40) (λ _. closed c (k + 1) l (listOf n (drop (k + 1) l))) (λ _. leaf (leafOf c k l))
+  ]
+
+  pub listOf : ℕ → List ℕ → Parsed
+  listOf zero l = none
+  listOf (suc n) l = elim (itemOf n l) [
+    | none ↦ none
+    | some t k ↦ choose (eqb (getD l k 0) 44) (λ _. joined t (k + 1) (listOf n (drop (k + 1) l))) (λ _. some t k)
+  ]
+
+-- "Refusals: 26, text malformed or too long; then 27, deeper than three or over 80 columns"
+pub data Reading : Type 0 where
+  malformed : Reading
+  tooLarge : Reading
+  fields : List Field → Reading
+
+unfoldable pub fitting : Format → Reading
+fitting t = choose (leb (groups t) 3 && leb (columns t) 80) (λ _. fields (fieldsOf t)) (λ _. tooLarge)
+
+-- a list that takes all n bytes
+unfoldable pub wholeOf : ℕ → Parsed → Reading
+wholeOf n none = malformed
+wholeOf n (some t k) = choose (eqb k n) (λ _. fitting t) (λ _. malformed)
+
+unfoldable pub packedReading : List ℕ → Reading
+packedReading l = wholeOf (length l) (listOf (length l + 1) l)
+
+unfoldable pub readingOf : List ℕ → Reading
+readingOf bytes = choose (leb (length bytes) 120) (λ _. packedReading (unblanked bytes)) (λ _. malformed)
