@@ -4,15 +4,16 @@ use mathlib.Core.Bool.{Bool, true, false, _&&_, _||_}
 use mathlib.Core.List.{List, [], _∷_, _++_, append-assoc}
 use Prim.Native.Nat.{ℕ, zero, suc, _+_, _-_, _*_, _≤_, _<_}
 use native.Mathlib.Omega.{arith}
-use borrow.Author.Tests.{ltb-true, leb-true, eqb-true, lt-ltb, le-leb, eq-eqb, ne-eqb}
+use native.Mathlib.Numerals.{add-one}
+use borrow.Author.Tests.{ltb-true, ltb-false, leb-true, eqb-true, lt-ltb, le-leb, eq-eqb, ne-eqb}
 use lib.Dec.{ltb, leb, eqb}
-use lib.ListN.{length, take, drop, getD, length-append}
-use lib.Seq.{drop-append-seam, drop-drop, getD-drop}
+use lib.ListN.{length, take, drop, getD, length-append, List·getD-eq-default}
+use lib.Seq.{drop-cons, drop-append-seam, drop-drop, getD-drop}
 use Rattle.laws.specs.Choice.{pick}
-use Rattle.laws.specs.ChoiceLaws.{and-left, and-right}
-use Rattle.text.specs.Parts.{isDigit}
+use Rattle.laws.specs.ChoiceLaws.{false-not-true, and-left, and-right}
+use Rattle.text.specs.Parts.{Digits, Digits.none as no-digit, more, isDigit}
 use Rattle.format.specs.Format.{Kind, skip, text, integer, real, Count, once, times, Format, Numeral, nought, from, Counted, left-out, written, Width, width, Letter, E, D, Plain, skips, texts, integers, reals}
-use Rattle.format.specs.Reading.{digitsBefore, numberOf, countOf, Counting, Leaf, none, some, widthOf, decimalsOf, pointed, realOf, scaledOf, isOne, leafOf}
+use Rattle.format.specs.Reading.{Number, digitsBefore, numberOf, countOf, Counting, Leaf, none, some, widthOf, decimalsOf, pointed, realOf, scaledOf, isOne, leafOf}
 use Rattle.format.specs.NumberLaws.{numeral-complete, number-sound, number-some, count-complete, count-sound, NumberRead, CountRead}
 
 -- The byte at a place, what follows it, and what follows a few.
@@ -89,3 +90,183 @@ unfolding leafOf scaledOf isOne
 scaled-complete {w} {cs} {ps} {c} l rest e h hp n p =
     let two : drop 2 l ≡ cs ++ (ps ++ rest) = ap (drop 2) e in
     rw (ap (λ (r : List ℕ). getD r 1 0) e, two, count-complete (ps ++ rest) hp n) (real-complete c (2 + length cs) l rest (past-bytes l 2 cs (ps ++ rest) two) h p)
+
+-- What is read is spelled.
+
+-- an item's bytes after its count, from byte at to before byte n
+pub record Tail (d c : Count) (k : Kind) (w n at : ℕ) (l : List ℕ) : Type 0 where
+  pub same : d ≡ c
+  pub ps : List ℕ
+  pub rest : List ℕ
+  pub split : drop at l ≡ ps ++ rest
+  pub size : at + length ps ≡ n
+  pub plain : Plain k w ps
+
+-- a width from byte at to before byte n
+record WidthRead (d c : Count) (j k : Kind) (w n at : ℕ) (l : List ℕ) : Type 0 where
+  same : d ≡ c
+  kind : j ≡ k
+  ws : List ℕ
+  rest : List ℕ
+  split : drop at l ≡ ws ++ rest
+  size : at + length ws ≡ n
+  wide : Width w ws
+
+never : {A : Type 0} {c : Count} {k : Kind} {w n : ℕ} → _≡_ {A = Leaf} none (some c k w n) → A
+never e = let z : _≡_ {A = ℕ} 0 1 = cc in absurd (omega arith)
+
+width-sound : (d c : Count) (j k : Kind) (w n at : ℕ) (l : List ℕ) → widthOf d j at l ≡ some c k w n → WidthRead d c j k w n at l
+unfolding widthOf
+width-sound d c j k w n at l e = go (leb 1 v && leb v 80) refl e
+  where
+    v : ℕ
+    v = numberOf (drop at l) .value
+    go : (t : Bool) → (leb 1 v && leb v 80) ≡ t → _≡_ {A = Leaf} (pick t (some d j v (at + numberOf (drop at l) .used)) none) (some c k w n) → WidthRead d c j k w n at l
+    go true h e =
+        let low = leb-true 1 v (and-left (leb 1 v) (leb v 80) h) in
+        let high = leb-true v 80 (and-right (leb 1 v) (leb v 80) h) in
+        let r = number-sound (drop at l) (number-some (drop at l) low) in
+        let value : v ≡ w = cc in
+        let end : at + numberOf (drop at l) .used ≡ n = cc in
+        record { same = cc; kind = cc; ws = r .ns; rest = r .rest; split = r .split; size = ap (λ (x : ℕ). at + x) (r .size) ∙ end; wide = rw (← value) (width low high (r .numeral)) }
+    go false h e = never e
+
+record DecimalsRead (d c : Count) (k : Kind) (v w n at : ℕ) (l : List ℕ) : Type 0 where
+  same : d ≡ c
+  kind : real ≡ k
+  wide : v ≡ w
+  decimals : ℕ
+  ds : List ℕ
+  rest : List ℕ
+  split : drop at l ≡ ds ++ rest
+  size : at + length ds ≡ n
+  numeral : Numeral decimals ds
+  low : decimals ≤ v
+
+decimals-sound : (d c : Count) (k : Kind) (v w n at : ℕ) (l : List ℕ) → decimalsOf d v at l ≡ some c k w n → DecimalsRead d c k v w n at l
+unfolding decimalsOf
+decimals-sound d c k v w n at l e = go (ltb 0 (x .used) && leb (x .value) v) refl e
+  where
+    x : Number
+    x = numberOf (drop at l)
+    go : (t : Bool) → (ltb 0 (x .used) && leb (x .value) v) ≡ t → _≡_ {A = Leaf} (pick t (some d real v (at + x .used)) none) (some c k w n) → DecimalsRead d c k v w n at l
+    go true h e =
+        let some-used = ltb-true 0 (x .used) (and-left (ltb 0 (x .used)) (leb (x .value) v) h) in
+        let low = leb-true (x .value) v (and-right (ltb 0 (x .used)) (leb (x .value) v) h) in
+        let r = number-sound (drop at l) some-used in
+        let end : at + x .used ≡ n = cc in
+        record { same = cc; kind = cc; wide = cc; decimals = x .value; ds = r .ns; rest = r .rest; split = r .split; size = ap (λ (y : ℕ). at + y) (r .size) ∙ end; numeral = r .numeral; low = low }
+    go false h e = never e
+
+-- a byte that is not 0 stands at a place
+pub byte-there : (l : List ℕ) (at b : ℕ) → eqb (getD l at 0) (suc b) ≡ true → drop at l ≡ suc b ∷ drop (at + 1) l
+byte-there l at b h = go (ltb at (length l)) refl
+  where
+    is : getD l at 0 ≡ suc b
+    is = eqb-true (getD l at 0) (suc b) h
+    go : (t : Bool) → ltb at (length l) ≡ t → drop at l ≡ suc b ∷ drop (at + 1) l
+    go true e = rw add-one (drop-cons l at 0 (ltb-true at (length l) e) ∙ ap (λ (x : ℕ). x ∷ drop (suc at) l) is)
+    go false e = let z : _≡_ {A = ℕ} 0 (suc b) = sym (List·getD-eq-default l 0 (ltb-false at (length l) e)) ∙ is in absurd (omega arith)
+
+-- the point and decimals after a width
+point-sound : (d c : Count) (k : Kind) (w n at : ℕ) (b : ℕ) (l : List ℕ) → Letter b → drop at l ≡ b ∷ drop (at + 1) l → (x : Leaf) → widthOf d real (at + 1) l ≡ x → pointed x l ≡ some c k w n
+    → (real ≡ k) × Tail d c real w n at l
+unfolding pointed
+point-sound d c k w n at b l letter from-letter none wx e = never e
+point-sound d c k w n at b l letter from-letter (some dx kx v m) wx e = go (eqb (getD l m 0) 46) refl e
+  where
+    go : (t : Bool) → eqb (getD l m 0) 46 ≡ t → _≡_ {A = Leaf} (pick t (decimalsOf dx v (m + 1) l) none) (some c k w n) → (real ≡ k) × Tail d c real w n at l
+    go true h e =
+        let x = width-sound d dx real kx v m (at + 1) l wx in
+        let y = decimals-sound dx c k v w n (m + 1) l e in
+        let from-point : drop m l ≡ 46 ∷ (y .ds ++ y .rest) = byte-there l m 45 h ∙ ap (λ (r : List ℕ). 46 ∷ r) (y .split) in
+        let to-point : drop m l ≡ x .rest = ap (λ (a : ℕ). drop a l) (sym (x .size)) ∙ past-bytes l (at + 1) (x .ws) (x .rest) (x .split) in
+        let whole : x .ws ++ x .rest ≡ (x .ws ++ (46 ∷ y .ds)) ++ y .rest = ap (λ (r : List ℕ). x .ws ++ r) (sym to-point ∙ from-point) ∙ sym (append-assoc (x .ws) (46 ∷ y .ds) (y .rest)) in
+        let size : at + suc (length (x .ws ++ (46 ∷ y .ds))) ≡ n = simp length-append (omega (arith, x .size, y .size)) in
+        let wide : Width w (x .ws) = rw (← y .wide) (x .wide) in
+        (y .kind, record {
+          same = x .same ∙ y .same;
+          ps = b ∷ (x .ws ++ (46 ∷ y .ds));
+          rest = y .rest;
+          split = from-letter ∙ ap (λ (r : List ℕ). b ∷ r) (x .split ∙ whole);
+          size = size;
+          plain = reals letter wide (y .numeral) (omega (arith, y .low, y .wide))
+        })
+    go false h e = never e
+
+pub real-sound : (d c : Count) (k : Kind) (w n at : ℕ) (l : List ℕ) → realOf d at l ≡ some c k w n → (real ≡ k) × Tail d c real w n at l
+unfolding realOf
+real-sound d c k w n at l e = go (eqb (getD l at 0) 69) refl e
+  where
+    go : (t : Bool) → eqb (getD l at 0) 69 ≡ t → _≡_ {A = Leaf} (pick (t || eqb (getD l at 0) 68) (pointed (widthOf d real (at + 1) l) l) none) (some c k w n) → (real ≡ k) × Tail d c real w n at l
+    go true h e = point-sound d c k w n at 69 l E (byte-there l at 68 h) (widthOf d real (at + 1) l) refl e
+    go false h e = other (eqb (getD l at 0) 68) refl e
+      where
+        other : (t : Bool) → eqb (getD l at 0) 68 ≡ t → _≡_ {A = Leaf} (pick t (pointed (widthOf d real (at + 1) l) l) none) (some c k w n) → (real ≡ k) × Tail d c real w n at l
+        other true h e = point-sound d c k w n at 68 l D (byte-there l at 67 h) (widthOf d real (at + 1) l) refl e
+        other false h e = never e
+
+-- an item's bytes after a first count d that takes at bytes: the item's own count, or 1P, another count and a real
+pub data LeafRead (d c : Count) (k : Kind) (w n at : ℕ) (l : List ℕ) : Type 0 where
+  as-counted : Tail d c k w n at l → LeafRead d c k w n at l
+  as-scaled : (j : ℕ) → d ≡ times 1 → real ≡ k → drop at l ≡ 80 ∷ drop (at + 1) l → CountRead c j (drop (at + 1) l) → Tail c c real w n (at + 1 + j) l → LeafRead d c k w n at l
+
+width-tail : {d c : Count} {j k : Kind} {w n at b : ℕ} {l : List ℕ} → ((ws : List ℕ) → Width w ws → Plain j w (b ∷ ws)) → drop at l ≡ b ∷ drop (at + 1) l → WidthRead d c j k w n (at + 1) l → LeafRead d c k w n at l
+width-tail {d} {c} {j} {k} {w} {n} {at} {b} {l} plain-of first r =
+    let size : at + suc (length (r .ws)) ≡ n = omega (arith, r .size) in
+    rw (← r .kind) (as-counted (record {
+      same = r .same;
+      ps = b ∷ r .ws;
+      rest = r .rest;
+      split = first ∙ ap (λ (x : List ℕ). b ∷ x) (r .split);
+      size = size;
+      plain = plain-of (r .ws) (r .wide)
+    }))
+
+real-tail : {d c : Count} {k : Kind} {w n at : ℕ} {l : List ℕ} → (real ≡ k) × Tail d c real w n at l → LeafRead d c k w n at l
+real-tail (e, r) = rw (← e) (as-counted r)
+
+scaled-tail : (d c : Count) (k : Kind) (w n at : ℕ) (l : List ℕ) → isOne d ≡ true → drop at l ≡ 80 ∷ drop (at + 1) l → (x : Counting) → countOf (drop (at + 1) l) ≡ x → scaledOf x (at + 1) l ≡ some c k w n → LeafRead d c k w n at l
+unfolding scaledOf isOne
+scaled-tail once c k w n at l one first x cx e = false-not-true one
+scaled-tail (times m) c k w n at l one first none cx e = never e
+scaled-tail (times m) c k w n at l one first (some q j) cx e =
+    let r = real-sound q c k w n (at + 1 + j) l e in
+    let same : q ≡ c = r .1 .same in
+    as-scaled j (ap times (eqb-true m 1 one)) (r .0) first (rw same at (count-sound (drop (at + 1) l) q j cx)) (rw same at (r .1))
+
+pub leaf-sound : (d c : Count) (k : Kind) (w n at : ℕ) (l : List ℕ) → leafOf d at l ≡ some c k w n → LeafRead d c k w n at l
+unfolding leafOf
+leaf-sound d c k w n at l e = x-or (eqb (getD l at 0) 88) refl e
+  where
+    p-or : (t : Bool) → eqb (getD l at 0) 80 ≡ t → _≡_ {A = Leaf} (pick t (pick (isOne d) (scaledOf (countOf (drop (at + 1) l)) (at + 1) l) none) (realOf d at l)) (some c k w n) → LeafRead d c k w n at l
+    p-or true h e = one-or (isOne d) refl e
+      where
+        one-or : (t : Bool) → isOne d ≡ t → _≡_ {A = Leaf} (pick t (scaledOf (countOf (drop (at + 1) l)) (at + 1) l) none) (some c k w n) → LeafRead d c k w n at l
+        one-or true o e = scaled-tail d c k w n at l o (byte-there l at 79 h) (countOf (drop (at + 1) l)) refl e
+        one-or false o e = never e
+    p-or false h e = real-tail (real-sound d c k w n at l e)
+    a-or : (t : Bool) → eqb (getD l at 0) 65 ≡ t → _≡_ {A = Leaf} (pick t (widthOf d text (at + 1) l) (pick (eqb (getD l at 0) 80) (pick (isOne d) (scaledOf (countOf (drop (at + 1) l)) (at + 1) l) none) (realOf d at l))) (some c k w n) → LeafRead d c k w n at l
+    a-or true h e = width-tail (λ ws. texts) (byte-there l at 64 h) (width-sound d c text k w n (at + 1) l e)
+    a-or false h e = p-or (eqb (getD l at 0) 80) refl e
+    i-or : (t : Bool) → eqb (getD l at 0) 73 ≡ t → _≡_ {A = Leaf} (pick t (widthOf d integer (at + 1) l) (pick (eqb (getD l at 0) 65) (widthOf d text (at + 1) l) (pick (eqb (getD l at 0) 80) (pick (isOne d) (scaledOf (countOf (drop (at + 1) l)) (at + 1) l) none) (realOf d at l)))) (some c k w n) → LeafRead d c k w n at l
+    i-or true h e = width-tail (λ ws. integers) (byte-there l at 72 h) (width-sound d c integer k w n (at + 1) l e)
+    i-or false h e = a-or (eqb (getD l at 0) 65) refl e
+    x-or : (t : Bool) → eqb (getD l at 0) 88 ≡ t → _≡_ {A = Leaf} (pick t (some d skip 1 (at + 1)) (pick (eqb (getD l at 0) 73) (widthOf d integer (at + 1) l) (pick (eqb (getD l at 0) 65) (widthOf d text (at + 1) l) (pick (eqb (getD l at 0) 80) (pick (isOne d) (scaledOf (countOf (drop (at + 1) l)) (at + 1) l) none) (realOf d at l))))) (some c k w n) → LeafRead d c k w n at l
+    x-or true h e =
+        let kind : skip ≡ k = cc in
+        let one : 1 ≡ w = cc in
+        let end : at + 1 ≡ n = cc in
+        let here : Plain k w (88 ∷ []) = rw (← kind, ← one) skips in
+        as-counted (record { same = cc; ps = 88 ∷ []; rest = drop (at + 1) l; split = byte-there l at 87 h; size = end; plain = here })
+    x-or false h e = i-or (eqb (getD l at 0) 73) refl e
+
+-- the number 1 is written as one digit
+digits-least : {m v : ℕ} {ds : List ℕ} → Digits m ds v → m ≤ v
+digits-least no-digit = omega arith
+digits-least (more low high r) = omega (arith, digits-least r)
+
+pub one-spelled : {v : ℕ} {ns : List ℕ} → v ≡ 1 → Numeral v ns → ns ≡ 49 ∷ []
+one-spelled e nought = absurd (omega arith)
+one-spelled e (from {b} low (more l h no-digit)) = let is : b ≡ 49 = omega arith in ap (λ (x : ℕ). x ∷ []) is
+one-spelled e (from {b} low (more l h (more l' h' r))) = absurd (omega (arith, digits-least r))
