@@ -103,21 +103,24 @@ unfoldable pub joined : Format → ℕ → Parsed → Parsed
 joined t at none = none
 joined t at (some u k) = some (join t u) (at + k)
 
--- "an item may be a list, and a list is made of items": of n bytes an item is read, of n bytes and one a list
+-- an item by its count, and a list by its first item; the list that begins at a byte is given
+unfoldable pub itemAfter : List ℕ → Counting → (ℕ → Parsed) → Parsed
+itemAfter l none lists = none
+itemAfter l (some c k) lists = choose (eqb (getD l k 0) 40) (λ _. closed c (k + 1) l (lists (k + 1))) (λ _. leaf (leafOf c k l))
+
+unfoldable pub listAfter : List ℕ → Parsed → (ℕ → Parsed) → Parsed
+listAfter l none lists = none
+listAfter l (some t k) lists = choose (eqb (getD l k 0) 44) (λ _. joined t (k + 1) (lists (k + 1))) (λ _. some t k)
+
+-- "an item may be a list, and a list is made of items": an item of at most n bytes, and a list of fewer
 unfoldable mutual
   pub itemOf : ℕ → List ℕ → Parsed
   itemOf zero l = none
-  itemOf (suc n) l = elim (countOf l) [
-    | none ↦ none
-    | some c k ↦ choose (eqb (getD l k 0) 40) (λ _. closed c (k + 1) l (listOf n (drop (k + 1) l))) (λ _. leaf (leafOf c k l))
-  ]
+  itemOf (suc n) l = itemAfter l (countOf l) (λ at. listOf n (drop at l))
 
   pub listOf : ℕ → List ℕ → Parsed
   listOf zero l = none
-  listOf (suc n) l = elim (itemOf n l) [
-    | none ↦ none
-    | some t k ↦ choose (eqb (getD l k 0) 44) (λ _. joined t (k + 1) (listOf n (drop (k + 1) l))) (λ _. some t k)
-  ]
+  listOf (suc n) l = listAfter l (itemOf n l) (λ at. listOf n (drop at l))
 
 -- "Refusals: 26, text malformed or too long; then 27, deeper than three or over 80 columns"
 pub data Reading : Type 0 where
