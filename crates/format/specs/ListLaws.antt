@@ -7,7 +7,7 @@ use native.Mathlib.Omega.{arith}
 use borrow.Author.Tests.{eqb-true}
 use lib.Dec.{eqb}
 use lib.ListN.{length, drop, getD, length-append}
-use lib.Seq.{drop-append-seam, getD-drop}
+use lib.Seq.{drop-append-seam, drop-drop, getD-drop}
 use Rattle.laws.specs.Choice.{pick}
 use Rattle.text.specs.Parts.{Digits, Digits.none as no-digit, Digits.more as digit, isDigit}
 use Rattle.format.specs.Format.{Kind, skip, text, integer, real, Count, once, times, Format, plain, group, join, Numeral, nought, from, Counted, left-out, written, Letter, E, D, Plain, skips, texts, integers, reals, Sort, item, list, Spelled, counted, scaled, brackets, last, more}
@@ -182,3 +182,113 @@ read-complete (more {t} {u} {ts} {us} s r) rest f (suc m) h =
     let room : length ts ≤ m = omega arith in
     let rooms : suc (length us) ≤ m = omega arith in
     more-read t u ts us m rest (read-complete s (44 ∷ (us ++ rest)) comma m room) (read-complete r rest f m rooms)
+
+-- What is read is spelled.
+
+-- the bytes ws stand first, and spell the format
+pub record Read (s : Sort) (t : Format) (n : ℕ) (l : List ℕ) : Type 0 where
+  pub ws : List ℕ
+  pub rest : List ℕ
+  pub split : l ≡ ws ++ rest
+  pub size : length ws ≡ n
+  pub spelled : Spelled s t ws
+
+never : {A : Type 0} {t : Format} {n : ℕ} → _≡_ {A = Parsed} none (some t n) → A
+never e = let z : _≡_ {A = ℕ} 0 1 = cc in absurd (omega arith)
+
+-- the same read, said of an equal format and number of bytes
+read-is : {s : Sort} {t u : Format} {n k : ℕ} {l : List ℕ} → _≡_ {A = Parsed} (some u k) (some t n) → Read s u k l → Read s t n l
+read-is {s} {t} {u} {n} {k} e r = let p : u ≡ t = cc in let q : k ≡ n = cc in rw (← p, ← q) r
+
+-- what stands after a count
+after-count : {d : Count} {at : ℕ} {l : List ℕ} (r : CountRead d at l) → drop at l ≡ r .rest
+after-count {d} {at} {l} r = ap (λ (k : ℕ). drop k l) (sym (r .size)) ∙ ap (drop (length (r .cs))) (r .split) ∙ drop-append-seam (r .cs) (r .rest)
+
+counted-sound : {d c : Count} {k : Kind} {w n at : ℕ} {l : List ℕ} → CountRead d at l → Tail d c k w n at l → Read item (plain c k w) n l
+counted-sound {d} {c} {k} {w} {n} {at} {l} r x =
+    let whole : l ≡ (r .cs ++ x .ps) ++ x .rest = r .split ∙ ap (λ (y : List ℕ). r .cs ++ y) (sym (after-count r) ∙ x .split) ∙ sym (append-assoc (r .cs) (x .ps) (x .rest)) in
+    let size : length (r .cs ++ x .ps) ≡ n = length-append (r .cs) (x .ps) ∙ ap (λ (y : ℕ). y + length (x .ps)) (r .size) ∙ x .size in
+    record { ws = r .cs ++ x .ps; rest = x .rest; split = whole; size = size; spelled = counted (rw (x .same) at (r .counted)) (x .plain) }
+
+scale-sound : {cs : List ℕ} {d : Count} → d ≡ times 1 → Counted d cs → cs ≡ 49 ∷ []
+scale-sound e left-out = let z : _≡_ {A = ℕ} 0 1 = cc in absurd (omega arith)
+scale-sound e (written {n} s ns) = let one : n ≡ 1 = cc in one-spelled one ns
+
+scaled-sound : {d c : Count} {w n at : ℕ} {l : List ℕ} (j : ℕ) → d ≡ times 1 → drop at l ≡ 80 ∷ drop (at + 1) l → CountRead d at l → CountRead c j (drop (at + 1) l) → Tail c c real w n (at + 1 + j) l
+    → Read item (plain c real w) n l
+scaled-sound {d} {c} {w} {n} {at} {l} j one first r q x =
+    let ones = scale-sound one (r .counted) in
+    let place : at ≡ 1 = sym (r .size) ∙ ap length ones in
+    let after-second : drop (at + 1 + j) l ≡ q .rest = sym (drop-drop j (at + 1) l) ∙ after-count q in
+    let second : drop (at + 1) l ≡ (q .cs ++ x .ps) ++ x .rest = q .split ∙ ap (λ (y : List ℕ). q .cs ++ y) (sym after-second ∙ x .split) ∙ sym (append-assoc (q .cs) (x .ps) (x .rest)) in
+    let whole : l ≡ 49 ∷ 80 ∷ ((q .cs ++ x .ps) ++ x .rest) = r .split ∙ ap (λ (y : List ℕ). y ++ r .rest) ones ∙ ap (λ (y : List ℕ). 49 ∷ y) (sym (after-count r) ∙ first ∙ ap (λ (y : List ℕ). 80 ∷ y) second) in
+    let size : suc (suc (length (q .cs ++ x .ps))) ≡ n = simp length-append (omega (arith, place, q .size, x .size)) in
+    record { ws = 49 ∷ 80 ∷ (q .cs ++ x .ps); rest = x .rest; split = whole; size = size; spelled = scaled (q .counted) (x .plain) }
+
+leaf-read : {d c : Count} {k : Kind} {w n at : ℕ} {l : List ℕ} → CountRead d at l → LeafRead d c k w n at l → Read item (plain c k w) n l
+leaf-read r (as-counted x) = counted-sound r x
+leaf-read r (as-scaled j one e first q x) = rw (← e) (scaled-sound j one first r q x)
+
+leaf-item : (d : Count) (at : ℕ) (l : List ℕ) (t : Format) (n : ℕ) → CountRead d at l → (x : Leaf) → leafOf d at l ≡ x → leaf x ≡ some t n → Read item t n l
+unfolding leaf
+leaf-item d at l t n r none lx e = never e
+leaf-item d at l t n r (some c k w j) lx e = read-is e (leaf-read r (leaf-sound d c k w j at l lx))
+
+group-item : (d : Count) (at : ℕ) (l : List ℕ) (t : Format) (n : ℕ) → CountRead d at l → drop at l ≡ 40 ∷ drop (at + 1) l → (x : Parsed)
+    → ((u : Format) (j : ℕ) → x ≡ some u j → Read list u j (drop (at + 1) l)) → closed d (at + 1) l x ≡ some t n → Read item t n l
+unfolding closed
+group-item d at l t n r first none inside e = never e
+group-item d at l t n r first (some u j) inside e = go (eqb (getD l (at + 1 + j) 0) 41) refl e
+  where
+    go : (b : Bool) → eqb (getD l (at + 1 + j) 0) 41 ≡ b → _≡_ {A = Parsed} (pick b (some (group d u) (at + 1 + j + 1)) none) (some t n) → Read item t n l
+    go false h e = never e
+    go true h e =
+        let q = inside u j refl in
+        let list-end : drop (at + 1 + j) l ≡ q .rest = ap (λ (k : ℕ). drop (at + 1 + k) l) (sym (q .size)) ∙ past-bytes l (at + 1) (q .ws) (q .rest) (q .split) in
+        let closing : q .rest ≡ 41 ∷ drop (at + 1 + j + 1) l = sym list-end ∙ byte-there l (at + 1 + j) 40 h in
+        let tail = drop (at + 1 + j + 1) l in
+        let within : drop (at + 1) l ≡ (q .ws ++ (41 ∷ [])) ++ tail = q .split ∙ ap (λ (y : List ℕ). q .ws ++ y) closing ∙ sym (append-assoc (q .ws) (41 ∷ []) tail) in
+        let whole : l ≡ (r .cs ++ (40 ∷ (q .ws ++ (41 ∷ [])))) ++ tail = r .split ∙ ap (λ (y : List ℕ). r .cs ++ y) (sym (after-count r) ∙ first ∙ ap (λ (y : List ℕ). 40 ∷ y) within) ∙ sym (append-assoc (r .cs) (40 ∷ (q .ws ++ (41 ∷ []))) tail) in
+        let size : length (r .cs ++ (40 ∷ (q .ws ++ (41 ∷ [])))) ≡ at + 1 + j + 1 = simp length-append (omega (arith, r .size, q .size)) in
+        read-is e (record { ws = r .cs ++ (40 ∷ (q .ws ++ (41 ∷ []))); rest = tail; split = whole; size = size; spelled = brackets (r .counted) (q .spelled) })
+
+more-list : (l : List ℕ) (t u : Format) (at n : ℕ) → Read item t at l → drop at l ≡ 44 ∷ drop (at + 1) l → (x : Parsed)
+    → ((v : Format) (j : ℕ) → x ≡ some v j → Read list v j (drop (at + 1) l)) → joined t (at + 1) x ≡ some u n → Read list u n l
+unfolding joined
+more-list l t u at n r first none rests e = never e
+more-list l t u at n r first (some v j) rests e =
+    let q = rests v j refl in
+    let after-item : r .rest ≡ drop at l = sym (drop-append-seam (r .ws) (r .rest)) ∙ ap (drop (length (r .ws))) (sym (r .split)) ∙ ap (λ (k : ℕ). drop k l) (r .size) in
+    let whole : l ≡ (r .ws ++ (44 ∷ q .ws)) ++ q .rest = r .split ∙ ap (λ (y : List ℕ). r .ws ++ y) (after-item ∙ first ∙ ap (λ (y : List ℕ). 44 ∷ y) (q .split)) ∙ sym (append-assoc (r .ws) (44 ∷ q .ws) (q .rest)) in
+    let size : length (r .ws ++ (44 ∷ q .ws)) ≡ at + 1 + j = simp length-append (omega (arith, r .size, q .size)) in
+    read-is e (record { ws = r .ws ++ (44 ∷ q .ws); rest = q .rest; split = whole; size = size; spelled = more (r .spelled) (q .spelled) })
+
+item-cases : (m : ℕ) (l : List ℕ) (t : Format) (n : ℕ) → ((k : List ℕ) (u : Format) (j : ℕ) → listOf m k ≡ some u j → Read list u j k)
+    → (x : Counting) → countOf l ≡ x → itemOf (suc m) l ≡ some t n → Read item t n l
+item-cases m l t n lists none cx e = never (sym (item-none m l cx) ∙ e)
+item-cases m l t n lists (some d at) cx e = go (eqb (getD l at 0) 40) refl
+  where
+    go : (b : Bool) → eqb (getD l at 0) 40 ≡ b → Read item t n l
+    go true h = group-item d at l t n (count-sound l d at cx) (byte-there l at 39 h) (listOf m (drop (at + 1) l)) (λ u j q. lists (drop (at + 1) l) u j q) (sym (item-group m l d at cx h) ∙ e)
+    go false h = leaf-item d at l t n (count-sound l d at cx) (leafOf d at l) refl (sym (item-leaf m l d at cx h) ∙ e)
+
+list-cases : (m : ℕ) (l : List ℕ) (u : Format) (n : ℕ) → ((k : List ℕ) (t : Format) (j : ℕ) → listOf m k ≡ some t j → Read list t j k)
+    → (x : Parsed) → itemOf m l ≡ x → ((t : Format) (j : ℕ) → x ≡ some t j → Read item t j l) → listOf (suc m) l ≡ some u n → Read list u n l
+list-cases m l u n lists none ix items e = never (sym (list-none m l ix) ∙ e)
+list-cases m l u n lists (some t at) ix items e = go (eqb (getD l at 0) 44) refl
+  where
+    r : Read item t at l
+    r = items t at refl
+    go : (b : Bool) → eqb (getD l at 0) 44 ≡ b → Read list u n l
+    go true h = more-list l t u at n r (byte-there l at 43 h) (listOf m (drop (at + 1) l)) (λ v j q. lists (drop (at + 1) l) v j q) (sym (list-more m l t at ix h) ∙ e)
+    go false h = read-is (sym (list-last m l t at ix h) ∙ e) (record { ws = r .ws; rest = r .rest; split = r .split; size = r .size; spelled = last (r .spelled) })
+
+mutual
+  unfolding itemOf
+  item-sound : (m : ℕ) (l : List ℕ) (t : Format) (n : ℕ) → itemOf m l ≡ some t n → Read item t n l
+  item-sound zero l t n e = never e
+  item-sound (suc m) l t n e = item-cases m l t n (λ k u j q. list-sound m k u j q) (countOf l) refl e
+
+  pub list-sound : (m : ℕ) (l : List ℕ) (t : Format) (n : ℕ) → listOf m l ≡ some t n → Read list t n l
+  list-sound zero l t n e = never e
+  list-sound (suc m) l t n e = list-cases m l t n (λ k u j q. list-sound m k u j q) (itemOf m l) refl (λ u j q. item-sound m l u j q) e
