@@ -3,6 +3,7 @@ pub mod Reading
 pub mod NumberLaws
 pub mod LeafLaws
 pub mod ListLaws
+pub mod FieldsLaws
 pub mod Laid
 pub mod Computed
 pub mod Examples
