@@ -4,6 +4,7 @@ pub mod NumberLaws
 pub mod LeafLaws
 pub mod ListLaws
 pub mod FieldsLaws
+pub mod ReadingLaws
 pub mod Laid
 pub mod Computed
 pub mod Examples
