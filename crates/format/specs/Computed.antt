@@ -12,7 +12,7 @@ computed-leaf l = scaledOf (countOf l) 0 l
 
 unfoldable computed-list : ℕ → List ℕ → Parsed
 unfolding computed-leaf leaf closed joined itemAfter listAfter itemOf
-computed-list n l = listOf n l
+computed-list n l = listOf n l 0
 
 unfoldable pub computed-reading : List ℕ → Reading
 unfolding computed-list repeated fieldsFor fieldsOf columns depth groups unblanked fitting wholeOf packedReading readingOf

@@ -84,12 +84,12 @@ leaf-complete c at l rest e h (reals {b} {w} {d} {ws} {ds} E wide n low) = rw (b
 leaf-complete c at l rest e h (reals {b} {w} {d} {ws} {ds} D wide n low) = rw (byte-at l at 68 _ e) (real-complete c at l rest e h (reals D wide n low))
 
 -- after 1P
-pub scaled-complete : {w : ℕ} {cs ps : List ℕ} {c : Count} (l rest : List ℕ) → l ≡ 49 ∷ 80 ∷ (cs ++ (ps ++ rest)) → digitsBefore rest ≡ 0 → digitsBefore (ps ++ rest) ≡ 0
-    → Counted c cs → Plain real w ps → leafOf (times 1) 1 l ≡ some c real w (2 + length cs + length ps)
+pub scaled-complete : {w : ℕ} {cs ps : List ℕ} {c : Count} (at : ℕ) (l rest : List ℕ) → drop at l ≡ 80 ∷ (cs ++ (ps ++ rest)) → digitsBefore rest ≡ 0 → digitsBefore (ps ++ rest) ≡ 0
+    → Counted c cs → Plain real w ps → leafOf (times 1) at l ≡ some c real w (at + 1 + length cs + length ps)
 unfolding leafOf scaledOf isOne
-scaled-complete {w} {cs} {ps} {c} l rest e h hp n p =
-    let two : drop 2 l ≡ cs ++ (ps ++ rest) = ap (drop 2) e in
-    rw (ap (λ (r : List ℕ). getD r 1 0) e, two, count-complete (ps ++ rest) hp n) (real-complete c (2 + length cs) l rest (past-bytes l 2 cs (ps ++ rest) two) h p)
+scaled-complete {w} {cs} {ps} {c} at l rest e h hp n p =
+    let after = past-byte l at 80 (cs ++ (ps ++ rest)) e in
+    rw (byte-at l at 80 (cs ++ (ps ++ rest)) e, after, count-complete (ps ++ rest) hp n) (real-complete c (at + 1 + length cs) l rest (past-bytes l (at + 1) cs (ps ++ rest) after) h p)
 
 -- What is read is spelled.
 

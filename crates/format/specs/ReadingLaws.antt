@@ -8,18 +8,19 @@ use native.Mathlib.Omega.{arith}
 use borrow.Author.Tests.{leb-true, leb-false, eqb-true, le-leb, eq-eqb}
 use lib.Dec.{leb, eqb}
 use lib.ListN.{length, drop}
-use lib.Seq.{drop-append-seam, drop-length}
+use lib.Seq.{drop-length}
 use Rattle.laws.specs.ChoiceLaws.{false-not-true, and-left, and-right, and-both}
 use Rattle.format.specs.Format.{Field, Format, Sort, item, list, Spelled, fieldsOf, span, columns, groups, unblanked, Text, Fits, Wide}
 use Rattle.format.specs.Reading.{choose, Parsed, none, some, listOf, Reading, malformed, tooLarge, fields, fitting, wholeOf, packedReading, readingOf}
-use Rattle.format.specs.ListLaws.{Follows, end, Read, read-complete, list-sound}
+use Rattle.format.specs.ListLaws.{Follows, end, Read, after-read, read-complete, list-sound}
 use Rattle.format.specs.FieldsLaws.{columns-span, spelled-wide, wide-count}
 
 -- a FORMAT's bytes without blanks are parsed as it
-text-parsed : {t : Format} {ws : List ℕ} → Spelled list t ws → listOf (length ws + 1) ws ≡ some t (length ws)
+text-parsed : {t : Format} {ws : List ℕ} → Spelled list t ws → listOf (length ws + 1) ws 0 ≡ some t (length ws)
 text-parsed {t} {ws} s =
     let room : suc (length ws) ≤ length ws + 1 = omega arith in
-    ap (listOf (length ws + 1)) (sym (append-nil ws)) ∙ read-complete s [] end (length ws + 1) room
+    let from-first : 0 + length ws ≡ length ws = omega arith in
+    read-complete s ws 0 [] (sym (append-nil ws)) end (length ws + 1) room ∙ ap (some t) from-first
 
 text-read : {t : Format} {bytes : List ℕ} → Text t bytes → readingOf bytes ≡ fitting t
 unfolding readingOf packedReading wholeOf
@@ -32,9 +33,9 @@ pub data Understood (bytes : List ℕ) : Type 0 where
   is-text : (t : Format) → Text t bytes → Understood bytes
   is-none : readingOf bytes ≡ malformed → Understood bytes
 
-whole-text : (t : Format) (ws : List ℕ) → Read list t (length ws) ws → Spelled list t ws
+whole-text : (t : Format) (ws : List ℕ) → Read list t (length ws) ws 0 → Spelled list t ws
 whole-text t ws r =
-    let nothing-left : r .rest ≡ [] = sym (drop-append-seam (r .ws) (r .rest)) ∙ ap (drop (length (r .ws))) (sym (r .split)) ∙ ap (λ (k : ℕ). drop k ws) (r .size) ∙ drop-length ws in
+    let nothing-left : r .rest ≡ [] = sym (after-read r) ∙ drop-length ws in
     let whole : r .ws ≡ ws = sym (append-nil (r .ws)) ∙ ap (λ (y : List ℕ). r .ws ++ y) (sym nothing-left) ∙ sym (r .split) in
     rw whole at (r .spelled)
 
@@ -43,11 +44,11 @@ long-read : (bytes : List ℕ) → leb (length bytes) 120 ≡ false → readingO
 unfolding readingOf
 long-read bytes h = rw h refl
 
-none-read : (bytes : List ℕ) → leb (length bytes) 120 ≡ true → listOf (length (unblanked bytes) + 1) (unblanked bytes) ≡ none → readingOf bytes ≡ malformed
+none-read : (bytes : List ℕ) → leb (length bytes) 120 ≡ true → listOf (length (unblanked bytes) + 1) (unblanked bytes) 0 ≡ none → readingOf bytes ≡ malformed
 unfolding readingOf packedReading wholeOf
 none-read bytes h e = rw (h, e) refl
 
-part-read : (bytes : List ℕ) (t : Format) (k : ℕ) → leb (length bytes) 120 ≡ true → listOf (length (unblanked bytes) + 1) (unblanked bytes) ≡ some t k → eqb k (length (unblanked bytes)) ≡ false → readingOf bytes ≡ malformed
+part-read : (bytes : List ℕ) (t : Format) (k : ℕ) → leb (length bytes) 120 ≡ true → listOf (length (unblanked bytes) + 1) (unblanked bytes) 0 ≡ some t k → eqb k (length (unblanked bytes)) ≡ false → readingOf bytes ≡ malformed
 unfolding readingOf packedReading wholeOf
 part-read bytes t k h e q = rw (h, e, q) refl
 
@@ -56,16 +57,16 @@ understood bytes = go (leb (length bytes) 120) refl
   where
     ws : List ℕ
     ws = unblanked bytes
-    all : (t : Format) (k : ℕ) → leb (length bytes) 120 ≡ true → listOf (length ws + 1) ws ≡ some t k → (b : Bool) → eqb k (length ws) ≡ b → Understood bytes
+    all : (t : Format) (k : ℕ) → leb (length bytes) 120 ≡ true → listOf (length ws + 1) ws 0 ≡ some t k → (b : Bool) → eqb k (length ws) ≡ b → Understood bytes
     all t k h e true q =
-        let r : Read list t (length ws) ws = rw (eqb-true k (length ws) q) at (list-sound (length ws + 1) ws t k e) in
+        let r : Read list t (length ws) ws 0 = rw (eqb-true k (length ws) q) at (list-sound (length ws + 1) ws 0 t k e) in
         is-text t (record { short = leb-true (length bytes) 120 h; spelled = whole-text t ws r })
     all t k h e false q = is-none (part-read bytes t k h e q)
-    parse : leb (length bytes) 120 ≡ true → (p : Parsed) → listOf (length ws + 1) ws ≡ p → Understood bytes
+    parse : leb (length bytes) 120 ≡ true → (p : Parsed) → listOf (length ws + 1) ws 0 ≡ p → Understood bytes
     parse h none e = is-none (none-read bytes h e)
     parse h (some t k) e = all t k h e (eqb k (length ws)) refl
     go : (b : Bool) → leb (length bytes) 120 ≡ b → Understood bytes
-    go true h = parse h (listOf (length ws + 1) ws) refl
+    go true h = parse h (listOf (length ws + 1) ws 0) refl
     go false h = is-none (long-read bytes h)
 
 -- a FORMAT is read as its fields, or as too large
