@@ -40,7 +40,7 @@ pub data Format : Type 0 where
 -- "numbers have no leading zeros"
 pub data Numeral : ℕ → List ℕ → Type 0 where
   nought : Numeral 0 (48 ∷ [])
-  from : {b v : ℕ} {ds : List ℕ} → 49 ≤ b → b ≤ 57 → Digits (b - 48) ds v → Numeral v (b ∷ ds)
+  from : {b v : ℕ} {ds : List ℕ} → 49 ≤ b → Digits 0 (b ∷ ds) v → Numeral v (b ∷ ds)
 
 pub data Counted : Count → List ℕ → Type 0 where
   left-out : Counted once []
@@ -50,29 +50,30 @@ pub data Counted : Count → List ℕ → Type 0 where
 pub data Width : ℕ → List ℕ → Type 0 where
   width : {w : ℕ} {ws : List ℕ} → 1 ≤ w → w ≤ 80 → Numeral w ws → Width w ws
 
--- "1P allowed before E and D alone, ahead of any count"
-pub data Scale : List ℕ → Type 0 where
-  none : Scale []
-  one : Scale (49 ∷ 80 ∷ [])
-
 -- "E and D"
 pub data Letter : ℕ → Type 0 where
   E : Letter 69
   D : Letter 68
 
+-- an item after its count: "Items are I and A with width, E and D with width and decimals, .. X"; "decimals at most the width"
+pub data Plain : Kind → ℕ → List ℕ → Type 0 where
+  skips : Plain skip 1 (88 ∷ [])
+  texts : {w : ℕ} {ws : List ℕ} → Width w ws → Plain text w (65 ∷ ws)
+  integers : {w : ℕ} {ws : List ℕ} → Width w ws → Plain integer w (73 ∷ ws)
+  reals : {b w d : ℕ} {ws ds : List ℕ} → Letter b → Width w ws → Numeral d ds → d ≤ w → Plain real w (b ∷ (ws ++ (46 ∷ ds)))
+
 pub data Sort : Type 0 where
   item : Sort
   list : Sort
 
--- the bytes of an item, and of a list, of this format: "Items are I and A with width, E and D with width and decimals, .. X, ..
--- and groups within groups"; "decimals at most the width"; "one comma stands between items, no list is empty"
+-- the bytes of an item, and of a list, of this format
 pub data Spelled : Sort → Format → List ℕ → Type 0 where
-  skips : {c : Count} {cs : List ℕ} → Counted c cs → Spelled item (plain c skip 1) (cs ++ (88 ∷ []))
-  integers : {c : Count} {w : ℕ} {cs ws : List ℕ} → Counted c cs → Width w ws → Spelled item (plain c integer w) (cs ++ (73 ∷ ws))
-  texts : {c : Count} {w : ℕ} {cs ws : List ℕ} → Counted c cs → Width w ws → Spelled item (plain c text w) (cs ++ (65 ∷ ws))
-  reals : {c : Count} {b w d : ℕ} {ps cs ws ds : List ℕ} → Scale ps → Counted c cs → Letter b → Width w ws → Numeral d ds → d ≤ w
-      → Spelled item (plain c real w) (ps ++ (cs ++ (b ∷ (ws ++ (46 ∷ ds)))))
+  counted : {c : Count} {k : Kind} {w : ℕ} {cs ps : List ℕ} → Counted c cs → Plain k w ps → Spelled item (plain c k w) (cs ++ ps)
+  -- "1P allowed before E and D alone, ahead of any count"
+  scaled : {c : Count} {w : ℕ} {cs ps : List ℕ} → Counted c cs → Plain real w ps → Spelled item (plain c real w) (49 ∷ 80 ∷ (cs ++ ps))
+  -- "groups within groups"
   brackets : {c : Count} {t : Format} {cs ts : List ℕ} → Counted c cs → Spelled list t ts → Spelled item (group c t) (cs ++ (40 ∷ (ts ++ (41 ∷ []))))
+  -- "one comma stands between items, no list is empty"
   last : {t : Format} {ts : List ℕ} → Spelled item t ts → Spelled list t ts
   more : {t u : Format} {ts us : List ℕ} → Spelled item t ts → Spelled list u us → Spelled list (join t u) (ts ++ (44 ∷ us))
 

@@ -1,5 +1,10 @@
 pub mod Format
 pub mod Reading
+pub mod NumberLaws
+pub mod LeafLaws
+pub mod ListLaws
+pub mod FieldsLaws
+pub mod ReadingLaws
 pub mod Laid
 pub mod Computed
 pub mod Examples

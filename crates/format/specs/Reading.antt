@@ -45,16 +45,16 @@ pub data Counting : Type 0 where
 unfoldable pub countOf : List ℕ → Counting
 countOf l = pick (isDigit (getD l 0 0)) (pick (eqb (numberOf l .value) 0) none (some (times (numberOf l .value)) (numberOf l .used))) (some once 0)
 
--- an item without brackets and its bytes
+-- an item without brackets, and the byte before which it ends
 pub data Leaf : Type 0 where
   none : Leaf
   some : Count → Kind → ℕ → ℕ → Leaf
 
--- an item's width from byte k on
+-- an item's width from byte at on
 unfoldable pub widthOf : Count → Kind → ℕ → List ℕ → Leaf
 widthOf c k at l = pick (leb 1 (numberOf (drop at l) .value) && leb (numberOf (drop at l) .value) 80) (some c k (numberOf (drop at l) .value) (at + numberOf (drop at l) .used)) none
 
--- the decimals of an item of width w from byte at on
+-- the decimals of an item of width w, from byte at on
 unfoldable pub decimalsOf : Count → ℕ → ℕ → List ℕ → Leaf
 decimalsOf c w at l = pick (ltb 0 (numberOf (drop at l) .used) && leb (numberOf (drop at l) .value) w) (some c real w (at + numberOf (drop at l) .used)) none
 
@@ -84,7 +84,7 @@ leafOf c at l =
     (pick (eqb (getD l at 0) 80) (pick (isOne c) (scaledOf (countOf (drop (at + 1) l)) (at + 1) l) none)
     (realOf c at l))))
 
--- a format that stands first, and its bytes
+-- a format and the byte before which it ends
 pub data Parsed : Type 0 where
   none : Parsed
   some : Format → ℕ → Parsed
@@ -93,31 +93,34 @@ unfoldable pub leaf : Leaf → Parsed
 leaf none = none
 leaf (some c k w at) = some (plain c k w) at
 
--- the bracket that closes a group whose list begins at byte at
-unfoldable pub closed : Count → ℕ → List ℕ → Parsed → Parsed
-closed c at l none = none
-closed c at l (some t k) = pick (eqb (getD l (at + k) 0) 41) (some (group c t) (at + k + 1)) none
+-- the bracket that closes a group
+unfoldable pub closed : Count → List ℕ → Parsed → Parsed
+closed c l none = none
+closed c l (some t at) = pick (eqb (getD l at 0) 41) (some (group c t) (at + 1)) none
 
--- a list after the item t and its comma, which end before byte at
-unfoldable pub joined : Format → ℕ → Parsed → Parsed
-joined t at none = none
-joined t at (some u k) = some (join t u) (at + k)
+-- a list after the item t and its comma
+unfoldable pub joined : Format → Parsed → Parsed
+joined t none = none
+joined t (some u at) = some (join t u) at
 
--- "an item may be a list, and a list is made of items": of n bytes an item is read, of n bytes and one a list
+-- an item from byte at on by its count, and a list by its first item; the list that begins at a byte is given
+unfoldable pub itemAfter : List ℕ → ℕ → Counting → (ℕ → Parsed) → Parsed
+itemAfter l at none lists = none
+itemAfter l at (some c k) lists = choose (eqb (getD l (at + k) 0) 40) (λ _. closed c l (lists (at + k + 1))) (λ _. leaf (leafOf c (at + k) l))
+
+unfoldable pub listAfter : List ℕ → Parsed → (ℕ → Parsed) → Parsed
+listAfter l none lists = none
+listAfter l (some t at) lists = choose (eqb (getD l at 0) 44) (λ _. joined t (lists (at + 1))) (λ _. some t at)
+
+-- "an item may be a list, and a list is made of items": from byte at on, an item of at most n bytes, and a list of fewer
 unfoldable mutual
-  pub itemOf : ℕ → List ℕ → Parsed
-  itemOf zero l = none
-  itemOf (suc n) l = elim (countOf l) [
-    | none ↦ none
-    | some c k ↦ choose (eqb (getD l k 0) 40) (λ _. closed c (k + 1) l (listOf n (drop (k + 1) l))) (λ _. leaf (leafOf c k l))
-  ]
+  pub itemOf : ℕ → List ℕ → ℕ → Parsed
+  itemOf zero l at = none
+  itemOf (suc n) l at = itemAfter l at (countOf (drop at l)) (λ k. listOf n l k)
 
-  pub listOf : ℕ → List ℕ → Parsed
-  listOf zero l = none
-  listOf (suc n) l = elim (itemOf n l) [
-    | none ↦ none
-    | some t k ↦ choose (eqb (getD l k 0) 44) (λ _. joined t (k + 1) (listOf n (drop (k + 1) l))) (λ _. some t k)
-  ]
+  pub listOf : ℕ → List ℕ → ℕ → Parsed
+  listOf zero l at = none
+  listOf (suc n) l at = listAfter l (itemOf n l at) (λ k. listOf n l k)
 
 -- "Refusals: 26, text malformed or too long; then 27, deeper than three or over 80 columns"
 pub data Reading : Type 0 where
@@ -134,7 +137,7 @@ wholeOf n none = malformed
 wholeOf n (some t k) = choose (eqb k n) (λ _. fitting t) (λ _. malformed)
 
 unfoldable pub packedReading : List ℕ → Reading
-packedReading l = wholeOf (length l) (listOf (length l + 1) l)
+packedReading l = wholeOf (length l) (listOf (length l + 1) l 0)
 
 unfoldable pub readingOf : List ℕ → Reading
 readingOf bytes = choose (leb (length bytes) 120) (λ _. packedReading (unblanked bytes)) (λ _. malformed)
