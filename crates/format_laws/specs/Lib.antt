@@ -5,3 +5,5 @@ pub mod ShownLaws
 pub mod JudgeLaws
 pub mod Printed
 pub mod PrintedLaws
+pub mod Said
+pub mod SaidLaws

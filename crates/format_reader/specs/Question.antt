@@ -29,11 +29,11 @@ pub data Seen : Type 0 where
   number : Shown → Seen
 
 -- what each case of the answer says; the place is the kind: 1 a text, 2 an integer, 3 a real
-abbrev pub paper : FieldAnswer → Said Seen
-paper (field.Text a e) = said 0 1 (columns a e ∷ [])
-paper (field.Integer a e) = said 0 2 (columns a e ∷ [])
-paper (field.Real s) = said 0 3 (number (shown (s .first) (s .past) (s .minus) (s .coefficient) (s .below) (s .scale)) ∷ [])
-paper (field.Refused r) = refusedBy r
+abbrev pub paperField : FieldAnswer → Said Seen
+paperField (field.Text a e) = said 0 1 (columns a e ∷ [])
+paperField (field.Integer a e) = said 0 2 (columns a e ∷ [])
+paperField (field.Real s) = said 0 3 (number (shown (s .first) (s .past) (s .minus) (s .coefficient) (s .below) (s .scale)) ∷ [])
+paperField (field.Refused r) = refusedBy r
 
 -- a real, by its columns and what they mean; 18 where they hold none, which no line has whose fields pass
 abbrev pub realShown : ℕ → ℕ → Real → Said Seen

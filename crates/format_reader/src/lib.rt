@@ -7,14 +7,15 @@ ghost use Rattle.layout.specs.Columns.{total};
 ghost use Rattle.record_table.specs.Records.{fieldList};
 ghost use Rattle.reader.specs.Reader.{refused};
 ghost use Rattle.format_reader.specs.Unruled.{lookedAt, unruledFault, unruledRefusal};
-ghost use Rattle.format_reader.specs.Question.{paper, kindOf, fieldShown, counts, shownFrom, fieldIn, fieldOf, formNumber, answerOf};
+ghost use Rattle.format_reader.specs.Question.{paperField, kindOf, fieldShown, counts, shownFrom, fieldIn, fieldOf, formNumber, answerOf};
 ghost use mathlib.Core.List.{map};
 ghost use Rattle.format.specs.Format.{Kind};
+ghost use Rattle.format.specs.Reading.{readingOf};
+ghost use Rattle.format.specs.Laid.{fieldsIn};
 use codes::INTEGER;
 use codes::LAST_FORM;
 use codes::REAL;
 use codes::SKIP;
-use format::Fields;
 use judge::Reply;
 use laws::index;
 use line::Refusal;
@@ -92,7 +93,7 @@ fn check_line(line: &[u8; 80], forms: &[u8], widths: &[u8]) -> Refusal
 
 // No such field: 18.
 fn no_field() -> FieldAnswer
-    ensures { λ r. ⌜ paper r ≡ refused 18 0 ⌝ }
+    ensures { λ r. ⌜ paperField r ≡ refused 18 0 ⌝ }
 {
     FieldAnswer::Refused(judge::bare_reply(18, 0))
 }
@@ -100,7 +101,7 @@ fn no_field() -> FieldAnswer
 // The real in the columns from `first` to before `past`.
 fn show_real(line: &[u8; 80], first: usize, past: usize) -> FieldAnswer
     requires { ⌜ (first ≤ past) × (past ≤ 80) ⌝ }
-    ensures { λ r. ⌜ paper r ≡ fieldShown Kind.real first past (now (line .entry)) ⌝ }
+    ensures { λ r. ⌜ paperField r ≡ fieldShown Kind.real first past (now (line .entry)) ⌝ }
 {
     let columns: &[u8] = line;
     match real_field(&columns[first..past]) {
@@ -120,7 +121,7 @@ fn show_real(line: &[u8; 80], first: usize, past: usize) -> FieldAnswer
 // The field of this form in the columns from `first` to before `past`.
 fn show(line: &[u8; 80], form: u8, first: usize, past: usize) -> FieldAnswer
     requires { ⌜ (first ≤ past) × (past ≤ 80) ⌝ }
-    ensures { λ r. ⌜ paper r ≡ fieldShown (kindOf (formOf form)) first past (now (line .entry)) ⌝ }
+    ensures { λ r. ⌜ paperField r ≡ fieldShown (kindOf (formOf form)) first past (now (line .entry)) ⌝ }
 {
     if form == REAL {
         return show_real(line, first, past);
@@ -153,7 +154,7 @@ fn count_of(form: u8) -> usize
 // A field by its number, counted from 0.
 fn show_field(line: &[u8; 80], forms: &[u8], widths: &[u8], field: usize) -> FieldAnswer
     requires { ⌜ (length (now widths) ≤ length (now forms)) × (total (now widths) ≤ 80) ⌝ }
-    ensures { λ r. ⌜ paper r ≡ shownFrom (fieldList (now (forms .entry)) (now (widths .entry))) 0 field (now (line .entry)) ⌝ }
+    ensures { λ r. ⌜ paperField r ≡ shownFrom (fieldList (now (forms .entry)) (now (widths .entry))) 0 field (now (line .entry)) ⌝ }
 {
     let mut at = 0;
     let mut k = 0;
@@ -177,7 +178,7 @@ fn show_field(line: &[u8; 80], forms: &[u8], widths: &[u8], field: usize) -> Fie
 // A field of a line's 80 columns; the line's refusals by its fields come before.
 fn read_columns(line: &[u8; 80], forms: &[u8], widths: &[u8], field: usize) -> FieldAnswer
     requires { ⌜ (length (now widths) ≤ length (now forms)) × (total (now widths) ≤ 80) ⌝ }
-    ensures { λ r. ⌜ paper r ≡ fieldIn (fieldList (now (forms .entry)) (now (widths .entry))) field (now (line .entry)) ⌝ }
+    ensures { λ r. ⌜ paperField r ≡ fieldIn (fieldList (now (forms .entry)) (now (widths .entry))) field (now (line .entry)) ⌝ }
 {
     let found = check_line(line, forms, widths);
     if 0 < found.number {
@@ -189,7 +190,7 @@ fn read_columns(line: &[u8; 80], forms: &[u8], widths: &[u8], field: usize) -> F
 // A field of a line lent alone; the line's own refusals come before.
 fn read_line(line: &[u8], forms: &[u8], widths: &[u8], field: usize) -> FieldAnswer
     requires { ⌜ (length (now widths) ≤ length (now forms)) × (total (now widths) ≤ 80) ⌝ }
-    ensures { λ r. ⌜ paper r ≡ fieldOf (fieldList (now (forms .entry)) (now (widths .entry))) field (now (line .entry)) ⌝ }
+    ensures { λ r. ⌜ paperField r ≡ fieldOf (fieldList (now (forms .entry)) (now (widths .entry))) field (now (line .entry)) ⌝ }
 {
     let own = line::line_fault(line, true);
     if 0 < own.number {
