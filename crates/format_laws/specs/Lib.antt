@@ -7,3 +7,4 @@ pub mod Printed
 pub mod PrintedLaws
 pub mod Said
 pub mod SaidLaws
+pub mod Examples
