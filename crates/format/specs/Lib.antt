@@ -6,5 +6,7 @@ pub mod ListLaws
 pub mod FieldsLaws
 pub mod ReadingLaws
 pub mod Laid
+pub mod Measured
+pub mod MeasuredLaws
 pub mod Computed
 pub mod Examples

@@ -1,0 +1,26 @@
+use native.Mathlib.Omega.{arith}
+use borrow.Author.Needs.{needs}
+use Rattle.format.proofs.sized.Statement.{statement}
+use Rattle.format.proofs.sized.Tie as tie
+use Rattle.format.proofs.sized.Reads as reads
+use Rattle.format.proofs.sized.Lts as lts
+use Rattle.format.proofs.number.Reads as number-reads
+
+-- src/lib.rt:173:9
+number-requires : tie.Need-number-requires
+number-requires c κs = search needs
+
+-- src/lib.rt:175:9
+returns : tie.Need-returns
+returns c = ?
+
+-- src/lib.rt:178:9
+returns-2 : tie.Need-returns-2
+returns-2 c = ?
+
+-- src/lib.rt:170:1
+returns-3 : tie.Need-returns-3
+returns-3 c = ?
+
+pub sized-spec : {M : Type 1} → statement M
+sized-spec = tie.close (tie.spec number-requires returns returns-2 returns-3)
