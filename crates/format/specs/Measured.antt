@@ -37,9 +37,12 @@ abbrev pub isBare : Count → Bool
 isBare once = true
 isBare (times n) = false
 
+abbrev pub aTally : Bool → Bool → ℕ → ℕ → Tally
+aTally f b n at = record { found = f; bare = b; count = n; at = at }
+
 unfoldable pub tallyAt : ℕ → Counting → Tally
-tallyAt at none = record { found = false; bare = false; count = 0; at = 0 }
-tallyAt at (some c k) = record { found = true; bare = isBare c; count = capped (number c); at = at + k }
+tallyAt at none = aTally false false 0 0
+tallyAt at (some c k) = aTally true (isBare c) (capped (number c)) (at + k)
 
 abbrev pub leafIn : Leaf → code.Leaf
 leafIn none = record { found = false; kind = 0; count = 0; width = 0; at = 0 }

@@ -11,10 +11,11 @@ use lib.ListN.{length, take, drop, getD, List·getD-eq-default}
 use lib.Seq.{getD-drop}
 use Rattle.laws.specs.Choice.{pick}
 use Rattle.laws.specs.Run.{run}
+use Rattle.text.specs.Parts.{isDigit}
 use Rattle.format.specs.Format.{Kind, skip, text, integer, real, Count, once, times, number, Format, plain, group, join, depth, groups, columns}
 use Rattle.format.specs.Reading.{digitsBefore, Number, numberIn, numberOf, countOf, Counting, Leaf, Parsed, none, some, withDigit, widthOf, decimalsOf, pointed, realOf, scaledOf, isOne, leafOf, leaf, closed, joined, itemOf, listOf}
 use Rattle.format.specs.Laid.{kindNumber}
-use Rattle.format.specs.Measured.{capped, deeper, highest, keptDigit, figureOf, figureAt, isBare, tallyAt, leafIn, noLeaf, aLeaf, figure, sizedLeaf, decimalsBy, decimalsLeaf, realLeaf, scaledBy, scaledLeaf, plainLeaf, unmeasured, aMeasure, measured, measuredLeaf, groupDepth, closedMeasure, joinedMeasure}
+use Rattle.format.specs.Measured.{capped, deeper, highest, keptDigit, figureOf, figureAt, isBare, aTally, tallyAt, leafIn, noLeaf, aLeaf, figure, sizedLeaf, decimalsBy, decimalsLeaf, realLeaf, scaledBy, scaledLeaf, plainLeaf, unmeasured, aMeasure, measured, measuredLeaf, groupDepth, closedMeasure, joinedMeasure}
 use Rattle.format.specs.declared.Figure.{Figure}
 use Rattle.format.specs.declared.Tally.{Tally}
 use Rattle.format.specs.declared.Leaf as code
@@ -126,3 +127,131 @@ module _ (l : List ℕ) (at past : ℕ) (end : past ≡ at + digitsBefore (drop 
       let leading : eqb (getD (drop at l) 0 0) 48 && ltb 1 (digitsBefore (drop at l)) ≡ false = rw (first-digit, ← e, ← digits-are) z in
       let number : v ≡ capped (run withDigit 0 (take (digitsBefore (drop at l)) (drop at l))) = r ∙ run-capped (take (past - at) (drop at l)) 0 ∙ ap (λ (k : ℕ). capped (run withDigit 0 (take k (drop at l)))) digits-are in
       rw (some-there, leading, number, end) refl
+
+-- Counts.
+
+module _ (l : List ℕ) (at b : ℕ) (byte : b ≡ getD l at 0) where
+  first-byte : getD (drop at l) 0 0 ≡ b
+  first-byte = let same : at + 0 ≡ at = omega arith in getD-drop at l 0 0 ∙ ap (λ (k : ℕ). getD l k 0) same ∙ sym byte
+
+  pub tally-none : (n : Figure) → isDigit b ≡ true → n ≡ figure at l → n .value ≡ 0 → aTally false false 0 0 ≡ tallyAt at (countOf (drop at l))
+  unfolding tallyAt countOf figureAt
+  tally-none n d e z =
+      let kept : capped (numberOf (drop at l) .value) ≡ 0 = ap (λ (x : Figure). x .value) (sym e) ∙ z in
+      let none-there : eqb (numberOf (drop at l) .value) 0 ≡ true = eq-eqb (numberOf (drop at l) .value) 0 (omega (arith, kept)) in
+      rw (first-byte, d, none-there) refl
+
+  pub tally-some : (n : Figure) → isDigit b ≡ true → n ≡ figure at l → (n .value ≡ 0 → ⊥) → aTally true false (n .value) (n .at) ≡ tallyAt at (countOf (drop at l))
+  unfolding tallyAt countOf figureAt
+  tally-some n d e z =
+      let kept : n .value ≡ capped (numberOf (drop at l) .value) = ap (λ (x : Figure). x .value) e in
+      let past : n .at ≡ at + numberOf (drop at l) .used = ap (λ (x : Figure). x .at) e in
+      let some-there : eqb (numberOf (drop at l) .value) 0 ≡ false = ne-eqb (numberOf (drop at l) .value) 0 (λ q. z (omega (arith, kept, q))) in
+      rw (first-byte, d, some-there, kept, past) refl
+
+  pub tally-bare : isDigit b ≡ false → aTally true true 1 at ≡ tallyAt at (countOf (drop at l))
+  unfolding tallyAt countOf
+  tally-bare d = let same : at ≡ at + 0 = omega arith in rw (first-byte, d) (ap (aTally true true 1) same)
+
+-- Items.
+
+module _ (k c : ℕ) (l : List ℕ) (at : ℕ) (n : Figure) (e : n ≡ figure at l) where
+  pub sizedLeaf-low : n .value < 1 → noLeaf ≡ sizedLeaf k c at l
+  unfolding sizedLeaf
+  sizedLeaf-low h = rw (← e, lt-ltb (n .value) 1 h) refl
+
+  pub sizedLeaf-high : 1 ≤ n .value → 80 < n .value → noLeaf ≡ sizedLeaf k c at l
+  unfolding sizedLeaf
+  sizedLeaf-high h g = rw (← e, le-ltb (n .value) 1 h, lt-ltb 80 (n .value) g) refl
+
+  pub sizedLeaf-some : 1 ≤ n .value → n .value ≤ 80 → aLeaf k c (n .value) (n .at) ≡ sizedLeaf k c at l
+  unfolding sizedLeaf
+  sizedLeaf-some h g = rw (← e, le-ltb (n .value) 1 h, le-ltb 80 (n .value) g) refl
+
+pub realLeaf-letter : (n at b : ℕ) (l : List ℕ) → b ≡ getD l at 0 → eqb b 69 || eqb b 68 ≡ true → decimalsLeaf (sizedLeaf 3 n (at + 1) l) l ≡ realLeaf n at l
+unfolding realLeaf
+realLeaf-letter n at b l e h = rw (← e, h) refl
+
+pub realLeaf-other : (n at b : ℕ) (l : List ℕ) → b ≡ getD l at 0 → eqb b 69 || eqb b 68 ≡ false → noLeaf ≡ realLeaf n at l
+unfolding realLeaf
+realLeaf-other n at b l e h = rw (← e, h) refl
+
+pub letter-in : (l : List ℕ) (at b : ℕ) → b ≡ getD l at 0 → eqb b 69 || eqb b 68 ≡ true → at < length l
+letter-in l at b e h = go (eqb b 69) refl h
+  where
+    go : (t : Bool) → eqb b 69 ≡ t → t || eqb b 68 ≡ true → at < length l
+    go true q h = in-text l at 68 (sym e ∙ eqb-true b 69 q)
+    go false q h = in-text l at 67 (sym e ∙ eqb-true b 68 h)
+
+pub realLeaf-is : (n at b : ℕ) (l : List ℕ) (i r : code.Leaf) → b ≡ getD l at 0 → eqb b 69 || eqb b 68 ≡ true → i ≡ sizedLeaf 3 n (at + 1) l → r ≡ decimalsLeaf i l → r ≡ realLeaf n at l
+realLeaf-is n at b l i r e h p q = q ∙ ap (λ (x : code.Leaf). decimalsLeaf x l) p ∙ realLeaf-letter n at b l e h
+
+pub scaledLeaf-none : (at : ℕ) (l : List ℕ) (c : Tally) → c ≡ tallyAt at (countOf (drop at l)) → c .found ≡ false → noLeaf ≡ scaledLeaf at l
+scaledLeaf-none at l c e h = scaledBy-none c l h ∙ ap (λ (x : Tally). scaledBy x l) e
+
+pub scaledLeaf-some : (at : ℕ) (l : List ℕ) (c : Tally) (r : code.Leaf) → c ≡ tallyAt at (countOf (drop at l)) → c .found ≡ true → r ≡ realLeaf (c .count) (c .at) l → r ≡ scaledLeaf at l
+scaledLeaf-some at l c r e h q = q ∙ scaledBy-some c l h ∙ ap (λ (x : Tally). scaledBy x l) e
+
+module _ (c : Tally) (l : List ℕ) (b : ℕ) (byte : b ≡ getD l (c .at) 0) where
+  pub plainLeaf-X : b ≡ 88 → aLeaf 0 (c .count) 1 (c .at + 1) ≡ plainLeaf c l
+  unfolding plainLeaf
+  plainLeaf-X e = rw (← byte, e) refl
+
+  pub plainLeaf-I : (r : code.Leaf) → b ≡ 73 → r ≡ sizedLeaf 2 (c .count) (c .at + 1) l → r ≡ plainLeaf c l
+  unfolding plainLeaf
+  plainLeaf-I r e q = rw (← byte, e) q
+
+  pub plainLeaf-A : (r : code.Leaf) → b ≡ 65 → r ≡ sizedLeaf 1 (c .count) (c .at + 1) l → r ≡ plainLeaf c l
+  unfolding plainLeaf
+  plainLeaf-A r e q = rw (← byte, e) q
+
+  pub plainLeaf-P-bare : b ≡ 80 → c .bare ≡ true → noLeaf ≡ plainLeaf c l
+  unfolding plainLeaf
+  plainLeaf-P-bare e h = rw (← byte, e, h) refl
+
+  pub plainLeaf-P : (r : code.Leaf) → b ≡ 80 → c .bare ≡ false → c .count ≡ 1 → r ≡ scaledLeaf (c .at + 1) l → r ≡ plainLeaf c l
+  unfolding plainLeaf
+  plainLeaf-P r e h n q = rw (← byte, e, h, n) q
+
+  pub plainLeaf-P-other : b ≡ 80 → c .bare ≡ false → (c .count ≡ 1 → ⊥) → noLeaf ≡ plainLeaf c l
+  unfolding plainLeaf
+  plainLeaf-P-other e h n = rw (← byte, e, h, ne-eqb (c .count) 1 n) refl
+
+  pub plainLeaf-real : (r : code.Leaf) → (b ≡ 88 → ⊥) → (b ≡ 73 → ⊥) → (b ≡ 65 → ⊥) → (b ≡ 80 → ⊥) → r ≡ realLeaf (c .count) (c .at) l → r ≡ plainLeaf c l
+  unfolding plainLeaf
+  plainLeaf-real r x i a p q = rw (← byte, ne-eqb b 88 x, ne-eqb b 73 i, ne-eqb b 65 a, ne-eqb b 80 p) q
+
+-- The code's items are the reading's.
+
+value-low : (v : ℕ) → ltb (capped v) 1 ≡ ltb v 1
+value-low v = go (ltb v 1) refl
+  where
+    go : (t : Bool) → ltb v 1 ≡ t → ltb (capped v) 1 ≡ t
+    go true e = lt-ltb (capped v) 1 (omega (arith, ltb-true v 1 e))
+    go false e = le-ltb (capped v) 1 (omega (arith, ltb-false v 1 e))
+
+leafIn-width : (c : Count) (k : Kind) (at : ℕ) (l : List ℕ) → leafIn (widthOf c k at l) ≡ sizedLeaf (kindNumber k) (capped (number c)) at l
+unfolding widthOf sizedLeaf figureAt
+leafIn-width c k at l = go (numberOf (drop at l) .value) refl
+  where
+    x : Number
+    x = numberOf (drop at l)
+    go : (v : ℕ) → x .value ≡ v → leafIn (pick (leb 1 (x .value) && leb (x .value) 80) (some c k (x .value) (at + x .used)) none)
+        ≡ pick (ltb (capped (x .value)) 1) noLeaf (pick (ltb 80 (capped (x .value))) noLeaf (aLeaf (kindNumber k) (capped (number c)) (capped (x .value)) (at + x .used)))
+    go v e = by-low (leb 1 (x .value)) refl
+      where
+        by-high : (t : Bool) → leb (x .value) 80 ≡ t → leb 1 (x .value) ≡ true → leafIn (pick t (some c k (x .value) (at + x .used)) none)
+            ≡ pick (ltb (capped (x .value)) 1) noLeaf (pick (ltb 80 (capped (x .value))) noLeaf (aLeaf (kindNumber k) (capped (number c)) (capped (x .value)) (at + x .used)))
+        by-high true h low =
+            let most = leb-true (x .value) 80 h in
+            let least = leb-true 1 (x .value) low in
+            let same : capped (x .value) ≡ x .value = omega (arith, most) in
+            rw (same, le-ltb (x .value) 1 least, le-ltb 80 (x .value) most) refl
+        by-high false h low =
+            let over = leb-false (x .value) 80 h in
+            let least = leb-true 1 (x .value) low in
+            rw (le-ltb (capped (x .value)) 1 (omega (arith, least)), lt-ltb 80 (capped (x .value)) (omega (arith, over))) refl
+        by-low : (t : Bool) → leb 1 (x .value) ≡ t → leafIn (pick (t && leb (x .value) 80) (some c k (x .value) (at + x .used)) none)
+            ≡ pick (ltb (capped (x .value)) 1) noLeaf (pick (ltb 80 (capped (x .value))) noLeaf (aLeaf (kindNumber k) (capped (number c)) (capped (x .value)) (at + x .used)))
+        by-low true h = by-high (leb (x .value) 80) refl h
+        by-low false h = rw (lt-ltb (capped (x .value)) 1 (omega (arith, leb-false 1 (x .value) h))) refl

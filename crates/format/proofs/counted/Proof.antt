@@ -1,3 +1,7 @@
+use Rattle.format.specs.Format.{number}
+use Rattle.format.specs.MeasuredLaws.{tally-bare, tally-none, tally-some}
+use Rattle.format.specs.LeafLaws.{byte-at}
+use mathlib.Core.Path.{sym, _∙_}
 use native.Mathlib.Omega.{arith}
 use borrow.Author.Needs.{needs}
 use Rattle.format.proofs.counted.Statement.{statement}
@@ -22,15 +26,19 @@ number-requires c κs = search needs
 
 -- src/lib.rt:138:13
 returns : tie.Need-returns
-returns c = ?
+returns c =
+    let at-digit = c .before .before .before .before in
+    tally-none _ _ _ (at-digit .before .byte-at .ensures) _ (sym (at-digit .is-digit .ensures) ∙ c .before .before .before .if1 .taken) (c .before .before .number .ensures) (c .if2 .taken)
 
 -- src/lib.rt:145:9
 returns-2 : tie.Need-returns-2
-returns-2 c = ?
+returns-2 c =
+    let at-digit = c .before .before .before .before in
+    tally-some _ _ _ (at-digit .before .byte-at .ensures) _ (sym (at-digit .is-digit .ensures) ∙ c .before .before .before .if1 .taken) (c .before .before .number .ensures) (c .if2 .left)
 
 -- src/lib.rt:132:1
 returns-3 : tie.Need-returns-3
-returns-3 c = ?
+returns-3 c = tally-bare _ _ _ (c .before .before .byte-at .ensures) (sym (c .before .is-digit .ensures) ∙ c .if1 .left)
 
 pub counted-spec : {M : Type 1} → statement M
 counted-spec =

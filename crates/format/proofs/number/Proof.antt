@@ -1,3 +1,7 @@
+use Rattle.format.specs.MeasuredLaws.{figure-none, figure-some, figure-zero}
+use Rattle.format.specs.LeafLaws.{byte-at}
+use Rattle.format.specs.NumberLaws.{digitsBefore-most}
+use lib.ListN.{drop, length-drop}
 use native.Mathlib.Omega.{arith}
 use borrow.Author.Needs.{needs}
 use Rattle.format.proofs.number.Statement.{statement}
@@ -14,7 +18,7 @@ digits-past-requires c κs = search needs
 
 -- src/lib.rt:120:9
 returns : tie.Need-returns
-returns c = ?
+returns c = figure-none _ _ _ (c .before .digits-past .ensures) (c .if1 .taken)
 
 -- src/lib.rt:122:9
 byte-at-requires : tie.Need-byte-at-requires
@@ -26,7 +30,9 @@ sub-if2 c = search needs
 
 -- src/lib.rt:123:9
 returns-2 : tie.Need-returns-2
-returns-2 c = ?
+returns-2 c =
+    let at-past = c .before .before .before in
+    figure-zero _ _ _ (at-past .digits-past .ensures) _ (c .before .before .if1 .left) (c .before .byte-at .ensures) (c .if2 .taken)
 
 -- src/lib.rt:126:22
 sub-value : tie.Need-sub-value
@@ -38,7 +44,10 @@ part-value-start c = search needs
 
 -- src/lib.rt:126:22
 part-value-end : tie.Need-part-value-end
-part-value-end c = ?
+part-value-end c =
+    let at-past = c .before .before .before in
+    let at-start = at-past .before .before in
+    omega (arith, at-past .digits-past .ensures, digitsBefore-most (drop (at-start .args .at) (at-start .args .s .now)), length-drop (at-start .args .at) (at-start .args .s .now), c .before .before .if1 .left)
 
 -- src/lib.rt:126:16
 value-requires : tie.Need-value-requires
@@ -46,7 +55,10 @@ value-requires c κs = search needs
 
 -- src/lib.rt:115:1
 returns-3 : tie.Need-returns-3
-returns-3 c = ?
+returns-3 c =
+    let at-byte = c .before .before .before in
+    let at-past = at-byte .before .before in
+    figure-some _ _ _ (at-past .digits-past .ensures) _ _ (at-byte .before .if1 .left) (at-byte .byte-at .ensures) (c .before .before .if2 .left) (c .value .ensures)
 
 pub number-spec : {M : Type 1} → statement M
 number-spec =

@@ -1,3 +1,7 @@
+use Rattle.format.specs.MeasuredLaws.{scaledLeaf-none, scaledLeaf-some}
+use borrow.Author.Tests.{not-true, not-false}
+use Rattle.format.specs.Measured.{scaledBy}
+use mathlib.Core.Path.{sym, ap, _∙_}
 use native.Mathlib.Omega.{arith}
 use borrow.Author.Needs.{needs}
 use Rattle.format.proofs.scaled.Statement.{statement}
@@ -13,7 +17,7 @@ counted-requires c κs = search needs
 
 -- src/lib.rt:238:9
 returns : tie.Need-returns
-returns c = ?
+returns c = scaledLeaf-none _ _ _ (c .before .before .counted .ensures) (not-true _ (c .if1 .taken))
 
 -- src/lib.rt:240:5
 real-requires : tie.Need-real-requires
@@ -21,7 +25,7 @@ real-requires c κs = search needs
 
 -- src/lib.rt:233:1
 returns-2 : tie.Need-returns-2
-returns-2 c = ?
+returns-2 c = scaledLeaf-some _ _ _ _ (c .before .before .before .counted .ensures) (not-false _ (c .before .if1 .left)) (c .real .ensures)
 
 pub scaled-spec : {M : Type 1} → statement M
 scaled-spec = tie.close (tie.spec counted-requires returns real-requires returns-2)
