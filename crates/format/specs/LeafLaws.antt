@@ -270,3 +270,10 @@ pub one-spelled : {v : ℕ} {ns : List ℕ} → v ≡ 1 → Numeral v ns → ns 
 one-spelled e nought = absurd (omega arith)
 one-spelled e (from {b} low (more l h no-digit)) = let is : b ≡ 49 = omega arith in ap (λ (x : ℕ). x ∷ []) is
 one-spelled e (from {b} low (more l h (more l' h' r))) = absurd (omega (arith, digits-least r))
+
+-- a width that is read is at most 80
+pub width-most : (d c : Count) (j k : Kind) (w n at : ℕ) (l : List ℕ) → widthOf d j at l ≡ some c k w n → w ≤ 80
+width-most d c j k w n at l e = most (width-sound d c j k w n at l e .wide)
+  where
+    most : {v : ℕ} {ws : List ℕ} → Width v ws → v ≤ 80
+    most (width low high m) = high

@@ -14,6 +14,7 @@ use Rattle.laws.specs.Run.{run}
 use Rattle.text.specs.Parts.{isDigit}
 use Rattle.format.specs.Format.{Kind, skip, text, integer, real, Count, once, times, number, Format, plain, group, join, depth, groups, columns}
 use Rattle.format.specs.Reading.{digitsBefore, Number, numberIn, numberOf, countOf, Counting, Leaf, Parsed, none, some, withDigit, widthOf, decimalsOf, pointed, realOf, scaledOf, isOne, leafOf, leaf, closed, joined, itemOf, listOf}
+use Rattle.format.specs.LeafLaws.{width-most}
 use Rattle.format.specs.Laid.{kindNumber}
 use Rattle.format.specs.Measured.{capped, deeper, highest, keptDigit, figureOf, figureAt, isBare, aTally, tallyAt, leafIn, noLeaf, aLeaf, figure, sizedLeaf, decimalsBy, decimalsLeaf, realLeaf, scaledBy, scaledLeaf, plainLeaf, unmeasured, aMeasure, measured, measuredLeaf, groupDepth, closedMeasure, joinedMeasure}
 use Rattle.format.specs.declared.Figure.{Figure}
@@ -223,35 +224,156 @@ module _ (c : Tally) (l : List ℕ) (b : ℕ) (byte : b ≡ getD l (c .at) 0) wh
 
 -- The code's items are the reading's.
 
-value-low : (v : ℕ) → ltb (capped v) 1 ≡ ltb v 1
-value-low v = go (ltb v 1) refl
-  where
-    go : (t : Bool) → ltb v 1 ≡ t → ltb (capped v) 1 ≡ t
-    go true e = lt-ltb (capped v) 1 (omega (arith, ltb-true v 1 e))
-    go false e = le-ltb (capped v) 1 (omega (arith, ltb-false v 1 e))
+-- a width, by its number and where it ends
+sized-as : (c : Count) (k : Kind) (v at : ℕ) (s t : Bool) → leb 1 v ≡ s → leb v 80 ≡ t
+    → leafIn (pick (s && t) (some c k v at) none) ≡ pick (ltb (capped v) 1) noLeaf (pick (ltb 80 (capped v)) noLeaf (aLeaf (kindNumber k) (capped (number c)) (capped v) at))
+sized-as c k v at false t p q = rw (lt-ltb (capped v) 1 (omega (arith, leb-false 1 v p))) refl
+sized-as c k v at true false p q = rw (le-ltb (capped v) 1 (omega (arith, leb-true 1 v p)), lt-ltb 80 (capped v) (omega (arith, leb-false v 80 q))) refl
+sized-as c k v at true true p q =
+    let same : capped v ≡ v = omega (arith, leb-true v 80 q) in
+    rw (same, le-ltb v 1 (leb-true 1 v p), le-ltb 80 v (leb-true v 80 q)) refl
 
 leafIn-width : (c : Count) (k : Kind) (at : ℕ) (l : List ℕ) → leafIn (widthOf c k at l) ≡ sizedLeaf (kindNumber k) (capped (number c)) at l
 unfolding widthOf sizedLeaf figureAt
-leafIn-width c k at l = go (numberOf (drop at l) .value) refl
+leafIn-width c k at l = sized-as c k (numberOf (drop at l) .value) (at + numberOf (drop at l) .used) (leb 1 (numberOf (drop at l) .value)) (leb (numberOf (drop at l) .value) 80) refl refl
+
+-- decimals, by their number and how many bytes it takes
+decimals-as : (c : Count) (k w v used from at : ℕ) → w ≤ 80 → (s t : Bool) → ltb 0 used ≡ s → leb v w ≡ t
+    → leafIn (pick (s && t) (some c real w (from + used)) none) ≡ decimalsBy (aLeaf k (capped (number c)) w at) from (figureOf (capped v) (from + used))
+unfolding decimalsBy
+decimals-as c k w v used from at h false t p q = rw (le-leb (from + used) from (omega (arith, ltb-false 0 used p))) refl
+decimals-as c k w v used from at h true false p q =
+    rw (lt-leb (from + used) from (omega (arith, ltb-true 0 used p)), lt-ltb w (capped v) (omega (arith, leb-false v w q))) refl
+decimals-as c k w v used from at h true true p q =
+    rw (lt-leb (from + used) from (omega (arith, ltb-true 0 used p)), le-ltb w (capped v) (omega (arith, leb-true v w q))) refl
+
+leafIn-pick : (b : Bool) (x y : Leaf) → leafIn (pick b x y) ≡ pick b (leafIn x) (leafIn y)
+leafIn-pick true x y = refl
+leafIn-pick false x y = refl
+
+leafIn-pointed : (x : Leaf) (l : List ℕ) → ((c : Count) (k : Kind) (w n : ℕ) → x ≡ some c k w n → w ≤ 80) → leafIn (pointed x l) ≡ decimalsLeaf (leafIn x) l
+unfolding pointed decimalsLeaf decimalsOf figureAt
+leafIn-pointed none l h = refl
+leafIn-pointed (some c k w at) l h =
+    let x = numberOf (drop (at + 1) l) in
+    let same = decimals-as c (kindNumber k) w (x .value) (x .used) (at + 1) at (h c k w at refl) (ltb 0 (x .used)) (leb (x .value) w) refl refl in
+    leafIn-pick (eqb (getD l at 0) 46) (decimalsOf c w (at + 1) l) none ∙ ap (λ (y : code.Leaf). pick (eqb (getD l at 0) 46) y noLeaf) same
+
+leafIn-real : (c : Count) (at : ℕ) (l : List ℕ) → leafIn (realOf c at l) ≡ realLeaf (capped (number c)) at l
+unfolding realOf realLeaf
+leafIn-real c at l =
+    let letter = eqb (getD l at 0) 69 || eqb (getD l at 0) 68 in
+    let same = leafIn-pointed (widthOf c real (at + 1) l) l (λ d k w n e. width-most c d real k w n (at + 1) l e) ∙ ap (λ (y : code.Leaf). decimalsLeaf y l) (leafIn-width c real (at + 1) l) in
+    leafIn-pick letter (pointed (widthOf c real (at + 1) l) l) none ∙ ap (λ (y : code.Leaf). pick letter y noLeaf) same
+
+leafIn-scaled : (x : Counting) (at : ℕ) (l : List ℕ) → leafIn (scaledOf x at l) ≡ scaledBy (tallyAt at x) l
+unfolding scaledOf scaledBy tallyAt
+leafIn-scaled none at l = refl
+leafIn-scaled (some c k) at l = leafIn-real c (at + k) l
+
+one-capped : (n : ℕ) (t : Bool) → eqb n 1 ≡ t → eqb (capped n) 1 ≡ t
+one-capped n true e = eq-eqb (capped n) 1 (omega (arith, eqb-true n 1 e))
+one-capped n false e = ne-eqb (capped n) 1 (λ q. eqb-false n 1 e (omega (arith, q)))
+
+-- what follows P
+leafIn-one : (c : Count) (x : Leaf) (y : code.Leaf) → leafIn x ≡ y → leafIn (pick (isOne c) x none) ≡ pick (isBare c) noLeaf (pick (eqb (capped (number c)) 1) y noLeaf)
+unfolding isOne
+leafIn-one once x y e = refl
+leafIn-one (times n) x y e = rw (one-capped n (eqb n 1) refl) (leafIn-pick (eqb n 1) x none ∙ ap (λ (z : code.Leaf). pick (eqb n 1) z noLeaf) e)
+
+-- a count that is found, as the code keeps it
+abbrev pub found : Count → ℕ → Tally
+found c at = aTally true (isBare c) (capped (number c)) at
+
+leafIn-leaf : (c : Count) (at : ℕ) (l : List ℕ) → leafIn (leafOf c at l) ≡ plainLeaf (found c at) l
+unfolding leafOf plainLeaf
+leafIn-leaf c at l =
+    let b = getD l at 0 in
+    let after-P = leafIn-one c (scaledOf (countOf (drop (at + 1) l)) (at + 1) l) (scaledLeaf (at + 1) l) (leafIn-scaled (countOf (drop (at + 1) l)) (at + 1) l) in
+    let n = capped (number c) in
+    let if-P = leafIn-pick (eqb b 80) (pick (isOne c) (scaledOf (countOf (drop (at + 1) l)) (at + 1) l) none) (realOf c at l)
+        ∙ ap (λ (y : code.Leaf). pick (eqb b 80) y (leafIn (realOf c at l))) after-P
+        ∙ ap (λ (y : code.Leaf). pick (eqb b 80) (pick (isBare c) noLeaf (pick (eqb n 1) (scaledLeaf (at + 1) l) noLeaf)) y) (leafIn-real c at l) in
+    let if-A = leafIn-pick (eqb b 65) (widthOf c text (at + 1) l) _ ∙ ap (λ (y : code.Leaf). pick (eqb b 65) y _) (leafIn-width c text (at + 1) l) ∙ ap (λ (y : code.Leaf). pick (eqb b 65) (sizedLeaf 1 n (at + 1) l) y) if-P in
+    let if-I = leafIn-pick (eqb b 73) (widthOf c integer (at + 1) l) _ ∙ ap (λ (y : code.Leaf). pick (eqb b 73) y _) (leafIn-width c integer (at + 1) l) ∙ ap (λ (y : code.Leaf). pick (eqb b 73) (sizedLeaf 2 n (at + 1) l) y) if-A in
+    leafIn-pick (eqb b 88) (some c skip 1 (at + 1)) _ ∙ ap (λ (y : code.Leaf). pick (eqb b 88) (aLeaf 0 n 1 (at + 1)) y) if-I
+
+-- The code's measures are the reading's.
+
+capped-left : (a w : ℕ) → capped (capped a * w) ≡ capped (a * w)
+capped-left a zero = omega arith
+capped-left a (suc w) = go (ltb a 81) refl
   where
-    x : Number
-    x = numberOf (drop at l)
-    go : (v : ℕ) → x .value ≡ v → leafIn (pick (leb 1 (x .value) && leb (x .value) 80) (some c k (x .value) (at + x .used)) none)
-        ≡ pick (ltb (capped (x .value)) 1) noLeaf (pick (ltb 80 (capped (x .value))) noLeaf (aLeaf (kindNumber k) (capped (number c)) (capped (x .value)) (at + x .used)))
-    go v e = by-low (leb 1 (x .value)) refl
-      where
-        by-high : (t : Bool) → leb (x .value) 80 ≡ t → leb 1 (x .value) ≡ true → leafIn (pick t (some c k (x .value) (at + x .used)) none)
-            ≡ pick (ltb (capped (x .value)) 1) noLeaf (pick (ltb 80 (capped (x .value))) noLeaf (aLeaf (kindNumber k) (capped (number c)) (capped (x .value)) (at + x .used)))
-        by-high true h low =
-            let most = leb-true (x .value) 80 h in
-            let least = leb-true 1 (x .value) low in
-            let same : capped (x .value) ≡ x .value = omega (arith, most) in
-            rw (same, le-ltb (x .value) 1 least, le-ltb 80 (x .value) most) refl
-        by-high false h low =
-            let over = leb-false (x .value) 80 h in
-            let least = leb-true 1 (x .value) low in
-            rw (le-ltb (capped (x .value)) 1 (omega (arith, least)), lt-ltb 80 (capped (x .value)) (omega (arith, over))) refl
-        by-low : (t : Bool) → leb 1 (x .value) ≡ t → leafIn (pick (t && leb (x .value) 80) (some c k (x .value) (at + x .used)) none)
-            ≡ pick (ltb (capped (x .value)) 1) noLeaf (pick (ltb 80 (capped (x .value))) noLeaf (aLeaf (kindNumber k) (capped (number c)) (capped (x .value)) (at + x .used)))
-        by-low true h = by-high (leb (x .value) 80) refl h
-        by-low false h = rw (lt-ltb (capped (x .value)) 1 (omega (arith, leb-false 1 (x .value) h))) refl
+    go : (t : Bool) → ltb a 81 ≡ t → capped (capped a * suc w) ≡ capped (a * suc w)
+    go true e = let same : capped a ≡ a = omega (arith, ltb-true a 81 e) in rw same refl
+    go false e =
+        let least = ltb-false a 81 e in
+        let same : capped a ≡ 81 = omega arith in
+        let over : 81 * suc w ≤ a * suc w = mul-le-mul least (omega arith) in
+        rw same (omega arith)
+
+capped-product : (a b : ℕ) → capped (capped a * capped b) ≡ capped (a * b)
+capped-product a b =
+    let turn : a * capped b ≡ capped b * a = omega arith in
+    let turned : b * a ≡ a * b = omega arith in
+    capped-left a (capped b) ∙ ap capped turn ∙ capped-left b a ∙ ap capped turned
+
+measured-leaf : (x : Leaf) → measured (leaf x) ≡ measuredLeaf (leafIn x)
+unfolding measured leaf measuredLeaf depth groups columns
+measured-leaf none = refl
+measured-leaf (some c k w at) = ap (aMeasure at 0 0) (sym (capped-left (number c) w))
+
+deeper-least : (d : ℕ) → min (suc d) 4 ≡ deeper (min d 4)
+unfolding deeper
+deeper-least d = go (ltb (min d 4) 4) refl
+  where
+    go : (t : Bool) → ltb (min d 4) 4 ≡ t → min (suc d) 4 ≡ pick t (min d 4 + 1) 4
+    go true e = omega (arith, ltb-true (min d 4) 4 e)
+    go false e = omega (arith, ltb-false (min d 4) 4 e)
+
+highest-least : (a b : ℕ) → min (max a b) 4 ≡ highest (min a 4) (min b 4)
+unfolding highest
+highest-least a b = go (ltb (min a 4) (min b 4)) refl
+  where
+    go : (t : Bool) → ltb (min a 4) (min b 4) ≡ t → min (max a b) 4 ≡ pick t (min b 4) (min a 4)
+    go true e = omega (arith, ltb-true (min a 4) (min b 4) e)
+    go false e = omega (arith, ltb-false (min a 4) (min b 4) e)
+
+group-least : (c : Count) (t : Format) → min (groups (group c t)) 4 ≡ groupDepth (isBare c) (min (depth t) 4)
+unfolding groups groupDepth
+group-least once t = refl
+group-least (times n) t = deeper-least (depth t)
+
+depth-group : (c : Count) (t : Format) → min (depth (group c t)) 4 ≡ deeper (min (depth t) 4)
+unfolding depth
+depth-group c t = deeper-least (depth t)
+
+columns-group : (c : Count) (t : Format) → capped (columns (group c t)) ≡ capped (capped (number c) * capped (columns t))
+unfolding columns
+columns-group c t = sym (capped-product (number c) (columns t))
+
+group-measured : (c : Count) (t : Format) (at : ℕ) → measured (some (group c t) at)
+    ≡ aMeasure at (deeper (min (depth t) 4)) (groupDepth (isBare c) (min (depth t) 4)) (capped (capped (number c) * capped (columns t)))
+unfolding measured
+group-measured c t at = rw (depth-group c t, group-least c t, columns-group c t) refl
+
+join-measured : (t u : Format) (at : ℕ) → measured (some (join t u) at)
+    ≡ aMeasure at (highest (min (depth t) 4) (min (depth u) 4)) (highest (min (depth t) 4) (min (depth u) 4)) (capped (capped (columns t) + capped (columns u)))
+unfolding measured depth groups columns
+join-measured t u at =
+    let sum : capped (columns t + columns u) ≡ capped (capped (columns t) + capped (columns u)) = omega arith in
+    rw (highest-least (depth t) (depth u), sum) refl
+
+measured-pick : (b : Bool) (x y : Parsed) → measured (pick b x y) ≡ pick b (measured x) (measured y)
+measured-pick true x y = refl
+measured-pick false x y = refl
+
+measured-closed : (c : Count) (k : ℕ) (l : List ℕ) (p : Parsed) → measured (closed c l p) ≡ closedMeasure (found c k) l (measured p)
+unfolding closed closedMeasure measured
+measured-closed c k l none = refl
+measured-closed c k l (some t at) = measured-pick (eqb (getD l at 0) 41) (some (group c t) (at + 1)) none ∙ ap (λ (m : Measure). pick (eqb (getD l at 0) 41) m unmeasured) (group-measured c t (at + 1))
+
+measured-joined : (t : Format) (k : ℕ) (p : Parsed) → measured (joined t p) ≡ joinedMeasure (measured (some t k)) (measured p)
+unfolding joined joinedMeasure measured
+measured-joined t k none = refl
+measured-joined t k (some u at) = join-measured t u at
