@@ -8,5 +8,6 @@ pub mod ReadingLaws
 pub mod Laid
 pub mod Measured
 pub mod MeasuredLaws
+pub mod StepLaws
 pub mod Computed
 pub mod Examples

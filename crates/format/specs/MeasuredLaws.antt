@@ -251,6 +251,10 @@ leafIn-pick : (b : Bool) (x y : Leaf) → leafIn (pick b x y) ≡ pick b (leafIn
 leafIn-pick true x y = refl
 leafIn-pick false x y = refl
 
+leafIn-choice : (b : Bool) (x y : Leaf) (p q : code.Leaf) → leafIn x ≡ p → leafIn y ≡ q → leafIn (pick b x y) ≡ pick b p q
+leafIn-choice true x y p q e f = e
+leafIn-choice false x y p q e f = f
+
 leafIn-pointed : (x : Leaf) (l : List ℕ) → ((c : Count) (k : Kind) (w n : ℕ) → x ≡ some c k w n → w ≤ 80) → leafIn (pointed x l) ≡ decimalsLeaf (leafIn x) l
 unfolding pointed decimalsLeaf decimalsOf figureAt
 leafIn-pointed none l h = refl
@@ -285,18 +289,23 @@ leafIn-one (times n) x y e = rw (one-capped n (eqb n 1) refl) (leafIn-pick (eqb 
 abbrev pub found : Count → ℕ → Tally
 found c at = aTally true (isBare c) (capped (number c)) at
 
-leafIn-leaf : (c : Count) (at : ℕ) (l : List ℕ) → leafIn (leafOf c at l) ≡ plainLeaf (found c at) l
+pub leafIn-leaf : (c : Count) (at : ℕ) (l : List ℕ) → leafIn (leafOf c at l) ≡ plainLeaf (found c at) l
 unfolding leafOf plainLeaf
 leafIn-leaf c at l =
-    let b = getD l at 0 in
-    let after-P = leafIn-one c (scaledOf (countOf (drop (at + 1) l)) (at + 1) l) (scaledLeaf (at + 1) l) (leafIn-scaled (countOf (drop (at + 1) l)) (at + 1) l) in
     let n = capped (number c) in
-    let if-P = leafIn-pick (eqb b 80) (pick (isOne c) (scaledOf (countOf (drop (at + 1) l)) (at + 1) l) none) (realOf c at l)
-        ∙ ap (λ (y : code.Leaf). pick (eqb b 80) y (leafIn (realOf c at l))) after-P
-        ∙ ap (λ (y : code.Leaf). pick (eqb b 80) (pick (isBare c) noLeaf (pick (eqb n 1) (scaledLeaf (at + 1) l) noLeaf)) y) (leafIn-real c at l) in
-    let if-A = leafIn-pick (eqb b 65) (widthOf c text (at + 1) l) _ ∙ ap (λ (y : code.Leaf). pick (eqb b 65) y _) (leafIn-width c text (at + 1) l) ∙ ap (λ (y : code.Leaf). pick (eqb b 65) (sizedLeaf 1 n (at + 1) l) y) if-P in
-    let if-I = leafIn-pick (eqb b 73) (widthOf c integer (at + 1) l) _ ∙ ap (λ (y : code.Leaf). pick (eqb b 73) y _) (leafIn-width c integer (at + 1) l) ∙ ap (λ (y : code.Leaf). pick (eqb b 73) (sizedLeaf 2 n (at + 1) l) y) if-A in
-    leafIn-pick (eqb b 88) (some c skip 1 (at + 1)) _ ∙ ap (λ (y : code.Leaf). pick (eqb b 88) (aLeaf 0 n 1 (at + 1)) y) if-I
+    let b = getD l at 0 in
+    let scaled = scaledOf (countOf (drop (at + 1) l)) (at + 1) l in
+    let P : Leaf = pick (eqb b 80) (pick (isOne c) scaled none) (realOf c at l) in
+    let P' : code.Leaf = pick (eqb b 80) (pick (isBare c) noLeaf (pick (eqb n 1) (scaledLeaf (at + 1) l) noLeaf)) (realLeaf n at l) in
+    let A : Leaf = pick (eqb b 65) (widthOf c text (at + 1) l) P in
+    let A' : code.Leaf = pick (eqb b 65) (sizedLeaf 1 n (at + 1) l) P' in
+    let I : Leaf = pick (eqb b 73) (widthOf c integer (at + 1) l) A in
+    let I' : code.Leaf = pick (eqb b 73) (sizedLeaf 2 n (at + 1) l) A' in
+    let after-P = leafIn-one c scaled (scaledLeaf (at + 1) l) (leafIn-scaled (countOf (drop (at + 1) l)) (at + 1) l) in
+    let p : leafIn P ≡ P' = leafIn-choice (eqb b 80) (pick (isOne c) scaled none) (realOf c at l) (pick (isBare c) noLeaf (pick (eqb n 1) (scaledLeaf (at + 1) l) noLeaf)) (realLeaf n at l) after-P (leafIn-real c at l) in
+    let a : leafIn A ≡ A' = leafIn-choice (eqb b 65) (widthOf c text (at + 1) l) P (sizedLeaf 1 n (at + 1) l) P' (leafIn-width c text (at + 1) l) p in
+    let i : leafIn I ≡ I' = leafIn-choice (eqb b 73) (widthOf c integer (at + 1) l) A (sizedLeaf 2 n (at + 1) l) A' (leafIn-width c integer (at + 1) l) a in
+    leafIn-choice (eqb b 88) (some c skip 1 (at + 1)) I (aLeaf 0 n 1 (at + 1)) I' refl i
 
 -- The code's measures are the reading's.
 
@@ -318,7 +327,7 @@ capped-product a b =
     let turned : b * a ≡ a * b = omega arith in
     capped-left a (capped b) ∙ ap capped turn ∙ capped-left b a ∙ ap capped turned
 
-measured-leaf : (x : Leaf) → measured (leaf x) ≡ measuredLeaf (leafIn x)
+pub measured-leaf : (x : Leaf) → measured (leaf x) ≡ measuredLeaf (leafIn x)
 unfolding measured leaf measuredLeaf depth groups columns
 measured-leaf none = refl
 measured-leaf (some c k w at) = ap (aMeasure at 0 0) (sym (capped-left (number c) w))
@@ -368,12 +377,12 @@ measured-pick : (b : Bool) (x y : Parsed) → measured (pick b x y) ≡ pick b (
 measured-pick true x y = refl
 measured-pick false x y = refl
 
-measured-closed : (c : Count) (k : ℕ) (l : List ℕ) (p : Parsed) → measured (closed c l p) ≡ closedMeasure (found c k) l (measured p)
+pub measured-closed : (c : Count) (k : ℕ) (l : List ℕ) (p : Parsed) → measured (closed c l p) ≡ closedMeasure (found c k) l (measured p)
 unfolding closed closedMeasure measured
 measured-closed c k l none = refl
 measured-closed c k l (some t at) = measured-pick (eqb (getD l at 0) 41) (some (group c t) (at + 1)) none ∙ ap (λ (m : Measure). pick (eqb (getD l at 0) 41) m unmeasured) (group-measured c t (at + 1))
 
-measured-joined : (t : Format) (k : ℕ) (p : Parsed) → measured (joined t p) ≡ joinedMeasure (measured (some t k)) (measured p)
+pub measured-joined : (t : Format) (k : ℕ) (p : Parsed) → measured (joined t p) ≡ joinedMeasure (measured (some t k)) (measured p)
 unfolding joined joinedMeasure measured
 measured-joined t k none = refl
 measured-joined t k (some u at) = join-measured t u at

@@ -1,3 +1,7 @@
+use borrow.Author.Tests.{not-true, not-false}
+use mathlib.Core.Path.{_≡_, sym, _∙_}
+use Rattle.format.specs.MeasuredLaws.{in-text}
+use Rattle.format.specs.StepLaws.{item-zero, item-uncounted, item-grouped, item-plain, list-zero, list-empty, list-comma, list-one}
 use borrow.Author.Needs.{needs}
 use native.Mathlib.Omega.{arith}
 use Prim.Native.Nat.{ℕ, _<_}
@@ -19,10 +23,10 @@ use Rattle.format.proofs.+item+list.{statement}
 use Rattle.format.proofs.+item+list.Tie.{close}
 
 abbrev μ-item : Measures 1 item-kinds.ps ℕ
-μ-item κs a = ?
+μ-item κs a = a .1 .1 .0
 
 abbrev μ-list : Measures 1 list-kinds.ps ℕ
-μ-list κs a = ?
+μ-list κs a = a .1 .1 .0
 
 abbrev item-at : ℕ → In 1 item-kinds.ps
 item-at t = and 1 item-kinds.ps (is 1 item-kinds.ps μ-item t) item.Pre
@@ -51,7 +55,7 @@ item-returns : (t : ℕ) → item-lts.Need-returns (
   measure-plain-reads.Asked,
   measure-plain-reads.Learnt,
 ) (item-at t) item.Post
-item-returns t c = ?
+item-returns t c = item-zero _ _ _ (c .if1 .taken)
 
 -- src/lib.rt:380:9
 item-counted-requires : (t : ℕ) → item-lts.Need-counted-requires (
@@ -68,7 +72,7 @@ item-counted-requires : (t : ℕ) → item-lts.Need-counted-requires (
   measure-plain-reads.Asked,
   measure-plain-reads.Learnt,
 ) (item-at t) item.Post
-item-counted-requires t c κs = ?
+item-counted-requires t c κs = search needs
 
 -- src/lib.rt:382:9
 item-returns-2 : (t : ℕ) → item-lts.Need-returns-2 (
@@ -85,7 +89,7 @@ item-returns-2 : (t : ℕ) → item-lts.Need-returns-2 (
   measure-plain-reads.Asked,
   measure-plain-reads.Learnt,
 ) (item-at t) item.Post
-item-returns-2 t c = ?
+item-returns-2 t c = item-uncounted _ _ _ _ (c .before .before .before .if1 .left) (c .before .before .counted .ensures) (not-true _ (c .if2 .taken))
 
 -- src/lib.rt:384:8
 item-byte-at-requires : (t : ℕ) → item-lts.Need-byte-at-requires (
@@ -102,7 +106,7 @@ item-byte-at-requires : (t : ℕ) → item-lts.Need-byte-at-requires (
   measure-plain-reads.Asked,
   measure-plain-reads.Learnt,
 ) (item-at t) item.Post
-item-byte-at-requires t c κs = ?
+item-byte-at-requires t c κs = search needs
 
 -- src/lib.rt:385:44
 item-add-list : (t : ℕ) → item-lts.Need-add-list (
@@ -119,7 +123,10 @@ item-add-list : (t : ℕ) → item-lts.Need-add-list (
   measure-plain-reads.Asked,
   measure-plain-reads.Learnt,
 ) (item-at t) item.Post
-item-add-list t c = ?
+item-add-list t c =
+    let at-counted = c .before .before .before .before .before in
+    let at-start = at-counted .before .before .before in
+    omega (arith, in-text (at-start .args .s .now) (at-counted .counted .result .at) 39 (sym (c .before .before .byte-at .ensures) ∙ c .before .if3 .taken))
 
 -- src/lib.rt:385:54
 item-sub-list : (t : ℕ) → item-lts.Need-sub-list (
@@ -136,7 +143,7 @@ item-sub-list : (t : ℕ) → item-lts.Need-sub-list (
   measure-plain-reads.Asked,
   measure-plain-reads.Learnt,
 ) (item-at t) item.Post
-item-sub-list t c = ?
+item-sub-list t c = search needs
 
 -- src/lib.rt:385:36
 item-list-requires : (t : ℕ) → item-lts.Need-list-requires (
@@ -153,7 +160,7 @@ item-list-requires : (t : ℕ) → item-lts.Need-list-requires (
   measure-plain-reads.Asked,
   measure-plain-reads.Learnt,
 ) (item-at t) item.Post
-item-list-requires t c κs = ?
+item-list-requires t c κs = (omega arith, tt)
 
 -- src/lib.rt:385:9
 item-measure-group-requires : (t : ℕ) → item-lts.Need-measure-group-requires (
@@ -170,7 +177,7 @@ item-measure-group-requires : (t : ℕ) → item-lts.Need-measure-group-requires
   measure-plain-reads.Asked,
   measure-plain-reads.Learnt,
 ) (item-at t) item.Post
-item-measure-group-requires t c κs = ?
+item-measure-group-requires t c κs = search needs
 
 -- src/lib.rt:385:9
 item-returns-3 : (t : ℕ) → item-lts.Need-returns-3 (
@@ -187,7 +194,10 @@ item-returns-3 : (t : ℕ) → item-lts.Need-returns-3 (
   measure-plain-reads.Asked,
   measure-plain-reads.Learnt,
 ) (item-at t) item.Post
-item-returns-3 t c = ?
+item-returns-3 t c =
+    let at-byte = c .before .before .before .before in
+    let at-counted = at-byte .before .before .before in
+    item-grouped _ _ _ _ _ _ (at-counted .before .if1 .left) (at-counted .counted .ensures) (not-false _ (at-byte .before .if2 .left)) (sym (at-byte .byte-at .ensures) ∙ c .before .before .before .if3 .taken) (c .before .list .ensures) (c .measure-group .ensures)
 
 -- src/lib.rt:387:19
 item-plain-requires : (t : ℕ) → item-lts.Need-plain-requires (
@@ -204,7 +214,7 @@ item-plain-requires : (t : ℕ) → item-lts.Need-plain-requires (
   measure-plain-reads.Asked,
   measure-plain-reads.Learnt,
 ) (item-at t) item.Post
-item-plain-requires t c κs = ?
+item-plain-requires t c κs = search needs
 
 -- src/lib.rt:387:5
 item-measure-plain-requires : (t : ℕ) → item-lts.Need-measure-plain-requires (
@@ -221,7 +231,7 @@ item-measure-plain-requires : (t : ℕ) → item-lts.Need-measure-plain-requires
   measure-plain-reads.Asked,
   measure-plain-reads.Learnt,
 ) (item-at t) item.Post
-item-measure-plain-requires t c κs = ?
+item-measure-plain-requires t c κs = search needs
 
 -- src/lib.rt:374:1
 item-returns-4 : (t : ℕ) → item-lts.Need-returns-4 (
@@ -238,7 +248,10 @@ item-returns-4 : (t : ℕ) → item-lts.Need-returns-4 (
   measure-plain-reads.Asked,
   measure-plain-reads.Learnt,
 ) (item-at t) item.Post
-item-returns-4 t c = ?
+item-returns-4 t c =
+    let at-byte = c .before .before .before in
+    let at-counted = at-byte .before .before .before in
+    item-plain _ _ _ _ _ _ (at-counted .before .if1 .left) (at-counted .counted .ensures) (not-false _ (at-byte .before .if2 .left)) (λ e. c .before .before .if3 .left (at-byte .byte-at .ensures ∙ e)) (c .before .plain .ensures) (c .measure-plain .ensures)
 
 -- src/lib.rt:395:9
 list-returns : (t : ℕ) → list-lts.Need-returns (
@@ -251,7 +264,7 @@ list-returns : (t : ℕ) → list-lts.Need-returns (
   measure-more-reads.Asked,
   measure-more-reads.Learnt,
 ) (list-at t) list.Post
-list-returns t c = ?
+list-returns t c = list-zero _ _ _ (c .if1 .taken)
 
 -- src/lib.rt:397:25
 list-sub-item : (t : ℕ) → list-lts.Need-sub-item (
@@ -264,7 +277,7 @@ list-sub-item : (t : ℕ) → list-lts.Need-sub-item (
   measure-more-reads.Asked,
   measure-more-reads.Learnt,
 ) (list-at t) list.Post
-list-sub-item t c = ?
+list-sub-item t c = search needs
 
 -- src/lib.rt:397:9
 list-item-requires : (t : ℕ) → list-lts.Need-item-requires (
@@ -277,7 +290,7 @@ list-item-requires : (t : ℕ) → list-lts.Need-item-requires (
   measure-more-reads.Asked,
   measure-more-reads.Learnt,
 ) (list-at t) list.Post
-list-item-requires t c κs = ?
+list-item-requires t c κs = (omega arith, tt)
 
 -- src/lib.rt:399:9
 list-returns-2 : (t : ℕ) → list-lts.Need-returns-2 (
@@ -290,7 +303,7 @@ list-returns-2 : (t : ℕ) → list-lts.Need-returns-2 (
   measure-more-reads.Asked,
   measure-more-reads.Learnt,
 ) (list-at t) list.Post
-list-returns-2 t c = ?
+list-returns-2 t c = list-empty _ _ _ _ (c .before .before .before .if1 .left) (c .before .before .item .ensures) (not-true _ (c .if2 .taken))
 
 -- src/lib.rt:401:8
 list-byte-at-requires : (t : ℕ) → list-lts.Need-byte-at-requires (
@@ -303,7 +316,7 @@ list-byte-at-requires : (t : ℕ) → list-lts.Need-byte-at-requires (
   measure-more-reads.Asked,
   measure-more-reads.Learnt,
 ) (list-at t) list.Post
-list-byte-at-requires t c κs = ?
+list-byte-at-requires t c κs = search needs
 
 -- src/lib.rt:402:40
 list-add-list : (t : ℕ) → list-lts.Need-add-list (
@@ -316,7 +329,10 @@ list-add-list : (t : ℕ) → list-lts.Need-add-list (
   measure-more-reads.Asked,
   measure-more-reads.Learnt,
 ) (list-at t) list.Post
-list-add-list t c = ?
+list-add-list t c =
+    let at-item = c .before .before .before .before .before in
+    let at-start = at-item .before .before .before in
+    omega (arith, in-text (at-start .args .s .now) (at-item .item .result .at) 43 (sym (c .before .before .byte-at .ensures) ∙ c .before .if3 .taken))
 
 -- src/lib.rt:402:50
 list-sub-list : (t : ℕ) → list-lts.Need-sub-list (
@@ -329,7 +345,7 @@ list-sub-list : (t : ℕ) → list-lts.Need-sub-list (
   measure-more-reads.Asked,
   measure-more-reads.Learnt,
 ) (list-at t) list.Post
-list-sub-list t c = ?
+list-sub-list t c = search needs
 
 -- src/lib.rt:402:32
 list-list-requires : (t : ℕ) → list-lts.Need-list-requires (
@@ -342,7 +358,7 @@ list-list-requires : (t : ℕ) → list-lts.Need-list-requires (
   measure-more-reads.Asked,
   measure-more-reads.Learnt,
 ) (list-at t) list.Post
-list-list-requires t c κs = ?
+list-list-requires t c κs = (omega arith, tt)
 
 -- src/lib.rt:402:9
 list-measure-more-requires : (t : ℕ) → list-lts.Need-measure-more-requires (
@@ -355,7 +371,7 @@ list-measure-more-requires : (t : ℕ) → list-lts.Need-measure-more-requires (
   measure-more-reads.Asked,
   measure-more-reads.Learnt,
 ) (list-at t) list.Post
-list-measure-more-requires t c κs = ?
+list-measure-more-requires t c κs = search needs
 
 -- src/lib.rt:402:9
 list-returns-3 : (t : ℕ) → list-lts.Need-returns-3 (
@@ -368,7 +384,10 @@ list-returns-3 : (t : ℕ) → list-lts.Need-returns-3 (
   measure-more-reads.Asked,
   measure-more-reads.Learnt,
 ) (list-at t) list.Post
-list-returns-3 t c = ?
+list-returns-3 t c =
+    let at-byte = c .before .before .before .before in
+    let at-item = at-byte .before .before .before in
+    list-comma _ _ _ _ _ _ (at-item .before .if1 .left) (at-item .item .ensures) (not-false _ (at-byte .before .if2 .left)) (sym (at-byte .byte-at .ensures) ∙ c .before .before .before .if3 .taken) (c .before .list .ensures) (c .measure-more .ensures)
 
 -- src/lib.rt:391:1
 list-returns-4 : (t : ℕ) → list-lts.Need-returns-4 (
@@ -381,7 +400,9 @@ list-returns-4 : (t : ℕ) → list-lts.Need-returns-4 (
   measure-more-reads.Asked,
   measure-more-reads.Learnt,
 ) (list-at t) list.Post
-list-returns-4 t c = ?
+list-returns-4 t c =
+    let at-item = c .before .before .before .before in
+    list-one _ _ _ _ (at-item .before .if1 .left) (at-item .item .ensures) (not-false _ (c .before .before .if2 .left)) (λ e. c .if3 .left (c .before .byte-at .ensures ∙ e))
 
 pub +item+list-spec : {M : Type 1} → statement M
 +item+list-spec = close μ-item μ-list (λ t. item-lts.spec (
