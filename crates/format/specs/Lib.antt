@@ -7,7 +7,10 @@ pub mod FieldsLaws
 pub mod ReadingLaws
 pub mod Laid
 pub mod Measured
+pub mod Row
 pub mod MeasuredLaws
 pub mod StepLaws
+pub mod RowLaws
+pub mod LayLaws
 pub mod Computed
 pub mod Examples

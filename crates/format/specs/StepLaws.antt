@@ -26,14 +26,14 @@ unfolding itemOf measured
 list-zero n l at e = rw e refl
 
 -- one byte fewer is left
-fewer : (m : ℕ) → suc m - 1 ≡ m
+pub fewer : (m : ℕ) → suc m - 1 ≡ m
 fewer m = omega arith
 
-tally-none : (at : ℕ) (c : Tally) → c ≡ tallyAt at none → c .found ≡ true → false ≡ true
+pub tally-none : (at : ℕ) (c : Tally) → c ≡ tallyAt at none → c .found ≡ true → false ≡ true
 unfolding tallyAt
 tally-none at c e h = sym (ap (λ (x : Tally). x .found) e) ∙ h
 
-tally-some : (at : ℕ) (c : Tally) (d : Count) (k : ℕ) → c ≡ tallyAt at (some d k) → c ≡ found d (at + k)
+pub tally-some : (at : ℕ) (c : Tally) (d : Count) (k : ℕ) → c ≡ tallyAt at (some d k) → c ≡ found d (at + k)
 unfolding tallyAt
 tally-some at c d k e = e
 

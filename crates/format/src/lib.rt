@@ -1,14 +1,16 @@
 // FORMAT texts (document 02, C-15): the fields that a text lays into a line. A text is measured first, as deep as its brackets lie and however large its
 // counts are; only one that fits is unfolded.
 ghost use mathlib.Core.Path.{_≡_};
-ghost use Prim.Native.Nat.{_+_, _*_};
-ghost use lib.ListN.{length, take, drop, getD};
+ghost use Prim.Native.Nat.{_+_, _-_, _*_, _≤_};
+ghost use lib.Dec.{eqb};
+ghost use lib.ListN.{length, drop, getD};
+ghost use Rattle.laws.specs.Choice.{pick};
 ghost use Rattle.laws.specs.Run.{run};
-ghost use Rattle.format.specs.Format.{unblanked};
 ghost use Rattle.format.specs.Reading.{digitsBefore, numberOf, countOf, itemOf, listOf, packedReading, readingOf};
-ghost use Rattle.format.specs.Laid.{fieldsIn};
+ghost use mathlib.Core.List.{[]};
+ghost use Rattle.format.specs.Laid.{fieldsIn, refusedFields};
+ghost use Rattle.format.specs.Row.{rowOf, unlaid, pushed, againRow, repeatRow, layPlain, laidLeaf, closedLaid, laid, answered, Unblanked};
 ghost use Rattle.format.specs.Measured.{capped, deeper, highest, keptDigit, figureAt, tallyAt, sizedLeaf, decimalsBy, decimalsLeaf, realLeaf, scaledLeaf, plainLeaf, measuredLeaf, groupDepth, closedMeasure, joinedMeasure, measured};
-use laws::index;
 use laws::wide;
 use text::is_digit;
 
@@ -402,4 +404,255 @@ fn list(s: &[u8], at: usize, left: usize) -> Measure
         return measure_more(i, list(s, i.at + 1, left - 1));
     }
     i
+}
+
+// Fields in order, as `Fields` has them.
+pub struct Row {
+    pub count: usize,
+    pub kinds: [u8; 80],
+    pub widths: [u8; 80],
+}
+
+// Where an item or a list ends, and the fields with those that it adds.
+pub struct Laid {
+    pub found: bool,
+    pub at: usize,
+    pub row: Row,
+}
+
+// No fields.
+fn no_fields() -> Row
+    ensures { λ r. ⌜ r ≡ rowOf [] ⌝ }
+{
+    Row {
+        count: 0,
+        kinds: [0u8; 80],
+        widths: [0u8; 80],
+    }
+}
+
+// Nothing is laid.
+fn nothing() -> Laid
+    ensures { λ r. ⌜ r ≡ unlaid ⌝ }
+{
+    Laid {
+        found: false,
+        at: 0,
+        row: no_fields(),
+    }
+}
+
+// The fields and one more; 80 stay as they are.
+fn push_field(row: Row, kind: u8, width: u8) -> Row
+    ensures { λ r. ⌜ r ≡ pushed row kind width ⌝ }
+{
+    let at = row.count;
+    let mut kinds = row.kinds;
+    let mut widths = row.widths;
+    if at < 80 {
+        kinds[at] = kind;
+        widths[at] = width;
+        return Row {
+            count: at + 1,
+            kinds,
+            widths,
+        };
+    }
+    row
+}
+
+// The fields `row` and, after them, those of `source` from one place to before another.
+fn again(source: Row, from: usize, past: usize, row: Row) -> Row
+    ensures { λ r. ⌜ r ≡ againRow (past - from) from (source .kinds) (source .widths) row ⌝ }
+{
+    let kinds = source.kinds;
+    let widths = source.widths;
+    let mut r = row;
+    let mut j = from;
+    while j < past {
+        if 80 <= j {
+            return r;
+        }
+        r = push_field(r, kinds[j], widths[j]);
+        j += 1;
+    }
+    r
+}
+
+// The fields, of which those from a place on come this many times.
+fn repeated(row: Row, from: usize, count: u8) -> Row
+    ensures { λ r. ⌜ r ≡ repeatRow (count - 1) from row row ⌝ }
+{
+    let past = row.count;
+    let mut r = row;
+    let mut i = 1;
+    while i < count {
+        r = again(row, from, past, r);
+        i += 1;
+    }
+    r
+}
+
+// The fields and those of an item without brackets: a text with a count is one.
+fn lay_plain(row: Row, i: Leaf) -> Row
+    ensures { λ r. ⌜ r ≡ layPlain row (i .kind) (i .count) (i .width) ⌝ }
+{
+    if i.kind == 1 {
+        return push_field(row, 1, product(i.count, i.width));
+    }
+    repeated(push_field(row, i.kind, i.width), row.count, i.count)
+}
+
+// The same, with where the item ends.
+fn lay_leaf(row: Row, i: Leaf) -> Laid
+    ensures { λ r. ⌜ r ≡ laidLeaf row i ⌝ }
+{
+    if !i.found {
+        return nothing();
+    }
+    Laid {
+        found: true,
+        at: i.at,
+        row: lay_plain(row, i),
+    }
+}
+
+// The fields with those of a group, by its count and its list, whose fields begin at `from`.
+fn lay_group(s: &[u8], from: usize, c: Tally, m: Laid) -> Laid
+    ensures { λ r. ⌜ r ≡ closedLaid from c (now (s .entry)) m ⌝ }
+{
+    if !m.found {
+        return nothing();
+    }
+    if byte_at(s, m.at) == 41 {
+        return Laid {
+            found: true,
+            at: m.at + 1,
+            row: repeated(m.row, from, c.count),
+        };
+    }
+    nothing()
+}
+
+// The fields with those of the item at a place, of at most `left` bytes.
+fn lay_item(s: &[u8], at: usize, left: usize, row: Row) -> Laid
+    ensures { λ r. ⌜ r ≡ laid row (itemOf left (now (s .entry)) at) ⌝ }
+{
+    if left == 0 {
+        return nothing();
+    }
+    let c = counted(s, at);
+    if !c.found {
+        return nothing();
+    }
+    if byte_at(s, c.at) == 40 {
+        return lay_group(s, row.count, c, lay_list(s, c.at + 1, left - 1, row));
+    }
+    lay_leaf(row, plain(s, c))
+}
+
+// The fields with those of the list at a place, of fewer than `left` bytes.
+fn lay_list(s: &[u8], at: usize, left: usize, row: Row) -> Laid
+    ensures { λ r. ⌜ r ≡ laid row (listOf left (now (s .entry)) at) ⌝ }
+{
+    if left == 0 {
+        return nothing();
+    }
+    let i = lay_item(s, at, left - 1, row);
+    if !i.found {
+        return nothing();
+    }
+    if byte_at(s, i.at) == 44 {
+        return lay_list(s, i.at + 1, left - 1, i.row);
+    }
+    i
+}
+
+// A refusal.
+fn refused(number: u8) -> Fields
+    ensures { λ r. ⌜ r ≡ refusedFields number ⌝ }
+{
+    Fields {
+        number,
+        count: 0,
+        kinds: [0u8; 80],
+        widths: [0u8; 80],
+    }
+}
+
+// How many bytes are kept of n and one more, which is dropped where it is a blank.
+fn kept(n: usize, b: u8) -> usize
+    requires { ⌜ n ≤ 120 ⌝ }
+    ensures { λ r. ⌜ r ≡ pick (eqb b 32) n (n + 1) ⌝ }
+{
+    if b == 32 {
+        return n;
+    }
+    n + 1
+}
+
+// Lays the bytes that are no blanks, and gives their number.
+fn unblank(out: &mut [u8; 120], text: &[u8]) -> usize
+    requires { ⌜ length (now text) ≤ 120 ⌝ }
+    ensures { λ r. ⌜ Unblanked (now (text .entry)) r (now (out .exit)) ⌝ }
+{
+    *out = [0u8; 120];
+    let mut n = 0;
+    let mut i = 0;
+    while i < text.len() {
+        out[n] = text[i];
+        n = kept(n, text[i]);
+        i += 1;
+    }
+    n
+}
+
+// The fields as they are answered.
+fn fields_of(row: Row) -> Fields
+    ensures { λ r. ⌜ r ≡ answered row ⌝ }
+{
+    let kinds = row.kinds;
+    let widths = row.widths;
+    Fields {
+        number: 0,
+        count: row.count,
+        kinds,
+        widths,
+    }
+}
+
+// The fields of a FORMAT text without blanks.
+fn read_packed(s: &[u8]) -> Fields
+    requires { ⌜ length (now s) ≤ 120 ⌝ }
+    ensures { λ r. ⌜ r ≡ fieldsIn (packedReading (now (s .entry))) ⌝ }
+{
+    let left = s.len() + 1;
+    let m = list(s, 0, left);
+    if !m.found {
+        return refused(26);
+    }
+    if m.at != s.len() {
+        return refused(26);
+    }
+    if 3 < m.groups {
+        return refused(27);
+    }
+    if 80 < m.columns {
+        return refused(27);
+    }
+    let l = lay_list(s, 0, left, no_fields());
+    let row = l.row;
+    fields_of(row)
+}
+
+// The fields of a FORMAT text. 26: it is malformed, or longer than 120 bytes; then 27: its groups are deeper than three, or it takes over 80 columns.
+pub fn read(text: &[u8]) -> Fields
+    ensures { λ r. ⌜ r ≡ fieldsIn (readingOf (now (text .entry))) ⌝ }
+{
+    if 120 < text.len() {
+        return refused(26);
+    }
+    let mut packed = [0u8; 120];
+    let n = unblank(&mut packed, text);
+    read_packed(&packed[..n])
 }
