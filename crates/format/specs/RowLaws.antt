@@ -138,3 +138,91 @@ pub repeatRow-step : (n i from past : ℕ) (source r s : Row) → past ≡ sourc
     → repeatRow (n - (i + 1)) from source s ≡ repeatRow (n - i) from source r
 repeatRow-step n i from past source r s p h e =
     ap (repeatRow (n - (i + 1)) from source) (e ∙ ap (λ (x : ℕ). againRow (x - from) from (source .kinds) (source .widths) r) p) ∙ sym (repeatRow-next n i from source r h)
+
+-- A list of numbers filled with zeros to 80, and one number more.
+padded-set : (l : List ℕ) (v : ℕ) → length l < 80 → set (padded l) (length l) v ≡ padded (l ++ (v ∷ []))
+unfolding padded
+padded-set l v h =
+    let size = length-append l (v ∷ []) in
+    let some-left : 80 - length l ≡ suc (80 - length (l ++ (v ∷ []))) = omega (arith, size) in
+    rw some-left (set-at l 0 (replicate (80 - length (l ++ (v ∷ []))) 0) v (length l) refl ∙ sym (append-assoc l (v ∷ []) (replicate (80 - length (l ++ (v ∷ []))) 0)))
+
+padded-at : (p : List ℕ) (v : ℕ) (q : List ℕ) (n : ℕ) → length p ≡ n → getD (padded (p ++ (v ∷ q))) n 0 ≡ v
+unfolding padded
+padded-at p v q n e =
+    let zeros : List ℕ = replicate (80 - length (p ++ (v ∷ q))) 0 in
+    ap (λ (x : List ℕ). getD x n 0) (append-assoc p (v ∷ q) zeros) ∙ getD-at p v (q ++ zeros) 0 n e
+
+module _ (f : Field → ℕ) where
+  map-append : (fs gs : List Field) → map f (fs ++ gs) ≡ map f fs ++ map f gs
+  map-append [] gs = refl
+  map-append (g ∷ fs) gs = ap (λ (x : List ℕ). f g ∷ x) (map-append fs gs)
+
+  more-set : (fs : List Field) (g : Field) → length fs < 80 → set (padded (map f fs)) (length fs) (f g) ≡ padded (map f (fs ++ (g ∷ [])))
+  more-set fs g h =
+      let size : length (map f fs) ≡ length fs = length-map fs f in
+      ap (λ (n : ℕ). set (padded (map f fs)) n (f g)) (sym size) ∙ padded-set (map f fs) (f g) (omega (arith, size)) ∙ ap padded (sym (map-append fs (g ∷ [])))
+
+  field-at : (pre : List Field) (g : Field) (gs : List Field) → getD (padded (map f (pre ++ (g ∷ gs)))) (length pre) 0 ≡ f g
+  field-at pre g gs = ap (λ (x : List ℕ). getD (padded x) (length pre) 0) (map-append pre (g ∷ gs)) ∙ padded-at (map f pre) (f g) (map f gs) (length pre) (length-map pre f)
+
+-- A row of fields and one field more, some more, and the same ones again.
+
+abbrev kindIn : Field → ℕ
+kindIn f = kindNumber (f .kind)
+
+abbrev widthIn : Field → ℕ
+widthIn f = f .width
+
+row-pushed : (fs : List Field) (g : Field) → length fs < 80 → pushed (rowOf fs) (kindIn g) (widthIn g) ≡ rowOf (fs ++ (g ∷ []))
+row-pushed fs g h =
+    let size : length fs + 1 ≡ length (fs ++ (g ∷ [])) = sym (length-append fs (g ∷ [])) in
+    sym (pushed-more (rowOf fs) (kindIn g) (widthIn g) h) ∙ rw (size, more-set kindIn fs g h, more-set widthIn fs g h) refl
+
+row-again : (pre gs hs : List Field) → length (pre ++ gs) ≤ 80 → length hs + length gs ≤ 80
+    → againRow (length gs) (length pre) (kindsOf (pre ++ gs)) (widthsOf (pre ++ gs)) (rowOf hs) ≡ rowOf (hs ++ gs)
+unfolding againRow
+row-again pre [] hs h k = ap rowOf (sym (append-nil hs))
+row-again pre (g ∷ gs) hs h k =
+    let size = length-append pre (g ∷ gs) in
+    let here : length pre < 80 = omega (arith, size) in
+    let room : length hs < 80 = omega arith in
+    let next : length (pre ++ (g ∷ [])) ≡ length pre + 1 = length-append pre (g ∷ []) in
+    let regroup : (pre ++ (g ∷ [])) ++ gs ≡ pre ++ (g ∷ gs) = append-assoc pre (g ∷ []) gs in
+    let within : length ((pre ++ (g ∷ [])) ++ gs) ≤ 80 = rw regroup h in
+    let grown : length (hs ++ (g ∷ [])) + length gs ≤ 80 = omega (arith, length-append hs (g ∷ [])) in
+    let rest = rw regroup at (row-again (pre ++ (g ∷ [])) gs (hs ++ (g ∷ [])) within grown) in
+    let whole : (hs ++ (g ∷ [])) ++ gs ≡ hs ++ (g ∷ gs) = append-assoc hs (g ∷ []) gs in
+    rw (lt-ltb (length pre) 80 here, field-at kindIn pre g gs, field-at widthIn pre g gs, row-pushed hs g room, ← next) (rest ∙ ap rowOf whole)
+
+repeated-more : (n : ℕ) (gs : List Field) → gs ++ repeated n gs ≡ repeated n gs ++ gs
+unfolding repeated
+repeated-more zero gs = append-nil gs
+repeated-more (suc n) gs = ap (λ (x : List Field). gs ++ x) (repeated-more n gs) ∙ sym (append-assoc gs (repeated n gs) gs)
+
+length-repeated : (n : ℕ) (gs : List Field) → length (repeated n gs) ≡ n * length gs
+unfolding repeated
+length-repeated zero gs = omega arith
+length-repeated (suc n) gs = omega (arith, length-append gs (repeated n gs), length-repeated n gs)
+
+row-repeated : (m : ℕ) (fs gs hs : List Field) → length (fs ++ gs) ≤ 80 → length hs + m * length gs ≤ 80
+    → repeatRow m (length fs) (rowOf (fs ++ gs)) (rowOf hs) ≡ rowOf (hs ++ repeated m gs)
+unfolding repeatRow repeated
+row-repeated zero fs gs hs h k = ap rowOf (sym (append-nil hs))
+row-repeated (suc m) fs gs hs h k =
+    let size = length-append fs gs in
+    let those : length (fs ++ gs) - length fs ≡ length gs = omega (arith, size) in
+    let once-more : length hs + length gs ≤ 80 = omega arith in
+    let grown : length (hs ++ gs) + m * length gs ≤ 80 = omega (arith, length-append hs gs) in
+    rw (those, row-again fs gs hs h once-more) (row-repeated m fs gs (hs ++ gs) h grown ∙ ap rowOf (append-assoc hs gs (repeated m gs)))
+
+-- fields n times, n from 1
+row-times : (n : ℕ) (fs gs : List Field) → 1 ≤ n → length fs + n * length gs ≤ 80 → repeatRow (n - 1) (length fs) (rowOf (fs ++ gs)) (rowOf (fs ++ gs)) ≡ rowOf (fs ++ repeated n gs)
+unfolding repeated
+row-times zero fs gs h k = absurd (omega arith)
+row-times (suc m) fs gs h k =
+    let fewer : suc m - 1 ≡ m = omega arith in
+    let size = length-append fs gs in
+    let once-fits : length (fs ++ gs) ≤ 80 = omega (arith, size) in
+    let all-fit : length (fs ++ gs) + m * length gs ≤ 80 = omega (arith, size) in
+    rw fewer (row-repeated m fs gs (fs ++ gs) once-fits all-fit ∙ ap rowOf (append-assoc fs gs (repeated m gs)))

@@ -1,3 +1,5 @@
+use Rattle.format.specs.RowLaws.{laidLeaf-none, laidLeaf-some}
+use borrow.Author.Tests.{not-true, not-false}
 use native.Mathlib.Omega.{arith}
 use borrow.Author.Needs.{needs}
 use Rattle.format.proofs.lay_leaf.Statement.{statement}
@@ -13,7 +15,7 @@ nothing-requires c κs = search needs
 
 -- src/lib.rt:511:9
 returns : tie.Need-returns
-returns c = ?
+returns c = laidLeaf-none _ _ _ (c .nothing .ensures) (not-true _ (c .before .if1 .taken))
 
 -- src/lib.rt:516:14
 lay-plain-requires : tie.Need-lay-plain-requires
@@ -21,7 +23,7 @@ lay-plain-requires c κs = search needs
 
 -- src/lib.rt:507:1
 returns-2 : tie.Need-returns-2
-returns-2 c = ?
+returns-2 c = laidLeaf-some _ _ _ (not-false _ (c .before .if1 .left)) (c .lay-plain .ensures)
 
 pub lay-leaf-spec : {M : Type 1} → statement M
 lay-leaf-spec = tie.close (tie.spec nothing-requires returns lay-plain-requires returns-2)

@@ -1,3 +1,5 @@
+use Rattle.format.specs.Format.{repeated}
+use Rattle.format.specs.RowLaws.{layPlain-other, layPlain-text}
 use native.Mathlib.Omega.{arith}
 use borrow.Author.Needs.{needs}
 use Rattle.format.proofs.lay_plain.Statement.{statement}
@@ -18,7 +20,7 @@ push-field-requires c κs = search needs
 
 -- src/lib.rt:501:9
 returns : tie.Need-returns
-returns c = ?
+returns c = layPlain-text _ _ _ _ _ _ (c .before .before .if1 .taken) (c .before .product .ensures) (c .push-field .ensures)
 
 -- src/lib.rt:503:14
 push-field-requires-2 : tie.Need-push-field-requires-2
@@ -30,7 +32,7 @@ repeated-requires c κs = search needs
 
 -- src/lib.rt:497:1
 returns-2 : tie.Need-returns-2
-returns-2 c = ?
+returns-2 c = layPlain-other _ _ _ _ _ _ (c .before .before .if1 .left) (c .before .push-field2 .ensures) (c .repeated .ensures)
 
 pub lay-plain-spec : {M : Type 1} → statement M
 lay-plain-spec =
