@@ -12,5 +12,6 @@ pub mod MeasuredLaws
 pub mod StepLaws
 pub mod RowLaws
 pub mod LayLaws
+pub mod AnswerLaws
 pub mod Computed
 pub mod Examples

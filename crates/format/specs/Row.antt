@@ -69,3 +69,4 @@ answered r = record { number = 0; count = r .count; kinds = r .kinds; widths = r
 pub record Unblanked (text : List ℕ) (n : ℕ) (out : List ℕ) : Type 0 where
   pub within : n ≤ length text
   pub bytes : take n out ≡ unblanked text
+  pub size : length out ≡ 120

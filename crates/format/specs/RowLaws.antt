@@ -126,6 +126,7 @@ unblanked-next l out i n h g e =
   where
     b : ℕ
     b = getD l i 0
+
     go : (t : Bool) → unblanked (take (i + 1) l) ≡ pick t (unblanked (take i l)) (unblanked (take i l) ++ (b ∷ [])) → take (pick t n (n + 1)) (set out n b) ≡ unblanked (take (i + 1) l)
     go true q = take-set-le n out n b (omega arith) ∙ e ∙ sym q
     go false q = rw add-one (take-suc-set out n b g) ∙ ap (λ (x : List ℕ). x ++ (b ∷ [])) e ∙ sym q
@@ -174,7 +175,7 @@ kindIn f = kindNumber (f .kind)
 abbrev widthIn : Field → ℕ
 widthIn f = f .width
 
-row-pushed : (fs : List Field) (g : Field) → length fs < 80 → pushed (rowOf fs) (kindIn g) (widthIn g) ≡ rowOf (fs ++ (g ∷ []))
+pub row-pushed : (fs : List Field) (g : Field) → length fs < 80 → pushed (rowOf fs) (kindIn g) (widthIn g) ≡ rowOf (fs ++ (g ∷ []))
 row-pushed fs g h =
     let size : length fs + 1 ≡ length (fs ++ (g ∷ [])) = sym (length-append fs (g ∷ [])) in
     sym (pushed-more (rowOf fs) (kindIn g) (widthIn g) h) ∙ rw (size, more-set kindIn fs g h, more-set widthIn fs g h) refl
@@ -217,7 +218,7 @@ row-repeated (suc m) fs gs hs h k =
     rw (those, row-again fs gs hs h once-more) (row-repeated m fs gs (hs ++ gs) h grown ∙ ap rowOf (append-assoc hs gs (repeated m gs)))
 
 -- fields n times, n from 1
-row-times : (n : ℕ) (fs gs : List Field) → 1 ≤ n → length fs + n * length gs ≤ 80 → repeatRow (n - 1) (length fs) (rowOf (fs ++ gs)) (rowOf (fs ++ gs)) ≡ rowOf (fs ++ repeated n gs)
+pub row-times : (n : ℕ) (fs gs : List Field) → 1 ≤ n → length fs + n * length gs ≤ 80 → repeatRow (n - 1) (length fs) (rowOf (fs ++ gs)) (rowOf (fs ++ gs)) ≡ rowOf (fs ++ repeated n gs)
 unfolding repeated
 row-times zero fs gs h k = absurd (omega arith)
 row-times (suc m) fs gs h k =

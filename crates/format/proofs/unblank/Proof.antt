@@ -70,7 +70,7 @@ loop-again c =
       within = omega (arith, c .kept .ensures, few, inv .within);
       most = omega (arith, at-test .loop-test .taken);
       size = simp length-set (inv .size);
-      bytes = rw (c .kept .ensures) next
+      bytes = rw (c .kept .ensures) next;
     }
 
 -- src/lib.rt:595:1
@@ -78,7 +78,7 @@ returns : tie.Need-returns Inv-loop μ-loop
 returns c =
     let inv = c .before .loop .inv in
     let whole = take-all (c .before .loop .i) (c .before .before .before .before .args .text .now) (c .loop-test .left) in
-    record { within = omega (arith, inv .within, inv .most); bytes = inv .bytes ∙ ap unblanked whole }
+    record { within = omega (arith, inv .within, inv .most); bytes = inv .bytes ∙ ap unblanked whole; size = inv .size }
 
 pub unblank-spec : {M : Type 1} → statement M
 unblank-spec =
