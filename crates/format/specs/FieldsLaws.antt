@@ -44,11 +44,11 @@ unfolding repeated
 wide-repeated zero w = no-field
 wide-repeated (suc n) w = wide-append w (wide-repeated n w)
 
-counted-some : {c : Count} {cs : List ℕ} → Counted c cs → 1 ≤ number c
+pub counted-some : {c : Count} {cs : List ℕ} → Counted c cs → 1 ≤ number c
 counted-some left-out = omega arith
 counted-some (written s n) = s
 
-plain-some : {k : Kind} {w : ℕ} {ps : List ℕ} → Plain k w ps → 1 ≤ w
+pub plain-some : {k : Kind} {w : ℕ} {ps : List ℕ} → Plain k w ps → 1 ≤ w
 plain-some skips = omega arith
 plain-some (texts (width low high n)) = low
 plain-some (integers (width low high n)) = low

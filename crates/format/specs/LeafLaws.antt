@@ -67,7 +67,7 @@ real-complete c at l rest e h (reals {b} {w} {d} {ws} {ds} letter wide n low) =
       letter-real letter,
       width-complete c real (at + 1) l (46 ∷ (ds ++ rest)) from-width (point-first (ds ++ rest)) wide,
       byte-at l (at + 1 + length ws) 46 (ds ++ rest) from-point,
-      decimals-complete c w (at + 1 + length ws + 1) l rest from-decimals h n low
+      decimals-complete c w (at + 1 + length ws + 1) l rest from-decimals h n low,
     ) (ap (some c real w) size)
 
 pub leaf-complete : {k : Kind} {w : ℕ} {ps : List ℕ} (c : Count) (at : ℕ) (l rest : List ℕ) → drop at l ≡ ps ++ rest → digitsBefore rest ≡ 0 → Plain k w ps
@@ -121,6 +121,7 @@ width-sound d c j k w n at l e = go (leb 1 v && leb v 80) refl e
   where
     v : ℕ
     v = numberOf (drop at l) .value
+
     go : (t : Bool) → (leb 1 v && leb v 80) ≡ t → _≡_ {A = Leaf} (pick t (some d j v (at + numberOf (drop at l) .used)) none) (some c k w n) → WidthRead d c j k w n at l
     go true h e =
         let low = leb-true 1 v (and-left (leb 1 v) (leb v 80) h) in
@@ -149,6 +150,7 @@ decimals-sound d c k v w n at l e = go (ltb 0 (x .used) && leb (x .value) v) ref
   where
     x : Number
     x = numberOf (drop at l)
+
     go : (t : Bool) → (ltb 0 (x .used) && leb (x .value) v) ≡ t → _≡_ {A = Leaf} (pick t (some d real v (at + x .used)) none) (some c k w n) → DecimalsRead d c k v w n at l
     go true h e =
         let some-used = ltb-true 0 (x .used) (and-left (ltb 0 (x .used)) (leb (x .value) v) h) in
@@ -164,6 +166,7 @@ byte-there l at b h = go (ltb at (length l)) refl
   where
     is : getD l at 0 ≡ suc b
     is = eqb-true (getD l at 0) (suc b) h
+
     go : (t : Bool) → ltb at (length l) ≡ t → drop at l ≡ suc b ∷ drop (at + 1) l
     go true e = rw add-one (drop-cons l at 0 (ltb-true at (length l) e) ∙ ap (λ (x : ℕ). x ∷ drop (suc at) l) is)
     go false e = let z : _≡_ {A = ℕ} 0 (suc b) = sym (List·getD-eq-default l 0 (ltb-false at (length l) e)) ∙ is in absurd (omega arith)
@@ -183,15 +186,17 @@ point-sound d c k w n at b l letter from-letter (some dx kx v m) wx e = go (eqb 
         let to-point : drop m l ≡ x .rest = ap (λ (a : ℕ). drop a l) (sym (x .size)) ∙ past-bytes l (at + 1) (x .ws) (x .rest) (x .split) in
         let whole : x .ws ++ x .rest ≡ (x .ws ++ (46 ∷ y .ds)) ++ y .rest = ap (λ (r : List ℕ). x .ws ++ r) (sym to-point ∙ from-point) ∙ sym (append-assoc (x .ws) (46 ∷ y .ds) (y .rest)) in
         let size : at + suc (length (x .ws ++ (46 ∷ y .ds))) ≡ n = simp length-append (omega (arith, x .size, y .size)) in
-        let wide : Width w (x .ws) = rw (← y .wide) (x .wide) in
-        (y .kind, record {
-          same = x .same ∙ y .same;
-          ps = b ∷ (x .ws ++ (46 ∷ y .ds));
-          rest = y .rest;
-          split = from-letter ∙ ap (λ (r : List ℕ). b ∷ r) (x .split ∙ whole);
-          size = size;
-          plain = reals letter wide (y .numeral) (omega (arith, y .low, y .wide))
-        })
+        let wide : Width w (x .ws) = rw (← y .wide) (x .wide) in (
+          y .kind,
+          record {
+            same = x .same ∙ y .same;
+            ps = b ∷ (x .ws ++ (46 ∷ y .ds));
+            rest = y .rest;
+            split = from-letter ∙ ap (λ (r : List ℕ). b ∷ r) (x .split ∙ whole);
+            size = size;
+            plain = reals letter wide (y .numeral) (omega (arith, y .low, y .wide));
+          },
+        )
     go false h e = never e
 
 pub real-sound : (d c : Count) (k : Kind) (w n at : ℕ) (l : List ℕ) → realOf d at l ≡ some c k w n → (real ≡ k) × Tail d c real w n at l
@@ -220,7 +225,7 @@ width-tail {d} {c} {j} {k} {w} {n} {at} {b} {l} plain-of first r =
       rest = r .rest;
       split = first ∙ ap (λ (x : List ℕ). b ∷ x) (r .split);
       size = size;
-      plain = plain-of (r .ws) (r .wide)
+      plain = plain-of (r .ws) (r .wide);
     }))
 
 real-tail : {d c : Count} {k : Kind} {w n at : ℕ} {l : List ℕ} → (real ≡ k) × Tail d c real w n at l → LeafRead d c k w n at l
@@ -246,12 +251,15 @@ leaf-sound d c k w n at l e = x-or (eqb (getD l at 0) 88) refl e
         one-or true o e = scaled-tail d c k w n at l o (byte-there l at 79 h) (countOf (drop (at + 1) l)) refl e
         one-or false o e = never e
     p-or false h e = real-tail (real-sound d c k w n at l e)
+
     a-or : (t : Bool) → eqb (getD l at 0) 65 ≡ t → _≡_ {A = Leaf} (pick t (widthOf d text (at + 1) l) (pick (eqb (getD l at 0) 80) (pick (isOne d) (scaledOf (countOf (drop (at + 1) l)) (at + 1) l) none) (realOf d at l))) (some c k w n) → LeafRead d c k w n at l
     a-or true h e = width-tail (λ ws. texts) (byte-there l at 64 h) (width-sound d c text k w n (at + 1) l e)
     a-or false h e = p-or (eqb (getD l at 0) 80) refl e
+
     i-or : (t : Bool) → eqb (getD l at 0) 73 ≡ t → _≡_ {A = Leaf} (pick t (widthOf d integer (at + 1) l) (pick (eqb (getD l at 0) 65) (widthOf d text (at + 1) l) (pick (eqb (getD l at 0) 80) (pick (isOne d) (scaledOf (countOf (drop (at + 1) l)) (at + 1) l) none) (realOf d at l)))) (some c k w n) → LeafRead d c k w n at l
     i-or true h e = width-tail (λ ws. integers) (byte-there l at 72 h) (width-sound d c integer k w n (at + 1) l e)
     i-or false h e = a-or (eqb (getD l at 0) 65) refl e
+
     x-or : (t : Bool) → eqb (getD l at 0) 88 ≡ t → _≡_ {A = Leaf} (pick t (some d skip 1 (at + 1)) (pick (eqb (getD l at 0) 73) (widthOf d integer (at + 1) l) (pick (eqb (getD l at 0) 65) (widthOf d text (at + 1) l) (pick (eqb (getD l at 0) 80) (pick (isOne d) (scaledOf (countOf (drop (at + 1) l)) (at + 1) l) none) (realOf d at l))))) (some c k w n) → LeafRead d c k w n at l
     x-or true h e =
         let kind : skip ≡ k = cc in
@@ -270,3 +278,10 @@ pub one-spelled : {v : ℕ} {ns : List ℕ} → v ≡ 1 → Numeral v ns → ns 
 one-spelled e nought = absurd (omega arith)
 one-spelled e (from {b} low (more l h no-digit)) = let is : b ≡ 49 = omega arith in ap (λ (x : ℕ). x ∷ []) is
 one-spelled e (from {b} low (more l h (more l' h' r))) = absurd (omega (arith, digits-least r))
+
+-- a width that is read is at most 80
+pub width-most : (d c : Count) (j k : Kind) (w n at : ℕ) (l : List ℕ) → widthOf d j at l ≡ some c k w n → w ≤ 80
+width-most d c j k w n at l e = most (width-sound d c j k w n at l e .wide)
+  where
+    most : {v : ℕ} {ws : List ℕ} → Width v ws → v ≤ 80
+    most (width low high m) = high

@@ -6,5 +6,12 @@ pub mod ListLaws
 pub mod FieldsLaws
 pub mod ReadingLaws
 pub mod Laid
+pub mod Measured
+pub mod Row
+pub mod MeasuredLaws
+pub mod StepLaws
+pub mod RowLaws
+pub mod LayLaws
+pub mod AnswerLaws
 pub mod Computed
 pub mod Examples

@@ -71,27 +71,27 @@ bracket-first t = refl
 
 -- One step of the reading, by what stands there.
 
-item-leaf : (m : ℕ) (l : List ℕ) (at : ℕ) (d : Count) (k : ℕ) → countOf (drop at l) ≡ some d k → eqb (getD l (at + k) 0) 40 ≡ false → itemOf (suc m) l at ≡ leaf (leafOf d (at + k) l)
+pub item-leaf : (m : ℕ) (l : List ℕ) (at : ℕ) (d : Count) (k : ℕ) → countOf (drop at l) ≡ some d k → eqb (getD l (at + k) 0) 40 ≡ false → itemOf (suc m) l at ≡ leaf (leafOf d (at + k) l)
 unfolding itemOf itemAfter
 item-leaf m l at d k e h = rw (e, h) refl
 
-item-group : (m : ℕ) (l : List ℕ) (at : ℕ) (d : Count) (k : ℕ) → countOf (drop at l) ≡ some d k → eqb (getD l (at + k) 0) 40 ≡ true → itemOf (suc m) l at ≡ closed d l (listOf m l (at + k + 1))
+pub item-group : (m : ℕ) (l : List ℕ) (at : ℕ) (d : Count) (k : ℕ) → countOf (drop at l) ≡ some d k → eqb (getD l (at + k) 0) 40 ≡ true → itemOf (suc m) l at ≡ closed d l (listOf m l (at + k + 1))
 unfolding itemOf itemAfter
 item-group m l at d k e h = rw (e, h) refl
 
-item-none : (m : ℕ) (l : List ℕ) (at : ℕ) → countOf (drop at l) ≡ none → itemOf (suc m) l at ≡ none
+pub item-none : (m : ℕ) (l : List ℕ) (at : ℕ) → countOf (drop at l) ≡ none → itemOf (suc m) l at ≡ none
 unfolding itemOf itemAfter
 item-none m l at e = rw e refl
 
-list-last : (m : ℕ) (l : List ℕ) (at : ℕ) (t : Format) (k : ℕ) → itemOf m l at ≡ some t k → eqb (getD l k 0) 44 ≡ false → listOf (suc m) l at ≡ some t k
+pub list-last : (m : ℕ) (l : List ℕ) (at : ℕ) (t : Format) (k : ℕ) → itemOf m l at ≡ some t k → eqb (getD l k 0) 44 ≡ false → listOf (suc m) l at ≡ some t k
 unfolding listOf listAfter
 list-last m l at t k e h = rw (e, h) refl
 
-list-more : (m : ℕ) (l : List ℕ) (at : ℕ) (t : Format) (k : ℕ) → itemOf m l at ≡ some t k → eqb (getD l k 0) 44 ≡ true → listOf (suc m) l at ≡ joined t (listOf m l (k + 1))
+pub list-more : (m : ℕ) (l : List ℕ) (at : ℕ) (t : Format) (k : ℕ) → itemOf m l at ≡ some t k → eqb (getD l k 0) 44 ≡ true → listOf (suc m) l at ≡ joined t (listOf m l (k + 1))
 unfolding listOf listAfter
 list-more m l at t k e h = rw (e, h) refl
 
-list-none : (m : ℕ) (l : List ℕ) (at : ℕ) → itemOf m l at ≡ none → listOf (suc m) l at ≡ none
+pub list-none : (m : ℕ) (l : List ℕ) (at : ℕ) → itemOf m l at ≡ none → listOf (suc m) l at ≡ none
 unfolding listOf listAfter
 list-none m l at e = rw e refl
 
@@ -278,6 +278,7 @@ item-cases m l at t n lists (some d i) cx e = go (eqb (getD l (at + i) 0) 40) re
   where
     r : CountRead d i (drop at l)
     r = count-sound (drop at l) d i cx
+
     go : (b : Bool) → eqb (getD l (at + i) 0) 40 ≡ b → Read item t n l at
     go true h = group-item d i l at t n r (byte-there l (at + i) 39 h) (listOf m l (at + i + 1)) (λ u j q. lists (at + i + 1) u j q) (sym (item-group m l at d i cx h) ∙ e)
     go false h = leaf-item d i l at t n r (leafOf d (at + i) l) refl (sym (item-leaf m l at d i cx h) ∙ e)
@@ -289,12 +290,14 @@ list-cases m l at u n lists (some t k) ix items e = go (eqb (getD l k 0) 44) ref
   where
     r : Read item t k l at
     r = items t k refl
+
     go : (b : Bool) → eqb (getD l k 0) 44 ≡ b → Read list u n l at
     go true h = more-list l at t u k n r (byte-there l k 43 h) (listOf m l (k + 1)) (λ v j q. lists (k + 1) v j q) (sym (list-more m l at t k ix h) ∙ e)
     go false h = read-is (sym (list-last m l at t k ix h) ∙ e) (record { ws = r .ws; rest = r .rest; split = r .split; size = r .size; spelled = last (r .spelled) })
 
 mutual
   unfolding itemOf
+
   pub item-sound : (m : ℕ) (l : List ℕ) (at : ℕ) (t : Format) (n : ℕ) → itemOf m l at ≡ some t n → Read item t n l at
   item-sound zero l at t n e = never e
   item-sound (suc m) l at t n e = item-cases m l at t n (λ k u j q. list-sound m l k u j q) (countOf (drop at l)) refl e

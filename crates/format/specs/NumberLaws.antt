@@ -106,8 +106,10 @@ number-read (b ∷ l) (suc k) e h = go (eqb b 48 && ltb 1 (suc k)) refl h
   where
     taken : length (take k l) ≡ k
     taken = length-take-le k l (omega (arith, digitsBefore-most (b ∷ l)))
+
     digits : Digits 0 (b ∷ take k l) (run withDigit 0 (b ∷ take k l))
     digits = rw e at (digits-taken 0 (b ∷ l))
+
     go : (t : Bool) → (eqb b 48 && ltb 1 (suc k)) ≡ t
         → 0 < pick (eqb (suc k) 0) (numbered 0 0) (pick t (numbered 0 0) (numbered (run withDigit 0 (b ∷ take k l)) (suc k))) .used
         → NumberRead (pick (eqb (suc k) 0) (numbered 0 0) (pick t (numbered 0 0) (numbered (run withDigit 0 (b ∷ take k l)) (suc k))) .value) (pick (eqb (suc k) 0) (numbered 0 0) (pick t (numbered 0 0) (numbered (run withDigit 0 (b ∷ take k l)) (suc k))) .used) (b ∷ l)
@@ -117,7 +119,7 @@ number-read (b ∷ l) (suc k) e h = go (eqb b 48 && ltb 1 (suc k)) refl h
       rest = drop k l;
       split = ap (λ (r : List ℕ). b ∷ r) (sym (take-append-drop k l));
       size = ap suc taken;
-      numeral = numeral-from b _ (take k l) (eqb b 48) refl (rw taken z) digits
+      numeral = numeral-from b _ (take k l) (eqb b 48) refl (rw taken z) digits;
     })
 
 pub number-sound : (l : List ℕ) → 0 < numberOf l .used → NumberRead (numberOf l .value) (numberOf l .used) l

@@ -57,14 +57,17 @@ understood bytes = go (leb (length bytes) 120) refl
   where
     ws : List ℕ
     ws = unblanked bytes
+
     all : (t : Format) (k : ℕ) → leb (length bytes) 120 ≡ true → listOf (length ws + 1) ws 0 ≡ some t k → (b : Bool) → eqb k (length ws) ≡ b → Understood bytes
     all t k h e true q =
         let r : Read list t (length ws) ws 0 = rw (eqb-true k (length ws) q) at (list-sound (length ws + 1) ws 0 t k e) in
         is-text t (record { short = leb-true (length bytes) 120 h; spelled = whole-text t ws r })
     all t k h e false q = is-none (part-read bytes t k h e q)
+
     parse : leb (length bytes) 120 ≡ true → (p : Parsed) → listOf (length ws + 1) ws 0 ≡ p → Understood bytes
     parse h none e = is-none (none-read bytes h e)
     parse h (some t k) e = all t k h e (eqb k (length ws)) refl
+
     go : (b : Bool) → leb (length bytes) 120 ≡ b → Understood bytes
     go true h = parse h (listOf (length ws + 1) ws 0) refl
     go false h = is-none (long-read bytes h)
@@ -121,6 +124,7 @@ reading-sound bytes fs e = go (understood bytes)
     by-size t x (exceeds n q) =
         let apart : _≡_ {A = Reading} tooLarge (fields fs) = sym q ∙ sym (text-read x) ∙ e in
         let z : _≡_ {A = ℕ} 0 1 = cc in absurd (omega arith)
+
     go : Understood bytes → ReadAs fs bytes
     go (is-text t x) = by-size t x (sized t)
     go (is-none m) = let apart : _≡_ {A = Reading} malformed (fields fs) = sym m ∙ e in let z : _≡_ {A = ℕ} 0 1 = cc in absurd (omega arith)
@@ -154,6 +158,7 @@ large-reading bytes e = go (understood bytes)
     by-size t x (fits f q) =
         let apart : _≡_ {A = Reading} (fields (fieldsOf t)) tooLarge = sym q ∙ sym (text-read x) ∙ e in
         let z : _≡_ {A = ℕ} 0 1 = cc in absurd (omega arith)
+
     go : Understood bytes → TooLarge bytes
     go (is-text t x) = by-size t x (sized t)
     go (is-none m) = let apart : _≡_ {A = Reading} malformed tooLarge = sym m ∙ e in let z : _≡_ {A = ℕ} 0 1 = cc in absurd (omega arith)
