@@ -223,3 +223,17 @@ fn forms_of(kinds: [u8; 80]) -> [u8; 80]
     }
     forms
 }
+
+// The question: a field of a line lent alone, by a FORMAT and the field's number, counted from 0.
+pub fn ask(format: &[u8], line: &[u8], field: u32) -> FieldAnswer
+    ensures { λ r. ⌜ paperField r ≡ answerOf (now (format .entry)) field (now (line .entry)) ⌝ }
+{
+    let fields = format::read(format);
+    if 0 < fields.number {
+        return FieldAnswer::Refused(judge::bare_reply(fields.number, 0));
+    }
+    let kinds = fields.kinds;
+    let forms = forms_of(kinds);
+    let widths = fields.widths;
+    read_line(line, &forms, &widths, field as usize)
+}

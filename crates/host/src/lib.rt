@@ -227,6 +227,14 @@ fn answer_field(out: &mut [u8], a: FieldAnswer) -> u64
     }
 }
 
+// Document 02's question of C-15: a field, by its number from 0, of a line lent alone, as a FORMAT has it.
+#[no_mangle]
+pub extern "C" fn uff_field(format: &[u8], line: &[u8], field: u32, out: &mut [u8]) -> u64
+    ensures { λ r. ⌜ (r ≡ replyFor (fieldAnswer (answerOf (now (format .entry)) field (now (line .entry)))) (length (now (out .entry)))) × (now (out .exit) ≡ bytesAfter (fieldAnswer (answerOf (now (format .entry)) field (now (line .entry)))) (now (out .entry))) ⌝ }
+{
+    answer_field(out, format_reader::ask(format, line, field))
+}
+
 // Document 01's rewriter: the file in rewritten form into the bytes lent; its length.
 #[no_mangle]
 pub extern "C" fn uff_rewrite(file: &[u8], out: &mut [u8]) -> u64

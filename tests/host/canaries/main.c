@@ -42,7 +42,7 @@ static void check_texts(void)
 {
     name = "the table of texts";
     for (unsigned i = 0; i < 128; i++) {
-        bool in_table = i <= 25 || i == 127;
+        bool in_table = i <= 27 || i == 127;
         if ((strcmp(uff_text(i), uff_text(99)) != 0) != in_table)
             differs("a number without a text of its own");
         cases++;
