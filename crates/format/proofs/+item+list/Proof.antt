@@ -189,7 +189,8 @@ item-returns-3 : (t : ℕ) → item-lts.Need-returns-3 (
 item-returns-3 t c =
     let at-byte = c .before .before .before .before in
     let at-counted = at-byte .before .before .before in
-    item-grouped _ _ _ _ _ _ (at-counted .before .if1 .left) (at-counted .counted .ensures) (not-false _ (at-byte .before .if2 .left)) (sym (at-byte .byte-at .ensures) ∙ c .before .before .before .if3 .taken) (c .before .list .ensures) (c .measure-group .ensures)
+    item-grouped _ _ _ _ _ _ (at-counted .before .if1 .left) (at-counted .counted .ensures) (not-false _ (at-byte .before .if2 .left))
+    (sym (at-byte .byte-at .ensures) ∙ c .before .before .before .if3 .taken) (c .before .list .ensures) (c .measure-group .ensures)
 
 item-plain-requires : (t : ℕ) → item-lts.Need-plain-requires (
   counted-reads.Asked,
@@ -240,7 +241,8 @@ item-returns-4 : (t : ℕ) → item-lts.Need-returns-4 (
 item-returns-4 t c =
     let at-byte = c .before .before .before in
     let at-counted = at-byte .before .before .before in
-    item-plain _ _ _ _ _ _ (at-counted .before .if1 .left) (at-counted .counted .ensures) (not-false _ (at-byte .before .if2 .left)) (λ e. c .before .before .if3 .left (at-byte .byte-at .ensures ∙ e)) (c .before .plain .ensures) (c .measure-plain .ensures)
+    item-plain _ _ _ _ _ _ (at-counted .before .if1 .left) (at-counted .counted .ensures) (not-false _ (at-byte .before .if2 .left))
+    (λ e. c .before .before .if3 .left (at-byte .byte-at .ensures ∙ e)) (c .before .plain .ensures) (c .measure-plain .ensures)
 
 list-returns : (t : ℕ) → list-lts.Need-returns (
   item-below t,
@@ -366,7 +368,8 @@ list-returns-3 : (t : ℕ) → list-lts.Need-returns-3 (
 list-returns-3 t c =
     let at-byte = c .before .before .before .before in
     let at-item = at-byte .before .before .before in
-    list-comma _ _ _ _ _ _ (at-item .before .if1 .left) (at-item .item .ensures) (not-false _ (at-byte .before .if2 .left)) (sym (at-byte .byte-at .ensures) ∙ c .before .before .before .if3 .taken) (c .before .list .ensures) (c .measure-more .ensures)
+    list-comma _ _ _ _ _ _ (at-item .before .if1 .left) (at-item .item .ensures) (not-false _ (at-byte .before .if2 .left))
+    (sym (at-byte .byte-at .ensures) ∙ c .before .before .before .if3 .taken) (c .before .list .ensures) (c .measure-more .ensures)
 
 list-returns-4 : (t : ℕ) → list-lts.Need-returns-4 (
   item-below t,

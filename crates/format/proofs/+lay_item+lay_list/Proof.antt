@@ -247,7 +247,8 @@ lay-item-returns-3 : (t : ℕ) → lay-item-lts.Need-returns-3 (
 lay-item-returns-3 t c =
     let at-byte = c .before .before .before .before in
     let at-counted = at-byte .before .before .before in
-    item-grouped _ _ _ _ _ _ _ (at-counted .before .if1 .left) (at-counted .counted .ensures) (not-false _ (at-byte .before .if2 .left)) (sym (at-byte .byte-at .ensures) ∙ c .before .before .before .if3 .taken) (c .before .lay-list .ensures) (c .lay-group .ensures)
+    item-grouped _ _ _ _ _ _ _ (at-counted .before .if1 .left) (at-counted .counted .ensures) (not-false _ (at-byte .before .if2 .left))
+    (sym (at-byte .byte-at .ensures) ∙ c .before .before .before .if3 .taken) (c .before .lay-list .ensures) (c .lay-group .ensures)
 
 lay-item-plain-requires : (t : ℕ) → lay-item-lts.Need-plain-requires (
   nothing-reads.Asked,
@@ -304,7 +305,8 @@ lay-item-returns-4 : (t : ℕ) → lay-item-lts.Need-returns-4 (
 lay-item-returns-4 t c =
     let at-byte = c .before .before .before in
     let at-counted = at-byte .before .before .before in
-    item-plain _ _ _ _ _ _ _ (at-counted .before .if1 .left) (at-counted .counted .ensures) (not-false _ (at-byte .before .if2 .left)) (λ e. c .before .before .if3 .left (at-byte .byte-at .ensures ∙ e)) (c .before .plain .ensures) (c .lay-leaf .ensures)
+    item-plain _ _ _ _ _ _ _ (at-counted .before .if1 .left) (at-counted .counted .ensures) (not-false _ (at-byte .before .if2 .left))
+    (λ e. c .before .before .if3 .left (at-byte .byte-at .ensures ∙ e)) (c .before .plain .ensures) (c .lay-leaf .ensures)
 
 lay-list-nothing-requires : (t : ℕ) → lay-list-lts.Need-nothing-requires (
   nothing-reads.Asked,
@@ -444,7 +446,8 @@ lay-list-returns-3 : (t : ℕ) → lay-list-lts.Need-returns-3 (
 lay-list-returns-3 t c =
     let at-byte = c .before .before .before in
     let at-item = at-byte .before .before .before in
-    list-comma _ _ _ _ _ _ (at-item .before .if1 .left) (at-item .lay-item .ensures) (not-false _ (at-byte .before .if2 .left)) (sym (at-byte .byte-at .ensures) ∙ c .before .before .if3 .taken) (c .lay-list .ensures)
+    list-comma _ _ _ _ _ _ (at-item .before .if1 .left) (at-item .lay-item .ensures) (not-false _ (at-byte .before .if2 .left))
+    (sym (at-byte .byte-at .ensures) ∙ c .before .before .if3 .taken) (c .lay-list .ensures)
 
 lay-list-returns-4 : (t : ℕ) → lay-list-lts.Need-returns-4 (
   nothing-reads.Asked,

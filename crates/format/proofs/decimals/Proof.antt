@@ -36,7 +36,8 @@ decimals-by-requires c κs = search needs
 returns-2 : tie.Need-returns-2
 returns-2 c =
     let at-byte = c .before .before .before .before .before in
-    c .decimals-by .ensures ∙ ap (decimalsBy _ _) (c .before .number .ensures) ∙ decimalsLeaf-point _ _ (not-false _ (at-byte .before .if1 .left)) (sym (at-byte .byte-at .ensures) ∙ c .before .before .before .before .if2 .taken)
+    c .decimals-by .ensures ∙ ap (decimalsBy _ _) (c .before .number .ensures) ∙ decimalsLeaf-point _ _ (not-false _ (at-byte .before .if1 .left))
+    (sym (at-byte .byte-at .ensures) ∙ c .before .before .before .before .if2 .taken)
 
 returns-3 : tie.Need-returns-3
 returns-3 c = decimalsLeaf-pointless _ _ (not-false _ (c .before .before .if1 .left)) (λ e. c .if2 .left (c .before .byte-at .ensures ∙ e))

@@ -31,7 +31,8 @@ product-requires c κs = search needs
 returns-2 : tie.Need-returns-2
 returns-2 c =
     let at-byte = c .before .before .before .before .before in
-    closedMeasure-some _ _ _ _ _ _ (not-false _ (at-byte .before .if1 .left)) (sym (at-byte .byte-at .ensures) ∙ c .before .before .before .before .if2 .taken) (c .before .before .one-deeper .ensures) (c .before .group-depth .ensures) (c .product .ensures)
+    closedMeasure-some _ _ _ _ _ _ (not-false _ (at-byte .before .if1 .left)) (sym (at-byte .byte-at .ensures) ∙ c .before .before .before .before .if2 .taken)
+    (c .before .before .one-deeper .ensures) (c .before .group-depth .ensures) (c .product .ensures)
 
 returns-3 : tie.Need-returns-3
 returns-3 c = closedMeasure-open _ _ _ (not-false _ (c .before .before .if1 .left)) (λ e. c .if2 .left (c .before .byte-at .ensures ∙ e))

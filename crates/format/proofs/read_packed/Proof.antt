@@ -60,7 +60,8 @@ returns-5 c =
     let at-if3 = at-if4 .before .before in
     let at-if2 = at-if3 .before .before in
     let at-if1 = at-if2 .before .before in
-    answer-some _ _ (at-if1 .before .before .list .ensures) _ _ _ (not-false _ (at-if1 .if1 .left)) (at-if2 .if2 .left) (at-if3 .if3 .left) (at-if4 .if4 .left) (at-lay .before .no-fields .ensures) (at-lay .lay-list .ensures) (c .fields-of .ensures)
+    answer-some _ _ (at-if1 .before .before .list .ensures) _ _ _ (not-false _ (at-if1 .if1 .left)) (at-if2 .if2 .left) (at-if3 .if3 .left) (at-if4 .if4 .left)
+    (at-lay .before .no-fields .ensures) (at-lay .lay-list .ensures) (c .fields-of .ensures)
 
 pub read-packed-spec : {M : Type 1} → statement M
 read-packed-spec =
