@@ -29,7 +29,8 @@ pub list-zero : (n : ℕ) (l : List ℕ) (at : ℕ) (w : Row) (r : Laid) → n �
 unfolding itemOf laid
 list-zero n l at w r e q = rw e q
 
-pub item-uncounted : (n : ℕ) (l : List ℕ) (at : ℕ) (w : Row) (c : Tally) (r : Laid) → (n ≡ 0 → ⊥) → c ≡ tallyAt at (countOf (drop at l)) → c .found ≡ false → r ≡ unlaid → r ≡ laid w (itemOf n l at)
+pub item-uncounted : (n : ℕ) (l : List ℕ) (at : ℕ) (w : Row) (c : Tally) (r : Laid) → (n ≡ 0 → ⊥) → c ≡ tallyAt at (countOf (drop at l)) → c .found ≡ false → r ≡ unlaid
+    → r ≡ laid w (itemOf n l at)
 unfolding laid
 item-uncounted zero l at w c r z e h q = absurd (z refl)
 item-uncounted (suc m) l at w c r z e h q = go (countOf (drop at l)) refl
@@ -94,7 +95,8 @@ module _ (n : ℕ) (l : List ℕ) (at : ℕ) (w : Row) (i : Laid) (e : i ≡ lai
   empty-step r h q none s = q ∙ ap (laid w) (sym (list-none n l at s))
   empty-step r h q (some t k) s = false-not-true (sym h ∙ there w i t k (item-is ∙ ap (laid w) s))
 
-  comma-step : (r : Laid) → i .found ≡ true → getD l (i .at) 0 ≡ 44 → r ≡ laid (i .row) (listOf (suc n - 1) l (i .at + 1)) → (x : Parsed) → itemOf n l at ≡ x → r ≡ laid w (listOf (suc n) l at)
+  comma-step : (r : Laid) → i .found ≡ true → getD l (i .at) 0 ≡ 44 → r ≡ laid (i .row) (listOf (suc n - 1) l (i .at + 1)) → (x : Parsed) → itemOf n l at ≡ x
+      → r ≡ laid w (listOf (suc n) l at)
   comma-step r h b p none s = false-not-true (missing w i (item-is ∙ ap (laid w) s) h)
   comma-step r h b p (some t k) s =
       let is = item-is ∙ ap (laid w) s in
@@ -119,6 +121,7 @@ pub list-comma : (n : ℕ) (l : List ℕ) (at : ℕ) (w : Row) (i r : Laid) → 
 list-comma zero l at w i r z e h b p = absurd (z refl)
 list-comma (suc n) l at w i r z e h b p = comma-step n l at w i e r h b p (itemOf n l at) refl
 
-pub list-one : (n : ℕ) (l : List ℕ) (at : ℕ) (w : Row) (i : Laid) → (n ≡ 0 → ⊥) → i ≡ laid w (itemOf (n - 1) l at) → i .found ≡ true → (getD l (i .at) 0 ≡ 44 → ⊥) → i ≡ laid w (listOf n l at)
+pub list-one : (n : ℕ) (l : List ℕ) (at : ℕ) (w : Row) (i : Laid) → (n ≡ 0 → ⊥) → i ≡ laid w (itemOf (n - 1) l at) → i .found ≡ true → (getD l (i .at) 0 ≡ 44 → ⊥)
+    → i ≡ laid w (listOf n l at)
 list-one zero l at w i z e h b = absurd (z refl)
 list-one (suc n) l at w i z e h b = one-step n l at w i e h b (itemOf n l at) refl

@@ -84,7 +84,8 @@ leaf-complete c at l rest e h (reals {b} {w} {d} {ws} {ds} E wide n low) = rw (b
 leaf-complete c at l rest e h (reals {b} {w} {d} {ws} {ds} D wide n low) = rw (byte-at l at 68 _ e) (real-complete c at l rest e h (reals D wide n low))
 
 -- after 1P
-pub scaled-complete : {w : ℕ} {cs ps : List ℕ} {c : Count} (at : ℕ) (l rest : List ℕ) → drop at l ≡ 80 ∷ (cs ++ (ps ++ rest)) → digitsBefore rest ≡ 0 → digitsBefore (ps ++ rest) ≡ 0
+pub scaled-complete : {w : ℕ} {cs ps : List ℕ} {c : Count} (at : ℕ) (l rest : List ℕ) → drop at l ≡ 80 ∷ (cs ++ (ps ++ rest)) → digitsBefore rest ≡ 0
+    → digitsBefore (ps ++ rest) ≡ 0
     → Counted c cs → Plain real w ps → leafOf (times 1) at l ≡ some c real w (at + 1 + length cs + length ps)
 unfolding leafOf scaledOf isOne
 scaled-complete {w} {cs} {ps} {c} at l rest e h hp n p =
@@ -172,7 +173,8 @@ byte-there l at b h = go (ltb at (length l)) refl
     go false e = let z : _≡_ {A = ℕ} 0 (suc b) = sym (List·getD-eq-default l 0 (ltb-false at (length l) e)) ∙ is in absurd (omega arith)
 
 -- the point and decimals after a width
-point-sound : (d c : Count) (k : Kind) (w n at : ℕ) (b : ℕ) (l : List ℕ) → Letter b → drop at l ≡ b ∷ drop (at + 1) l → (x : Leaf) → widthOf d real (at + 1) l ≡ x → pointed x l ≡ some c k w n
+point-sound : (d c : Count) (k : Kind) (w n at : ℕ) (b : ℕ) (l : List ℕ) → Letter b → drop at l ≡ b ∷ drop (at + 1) l → (x : Leaf) → widthOf d real (at + 1) l ≡ x
+    → pointed x l ≡ some c k w n
     → (real ≡ k) × Tail d c real w n at l
 unfolding pointed
 point-sound d c k w n at b l letter from-letter none wx e = never e
@@ -203,7 +205,8 @@ pub real-sound : (d c : Count) (k : Kind) (w n at : ℕ) (l : List ℕ) → real
 unfolding realOf
 real-sound d c k w n at l e = go (eqb (getD l at 0) 69) refl e
   where
-    go : (t : Bool) → eqb (getD l at 0) 69 ≡ t → _≡_ {A = Leaf} (pick (t || eqb (getD l at 0) 68) (pointed (widthOf d real (at + 1) l) l) none) (some c k w n) → (real ≡ k) × Tail d c real w n at l
+    go : (t : Bool) → eqb (getD l at 0) 69 ≡ t → _≡_ {A = Leaf} (pick (t || eqb (getD l at 0) 68) (pointed (widthOf d real (at + 1) l) l) none) (some c k w n)
+        → (real ≡ k) × Tail d c real w n at l
     go true h e = point-sound d c k w n at 69 l E (byte-there l at 68 h) (widthOf d real (at + 1) l) refl e
     go false h e = other (eqb (getD l at 0) 68) refl e
       where
@@ -216,7 +219,8 @@ pub data LeafRead (d c : Count) (k : Kind) (w n at : ℕ) (l : List ℕ) : Type 
   as-counted : Tail d c k w n at l → LeafRead d c k w n at l
   as-scaled : (j : ℕ) → d ≡ times 1 → real ≡ k → drop at l ≡ 80 ∷ drop (at + 1) l → CountRead c j (drop (at + 1) l) → Tail c c real w n (at + 1 + j) l → LeafRead d c k w n at l
 
-width-tail : {d c : Count} {j k : Kind} {w n at b : ℕ} {l : List ℕ} → ((ws : List ℕ) → Width w ws → Plain j w (b ∷ ws)) → drop at l ≡ b ∷ drop (at + 1) l → WidthRead d c j k w n (at + 1) l → LeafRead d c k w n at l
+width-tail : {d c : Count} {j k : Kind} {w n at b : ℕ} {l : List ℕ} → ((ws : List ℕ) → Width w ws → Plain j w (b ∷ ws)) → drop at l ≡ b ∷ drop (at + 1) l
+    → WidthRead d c j k w n (at + 1) l → LeafRead d c k w n at l
 width-tail {d} {c} {j} {k} {w} {n} {at} {b} {l} plain-of first r =
     let size : at + suc (length (r .ws)) ≡ n = omega (arith, r .size) in
     rw (← r .kind) (as-counted (record {
@@ -231,7 +235,8 @@ width-tail {d} {c} {j} {k} {w} {n} {at} {b} {l} plain-of first r =
 real-tail : {d c : Count} {k : Kind} {w n at : ℕ} {l : List ℕ} → (real ≡ k) × Tail d c real w n at l → LeafRead d c k w n at l
 real-tail (e, r) = rw (← e) (as-counted r)
 
-scaled-tail : (d c : Count) (k : Kind) (w n at : ℕ) (l : List ℕ) → isOne d ≡ true → drop at l ≡ 80 ∷ drop (at + 1) l → (x : Counting) → countOf (drop (at + 1) l) ≡ x → scaledOf x (at + 1) l ≡ some c k w n → LeafRead d c k w n at l
+scaled-tail : (d c : Count) (k : Kind) (w n at : ℕ) (l : List ℕ) → isOne d ≡ true → drop at l ≡ 80 ∷ drop (at + 1) l → (x : Counting) → countOf (drop (at + 1) l) ≡ x
+    → scaledOf x (at + 1) l ≡ some c k w n → LeafRead d c k w n at l
 unfolding scaledOf isOne
 scaled-tail once c k w n at l one first x cx e = false-not-true one
 scaled-tail (times m) c k w n at l one first none cx e = never e
@@ -244,7 +249,8 @@ pub leaf-sound : (d c : Count) (k : Kind) (w n at : ℕ) (l : List ℕ) → leaf
 unfolding leafOf
 leaf-sound d c k w n at l e = x-or (eqb (getD l at 0) 88) refl e
   where
-    p-or : (t : Bool) → eqb (getD l at 0) 80 ≡ t → _≡_ {A = Leaf} (pick t (pick (isOne d) (scaledOf (countOf (drop (at + 1) l)) (at + 1) l) none) (realOf d at l)) (some c k w n) → LeafRead d c k w n at l
+    p-or : (t : Bool) → eqb (getD l at 0) 80 ≡ t
+        → _≡_ {A = Leaf} (pick t (pick (isOne d) (scaledOf (countOf (drop (at + 1) l)) (at + 1) l) none) (realOf d at l)) (some c k w n) → LeafRead d c k w n at l
     p-or true h e = one-or (isOne d) refl e
       where
         one-or : (t : Bool) → isOne d ≡ t → _≡_ {A = Leaf} (pick t (scaledOf (countOf (drop (at + 1) l)) (at + 1) l) none) (some c k w n) → LeafRead d c k w n at l
@@ -252,15 +258,18 @@ leaf-sound d c k w n at l e = x-or (eqb (getD l at 0) 88) refl e
         one-or false o e = never e
     p-or false h e = real-tail (real-sound d c k w n at l e)
 
-    a-or : (t : Bool) → eqb (getD l at 0) 65 ≡ t → _≡_ {A = Leaf} (pick t (widthOf d text (at + 1) l) (pick (eqb (getD l at 0) 80) (pick (isOne d) (scaledOf (countOf (drop (at + 1) l)) (at + 1) l) none) (realOf d at l))) (some c k w n) → LeafRead d c k w n at l
+    a-or : (t : Bool) → eqb (getD l at 0) 65 ≡ t
+        → _≡_ {A = Leaf} (pick t (widthOf d text (at + 1) l) (pick (eqb (getD l at 0) 80) (pick (isOne d) (scaledOf (countOf (drop (at + 1) l)) (at + 1) l) none) (realOf d at l))) (some c k w n) → LeafRead d c k w n at l
     a-or true h e = width-tail (λ ws. texts) (byte-there l at 64 h) (width-sound d c text k w n (at + 1) l e)
     a-or false h e = p-or (eqb (getD l at 0) 80) refl e
 
-    i-or : (t : Bool) → eqb (getD l at 0) 73 ≡ t → _≡_ {A = Leaf} (pick t (widthOf d integer (at + 1) l) (pick (eqb (getD l at 0) 65) (widthOf d text (at + 1) l) (pick (eqb (getD l at 0) 80) (pick (isOne d) (scaledOf (countOf (drop (at + 1) l)) (at + 1) l) none) (realOf d at l)))) (some c k w n) → LeafRead d c k w n at l
+    i-or : (t : Bool) → eqb (getD l at 0) 73 ≡ t
+        → _≡_ {A = Leaf} (pick t (widthOf d integer (at + 1) l) (pick (eqb (getD l at 0) 65) (widthOf d text (at + 1) l) (pick (eqb (getD l at 0) 80) (pick (isOne d) (scaledOf (countOf (drop (at + 1) l)) (at + 1) l) none) (realOf d at l)))) (some c k w n) → LeafRead d c k w n at l
     i-or true h e = width-tail (λ ws. integers) (byte-there l at 72 h) (width-sound d c integer k w n (at + 1) l e)
     i-or false h e = a-or (eqb (getD l at 0) 65) refl e
 
-    x-or : (t : Bool) → eqb (getD l at 0) 88 ≡ t → _≡_ {A = Leaf} (pick t (some d skip 1 (at + 1)) (pick (eqb (getD l at 0) 73) (widthOf d integer (at + 1) l) (pick (eqb (getD l at 0) 65) (widthOf d text (at + 1) l) (pick (eqb (getD l at 0) 80) (pick (isOne d) (scaledOf (countOf (drop (at + 1) l)) (at + 1) l) none) (realOf d at l))))) (some c k w n) → LeafRead d c k w n at l
+    x-or : (t : Bool) → eqb (getD l at 0) 88 ≡ t
+        → _≡_ {A = Leaf} (pick t (some d skip 1 (at + 1)) (pick (eqb (getD l at 0) 73) (widthOf d integer (at + 1) l) (pick (eqb (getD l at 0) 65) (widthOf d text (at + 1) l) (pick (eqb (getD l at 0) 80) (pick (isOne d) (scaledOf (countOf (drop (at + 1) l)) (at + 1) l) none) (realOf d at l))))) (some c k w n) → LeafRead d c k w n at l
     x-or true h e =
         let kind : skip ≡ k = cc in
         let one : 1 ≡ w = cc in

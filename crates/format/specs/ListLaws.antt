@@ -71,11 +71,13 @@ bracket-first t = refl
 
 -- One step of the reading, by what stands there.
 
-pub item-leaf : (m : ℕ) (l : List ℕ) (at : ℕ) (d : Count) (k : ℕ) → countOf (drop at l) ≡ some d k → eqb (getD l (at + k) 0) 40 ≡ false → itemOf (suc m) l at ≡ leaf (leafOf d (at + k) l)
+pub item-leaf : (m : ℕ) (l : List ℕ) (at : ℕ) (d : Count) (k : ℕ) → countOf (drop at l) ≡ some d k → eqb (getD l (at + k) 0) 40 ≡ false
+    → itemOf (suc m) l at ≡ leaf (leafOf d (at + k) l)
 unfolding itemOf itemAfter
 item-leaf m l at d k e h = rw (e, h) refl
 
-pub item-group : (m : ℕ) (l : List ℕ) (at : ℕ) (d : Count) (k : ℕ) → countOf (drop at l) ≡ some d k → eqb (getD l (at + k) 0) 40 ≡ true → itemOf (suc m) l at ≡ closed d l (listOf m l (at + k + 1))
+pub item-group : (m : ℕ) (l : List ℕ) (at : ℕ) (d : Count) (k : ℕ) → countOf (drop at l) ≡ some d k → eqb (getD l (at + k) 0) 40 ≡ true
+    → itemOf (suc m) l at ≡ closed d l (listOf m l (at + k + 1))
 unfolding itemOf itemAfter
 item-group m l at d k e h = rw (e, h) refl
 
@@ -164,7 +166,8 @@ more-read t u ts us m l at rest e first rests =
     let size : at + length ts + 1 + length us ≡ at + length (ts ++ (44 ∷ us)) = simp length-append (omega arith) in
     list-more m l at t (at + length ts) first byte ∙ ap (joined t) rests ∙ ap (some (join t u)) size
 
-pub read-complete : {s : Sort} {t : Format} {ws : List ℕ} → Spelled s t ws → (l : List ℕ) (at : ℕ) (rest : List ℕ) → drop at l ≡ ws ++ rest → Follows s rest → (n : ℕ) → bytes s ws ≤ n
+pub read-complete : {s : Sort} {t : Format} {ws : List ℕ} → Spelled s t ws → (l : List ℕ) (at : ℕ) (rest : List ℕ) → drop at l ≡ ws ++ rest → Follows s rest → (n : ℕ)
+    → bytes s ws ≤ n
     → parsed s n l at ≡ some t (at + length ws)
 read-complete (counted {cs = cs} {ps = ps} n p) l at rest e f zero h = absurd (omega (arith, length-append cs ps, plain-some p))
 read-complete (counted n p) l at rest e f (suc m) h = counted-read m l at rest e (follows-digits f) n p
@@ -222,7 +225,8 @@ scale-sound : {cs : List ℕ} {d : Count} → d ≡ times 1 → Counted d cs →
 scale-sound e left-out = let z : _≡_ {A = ℕ} 0 1 = cc in absurd (omega arith)
 scale-sound e (written {n} s ns) = let one : n ≡ 1 = cc in one-spelled one ns
 
-scaled-sound : {d c : Count} {w n at i : ℕ} {l : List ℕ} (j : ℕ) → d ≡ times 1 → drop (at + i) l ≡ 80 ∷ drop (at + i + 1) l → CountRead d i (drop at l) → CountRead c j (drop (at + i + 1) l)
+scaled-sound : {d c : Count} {w n at i : ℕ} {l : List ℕ} (j : ℕ) → d ≡ times 1 → drop (at + i) l ≡ 80 ∷ drop (at + i + 1) l → CountRead d i (drop at l)
+    → CountRead c j (drop (at + i + 1) l)
     → Tail c c real w n (at + i + 1 + j) l → Read item (plain c real w) n l at
 scaled-sound {d} {c} {w} {n} {at} {i} {l} j one first r q x =
     let ones = scale-sound one (r .counted) in
@@ -237,7 +241,8 @@ leaf-read : {d c : Count} {k : Kind} {w n at i : ℕ} {l : List ℕ} → CountRe
 leaf-read r (as-counted x) = counted-sound r x
 leaf-read r (as-scaled j one e first q x) = rw (← e) (scaled-sound j one first r q x)
 
-leaf-item : (d : Count) (i : ℕ) (l : List ℕ) (at : ℕ) (t : Format) (n : ℕ) → CountRead d i (drop at l) → (x : Leaf) → leafOf d (at + i) l ≡ x → leaf x ≡ some t n → Read item t n l at
+leaf-item : (d : Count) (i : ℕ) (l : List ℕ) (at : ℕ) (t : Format) (n : ℕ) → CountRead d i (drop at l) → (x : Leaf) → leafOf d (at + i) l ≡ x → leaf x ≡ some t n
+    → Read item t n l at
 unfolding leaf
 leaf-item d i l at t n r none lx e = never e
 leaf-item d i l at t n r (some c k w j) lx e = read-is e (leaf-read r (leaf-sound d c k w j (at + i) l lx))

@@ -60,7 +60,8 @@ pub joinedMeasure-none : (i m : Measure) → m .found ≡ false → unmeasured �
 unfolding joinedMeasure
 joinedMeasure-none i m e = rw e refl
 
-pub joinedMeasure-some : (i m : Measure) (d g n : ℕ) → m .found ≡ true → d ≡ highest (i .depth) (m .depth) → g ≡ highest (i .depth) (m .depth) → n ≡ capped (i .columns + m .columns)
+pub joinedMeasure-some : (i m : Measure) (d g n : ℕ) → m .found ≡ true → d ≡ highest (i .depth) (m .depth) → g ≡ highest (i .depth) (m .depth)
+    → n ≡ capped (i .columns + m .columns)
     → aMeasure (m .at) d g n ≡ joinedMeasure i m
 unfolding joinedMeasure
 joinedMeasure-some i m d g n e p q r = rw (e, p, q, r) refl
@@ -121,7 +122,8 @@ module _ (l : List ℕ) (at past : ℕ) (end : past ≡ at + digitsBefore (drop 
       let same : at ≡ at + 0 = omega arith in
       rw (some-there, leading) (ap (λ (k : ℕ). figureOf 0 k) same)
 
-  pub figure-some : (b v : ℕ) → at < past → b ≡ getD l at 0 → eqb b 48 && ltb 1 (past - at) ≡ false → v ≡ run keptDigit 0 (take (past - at) (drop at l)) → figureOf v past ≡ figure at l
+  pub figure-some : (b v : ℕ) → at < past → b ≡ getD l at 0 → eqb b 48 && ltb 1 (past - at) ≡ false → v ≡ run keptDigit 0 (take (past - at) (drop at l))
+      → figureOf v past ≡ figure at l
   unfolding figureAt numberOf numberIn
   figure-some b v h e z r =
       let some-there : eqb (digitsBefore (drop at l)) 0 ≡ false = ne-eqb (digitsBefore (drop at l)) 0 (λ q. omega (arith, end)) in
@@ -184,13 +186,15 @@ letter-in l at b e h = go (eqb b 69) refl h
     go true q h = in-text l at 68 (sym e ∙ eqb-true b 69 q)
     go false q h = in-text l at 67 (sym e ∙ eqb-true b 68 h)
 
-pub realLeaf-is : (n at b : ℕ) (l : List ℕ) (i r : code.Leaf) → b ≡ getD l at 0 → eqb b 69 || eqb b 68 ≡ true → i ≡ sizedLeaf 3 n (at + 1) l → r ≡ decimalsLeaf i l → r ≡ realLeaf n at l
+pub realLeaf-is : (n at b : ℕ) (l : List ℕ) (i r : code.Leaf) → b ≡ getD l at 0 → eqb b 69 || eqb b 68 ≡ true → i ≡ sizedLeaf 3 n (at + 1) l → r ≡ decimalsLeaf i l
+    → r ≡ realLeaf n at l
 realLeaf-is n at b l i r e h p q = q ∙ ap (λ (x : code.Leaf). decimalsLeaf x l) p ∙ realLeaf-letter n at b l e h
 
 pub scaledLeaf-none : (at : ℕ) (l : List ℕ) (c : Tally) → c ≡ tallyAt at (countOf (drop at l)) → c .found ≡ false → noLeaf ≡ scaledLeaf at l
 scaledLeaf-none at l c e h = scaledBy-none c l h ∙ ap (λ (x : Tally). scaledBy x l) e
 
-pub scaledLeaf-some : (at : ℕ) (l : List ℕ) (c : Tally) (r : code.Leaf) → c ≡ tallyAt at (countOf (drop at l)) → c .found ≡ true → r ≡ realLeaf (c .count) (c .at) l → r ≡ scaledLeaf at l
+pub scaledLeaf-some : (at : ℕ) (l : List ℕ) (c : Tally) (r : code.Leaf) → c ≡ tallyAt at (countOf (drop at l)) → c .found ≡ true → r ≡ realLeaf (c .count) (c .at) l
+    → r ≡ scaledLeaf at l
 scaledLeaf-some at l c r e h q = q ∙ scaledBy-some c l h ∙ ap (λ (x : Tally). scaledBy x l) e
 
 module _ (c : Tally) (l : List ℕ) (b : ℕ) (byte : b ≡ getD l (c .at) 0) where

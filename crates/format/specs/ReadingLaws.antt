@@ -48,7 +48,8 @@ none-read : (bytes : List ℕ) → leb (length bytes) 120 ≡ true → listOf (l
 unfolding readingOf packedReading wholeOf
 none-read bytes h e = rw (h, e) refl
 
-part-read : (bytes : List ℕ) (t : Format) (k : ℕ) → leb (length bytes) 120 ≡ true → listOf (length (unblanked bytes) + 1) (unblanked bytes) 0 ≡ some t k → eqb k (length (unblanked bytes)) ≡ false → readingOf bytes ≡ malformed
+part-read : (bytes : List ℕ) (t : Format) (k : ℕ) → leb (length bytes) 120 ≡ true → listOf (length (unblanked bytes) + 1) (unblanked bytes) 0 ≡ some t k
+    → eqb k (length (unblanked bytes)) ≡ false → readingOf bytes ≡ malformed
 unfolding readingOf packedReading wholeOf
 part-read bytes t k h e q = rw (h, e, q) refl
 

@@ -31,7 +31,8 @@ unfolding pushed
 pushed-full r k w h = rw (le-ltb (r .count) 80 h) refl
 
 -- a loop over fields: one more, the last place, the end
-pub againRow-next : (past j : ℕ) (ks ws : List ℕ) (r : Row) → j < past → j < 80 → againRow (past - j) j ks ws r ≡ againRow (past - (j + 1)) (j + 1) ks ws (pushed r (getD ks j 0) (getD ws j 0))
+pub againRow-next : (past j : ℕ) (ks ws : List ℕ) (r : Row) → j < past → j < 80
+    → againRow (past - j) j ks ws r ≡ againRow (past - (j + 1)) (j + 1) ks ws (pushed r (getD ks j 0) (getD ws j 0))
 unfolding againRow
 againRow-next past j ks ws r h g = let one : past - j ≡ suc (past - (j + 1)) = omega arith in rw (one, lt-ltb j 80 g) refl
 
@@ -44,7 +45,8 @@ pub againRow-end : (past j : ℕ) (ks ws : List ℕ) (r : Row) → past ≤ j �
 unfolding againRow
 againRow-end past j ks ws r h = let none-left : past - j ≡ 0 = omega arith in rw none-left refl
 
-pub repeatRow-next : (n i from : ℕ) (source r : Row) → i < n → repeatRow (n - i) from source r ≡ repeatRow (n - (i + 1)) from source (againRow (source .count - from) from (source .kinds) (source .widths) r)
+pub repeatRow-next : (n i from : ℕ) (source r : Row) → i < n
+    → repeatRow (n - i) from source r ≡ repeatRow (n - (i + 1)) from source (againRow (source .count - from) from (source .kinds) (source .widths) r)
 unfolding repeatRow
 repeatRow-next n i from source r h = let one : n - i ≡ suc (n - (i + 1)) = omega arith in rw one refl
 
@@ -78,7 +80,8 @@ pub closedLaid-open : (from : ℕ) (c : Tally) (l : List ℕ) (m x : Laid) → x
 unfolding closedLaid
 closedLaid-open from c l m x p e h = rw (e, ne-eqb (getD l (m .at) 0) 41 h) p
 
-pub closedLaid-some : (from : ℕ) (c : Tally) (l : List ℕ) (m : Laid) (s : Row) → m .found ≡ true → getD l (m .at) 0 ≡ 41 → s ≡ repeatRow (c .count - 1) from (m .row) (m .row) → aLaid (m .at + 1) s ≡ closedLaid from c l m
+pub closedLaid-some : (from : ℕ) (c : Tally) (l : List ℕ) (m : Laid) (s : Row) → m .found ≡ true → getD l (m .at) 0 ≡ 41
+    → s ≡ repeatRow (c .count - 1) from (m .row) (m .row) → aLaid (m .at + 1) s ≡ closedLaid from c l m
 unfolding closedLaid
 closedLaid-some from c l m s e h q = rw (e, eq-eqb (getD l (m .at) 0) 41 h, q) refl
 
@@ -127,7 +130,8 @@ unblanked-next l out i n h g e =
     b : ℕ
     b = getD l i 0
 
-    go : (t : Bool) → unblanked (take (i + 1) l) ≡ pick t (unblanked (take i l)) (unblanked (take i l) ++ (b ∷ [])) → take (pick t n (n + 1)) (set out n b) ≡ unblanked (take (i + 1) l)
+    go : (t : Bool) → unblanked (take (i + 1) l) ≡ pick t (unblanked (take i l)) (unblanked (take i l) ++ (b ∷ []))
+        → take (pick t n (n + 1)) (set out n b) ≡ unblanked (take (i + 1) l)
     go true q = take-set-le n out n b (omega arith) ∙ e ∙ sym q
     go false q = rw add-one (take-suc-set out n b g) ∙ ap (λ (x : List ℕ). x ++ (b ∷ [])) e ∙ sym q
 
@@ -218,7 +222,8 @@ row-repeated (suc m) fs gs hs h k =
     rw (those, row-again fs gs hs h once-more) (row-repeated m fs gs (hs ++ gs) h grown ∙ ap rowOf (append-assoc hs gs (repeated m gs)))
 
 -- fields n times, n from 1
-pub row-times : (n : ℕ) (fs gs : List Field) → 1 ≤ n → length fs + n * length gs ≤ 80 → repeatRow (n - 1) (length fs) (rowOf (fs ++ gs)) (rowOf (fs ++ gs)) ≡ rowOf (fs ++ repeated n gs)
+pub row-times : (n : ℕ) (fs gs : List Field) → 1 ≤ n → length fs + n * length gs ≤ 80
+    → repeatRow (n - 1) (length fs) (rowOf (fs ++ gs)) (rowOf (fs ++ gs)) ≡ rowOf (fs ++ repeated n gs)
 unfolding repeated
 row-times zero fs gs h k = absurd (omega arith)
 row-times (suc m) fs gs h k =

@@ -115,9 +115,11 @@ list-comma (suc n) l at i m r z e h b p q = go (itemOf n l at) refl
         let is = item-is ∙ ap measured s in
         let comma : eqb (getD l k 0) 44 ≡ true = eq-eqb (getD l k 0) 44 (ap (λ (x : ℕ). getD l x 0) (sym (place i t k is)) ∙ b) in
         let rest : m ≡ measured (listOf n l (k + 1)) = p ∙ ap (λ (x : ℕ). measured (listOf x l (i .at + 1))) (fewer n) ∙ ap (λ (x : ℕ). measured (listOf n l (x + 1))) (place i t k is) in
-        q ∙ ap (λ (x : Measure). joinedMeasure x m) is ∙ ap (joinedMeasure (measured (some t k))) rest ∙ sym (measured-joined t k (listOf n l (k + 1))) ∙ ap measured (sym (list-more n l at t k s comma))
+        q ∙ ap (λ (x : Measure). joinedMeasure x m) is ∙ ap (joinedMeasure (measured (some t k))) rest ∙ sym
+        (measured-joined t k (listOf n l (k + 1))) ∙ ap measured (sym (list-more n l at t k s comma))
 
-pub list-one : (n : ℕ) (l : List ℕ) (at : ℕ) (i : Measure) → (n ≡ 0 → ⊥) → i ≡ measured (itemOf (n - 1) l at) → i .found ≡ true → (getD l (i .at) 0 ≡ 44 → ⊥) → i ≡ measured (listOf n l at)
+pub list-one : (n : ℕ) (l : List ℕ) (at : ℕ) (i : Measure) → (n ≡ 0 → ⊥) → i ≡ measured (itemOf (n - 1) l at) → i .found ≡ true → (getD l (i .at) 0 ≡ 44 → ⊥)
+    → i ≡ measured (listOf n l at)
 list-one zero l at i z e h b = absurd (z refl)
 list-one (suc n) l at i z e h b = go (itemOf n l at) refl
   where

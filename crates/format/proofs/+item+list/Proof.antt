@@ -1,5 +1,6 @@
+-- `format::item` and `format::list` meet their contracts, bytes left falling.
 use borrow.Author.Tests.{not-true, not-false}
-use mathlib.Core.Path.{_≡_, sym, _∙_}
+use mathlib.Core.Path.{sym, _∙_}
 use Rattle.format.specs.MeasuredLaws.{in-text}
 use Rattle.format.specs.StepLaws.{item-zero, item-uncounted, item-grouped, item-plain, list-zero, list-empty, list-comma, list-one}
 use borrow.Author.Needs.{needs}
@@ -40,7 +41,6 @@ list-at t = and 1 list-kinds.ps (is 1 list-kinds.ps μ-list t) list.Pre
 abbrev list-below : ℕ → In 1 list-kinds.ps
 list-below t = and 1 list-kinds.ps (falls 1 list-kinds.ps _<_ μ-list t) list.Pre
 
--- src/lib.rt:378:9
 item-returns : (t : ℕ) → item-lts.Need-returns (
   counted-reads.Asked,
   counted-reads.Learnt,
@@ -57,7 +57,6 @@ item-returns : (t : ℕ) → item-lts.Need-returns (
 ) (item-at t) item.Post
 item-returns t c = item-zero _ _ _ (c .if1 .taken)
 
--- src/lib.rt:380:9
 item-counted-requires : (t : ℕ) → item-lts.Need-counted-requires (
   counted-reads.Asked,
   counted-reads.Learnt,
@@ -74,7 +73,6 @@ item-counted-requires : (t : ℕ) → item-lts.Need-counted-requires (
 ) (item-at t) item.Post
 item-counted-requires t c κs = search needs
 
--- src/lib.rt:382:9
 item-returns-2 : (t : ℕ) → item-lts.Need-returns-2 (
   counted-reads.Asked,
   counted-reads.Learnt,
@@ -91,7 +89,6 @@ item-returns-2 : (t : ℕ) → item-lts.Need-returns-2 (
 ) (item-at t) item.Post
 item-returns-2 t c = item-uncounted _ _ _ _ (c .before .before .before .if1 .left) (c .before .before .counted .ensures) (not-true _ (c .if2 .taken))
 
--- src/lib.rt:384:8
 item-byte-at-requires : (t : ℕ) → item-lts.Need-byte-at-requires (
   counted-reads.Asked,
   counted-reads.Learnt,
@@ -108,7 +105,6 @@ item-byte-at-requires : (t : ℕ) → item-lts.Need-byte-at-requires (
 ) (item-at t) item.Post
 item-byte-at-requires t c κs = search needs
 
--- src/lib.rt:385:44
 item-add-list : (t : ℕ) → item-lts.Need-add-list (
   counted-reads.Asked,
   counted-reads.Learnt,
@@ -128,7 +124,6 @@ item-add-list t c =
     let at-start = at-counted .before .before .before in
     omega (arith, in-text (at-start .args .s .now) (at-counted .counted .result .at) 39 (sym (c .before .before .byte-at .ensures) ∙ c .before .if3 .taken))
 
--- src/lib.rt:385:54
 item-sub-list : (t : ℕ) → item-lts.Need-sub-list (
   counted-reads.Asked,
   counted-reads.Learnt,
@@ -145,7 +140,6 @@ item-sub-list : (t : ℕ) → item-lts.Need-sub-list (
 ) (item-at t) item.Post
 item-sub-list t c = search needs
 
--- src/lib.rt:385:36
 item-list-requires : (t : ℕ) → item-lts.Need-list-requires (
   counted-reads.Asked,
   counted-reads.Learnt,
@@ -162,7 +156,6 @@ item-list-requires : (t : ℕ) → item-lts.Need-list-requires (
 ) (item-at t) item.Post
 item-list-requires t c κs = (omega arith, tt)
 
--- src/lib.rt:385:9
 item-measure-group-requires : (t : ℕ) → item-lts.Need-measure-group-requires (
   counted-reads.Asked,
   counted-reads.Learnt,
@@ -179,7 +172,6 @@ item-measure-group-requires : (t : ℕ) → item-lts.Need-measure-group-requires
 ) (item-at t) item.Post
 item-measure-group-requires t c κs = search needs
 
--- src/lib.rt:385:9
 item-returns-3 : (t : ℕ) → item-lts.Need-returns-3 (
   counted-reads.Asked,
   counted-reads.Learnt,
@@ -197,9 +189,9 @@ item-returns-3 : (t : ℕ) → item-lts.Need-returns-3 (
 item-returns-3 t c =
     let at-byte = c .before .before .before .before in
     let at-counted = at-byte .before .before .before in
-    item-grouped _ _ _ _ _ _ (at-counted .before .if1 .left) (at-counted .counted .ensures) (not-false _ (at-byte .before .if2 .left)) (sym (at-byte .byte-at .ensures) ∙ c .before .before .before .if3 .taken) (c .before .list .ensures) (c .measure-group .ensures)
+    item-grouped _ _ _ _ _ _ (at-counted .before .if1 .left) (at-counted .counted .ensures) (not-false _ (at-byte .before .if2 .left))
+    (sym (at-byte .byte-at .ensures) ∙ c .before .before .before .if3 .taken) (c .before .list .ensures) (c .measure-group .ensures)
 
--- src/lib.rt:387:19
 item-plain-requires : (t : ℕ) → item-lts.Need-plain-requires (
   counted-reads.Asked,
   counted-reads.Learnt,
@@ -216,7 +208,6 @@ item-plain-requires : (t : ℕ) → item-lts.Need-plain-requires (
 ) (item-at t) item.Post
 item-plain-requires t c κs = search needs
 
--- src/lib.rt:387:5
 item-measure-plain-requires : (t : ℕ) → item-lts.Need-measure-plain-requires (
   counted-reads.Asked,
   counted-reads.Learnt,
@@ -233,7 +224,6 @@ item-measure-plain-requires : (t : ℕ) → item-lts.Need-measure-plain-requires
 ) (item-at t) item.Post
 item-measure-plain-requires t c κs = search needs
 
--- src/lib.rt:374:1
 item-returns-4 : (t : ℕ) → item-lts.Need-returns-4 (
   counted-reads.Asked,
   counted-reads.Learnt,
@@ -251,9 +241,9 @@ item-returns-4 : (t : ℕ) → item-lts.Need-returns-4 (
 item-returns-4 t c =
     let at-byte = c .before .before .before in
     let at-counted = at-byte .before .before .before in
-    item-plain _ _ _ _ _ _ (at-counted .before .if1 .left) (at-counted .counted .ensures) (not-false _ (at-byte .before .if2 .left)) (λ e. c .before .before .if3 .left (at-byte .byte-at .ensures ∙ e)) (c .before .plain .ensures) (c .measure-plain .ensures)
+    item-plain _ _ _ _ _ _ (at-counted .before .if1 .left) (at-counted .counted .ensures) (not-false _ (at-byte .before .if2 .left))
+    (λ e. c .before .before .if3 .left (at-byte .byte-at .ensures ∙ e)) (c .before .plain .ensures) (c .measure-plain .ensures)
 
--- src/lib.rt:395:9
 list-returns : (t : ℕ) → list-lts.Need-returns (
   item-below t,
   item.Post,
@@ -266,7 +256,6 @@ list-returns : (t : ℕ) → list-lts.Need-returns (
 ) (list-at t) list.Post
 list-returns t c = list-zero _ _ _ (c .if1 .taken)
 
--- src/lib.rt:397:25
 list-sub-item : (t : ℕ) → list-lts.Need-sub-item (
   item-below t,
   item.Post,
@@ -279,7 +268,6 @@ list-sub-item : (t : ℕ) → list-lts.Need-sub-item (
 ) (list-at t) list.Post
 list-sub-item t c = search needs
 
--- src/lib.rt:397:9
 list-item-requires : (t : ℕ) → list-lts.Need-item-requires (
   item-below t,
   item.Post,
@@ -292,7 +280,6 @@ list-item-requires : (t : ℕ) → list-lts.Need-item-requires (
 ) (list-at t) list.Post
 list-item-requires t c κs = (omega arith, tt)
 
--- src/lib.rt:399:9
 list-returns-2 : (t : ℕ) → list-lts.Need-returns-2 (
   item-below t,
   item.Post,
@@ -305,7 +292,6 @@ list-returns-2 : (t : ℕ) → list-lts.Need-returns-2 (
 ) (list-at t) list.Post
 list-returns-2 t c = list-empty _ _ _ _ (c .before .before .before .if1 .left) (c .before .before .item .ensures) (not-true _ (c .if2 .taken))
 
--- src/lib.rt:401:8
 list-byte-at-requires : (t : ℕ) → list-lts.Need-byte-at-requires (
   item-below t,
   item.Post,
@@ -318,7 +304,6 @@ list-byte-at-requires : (t : ℕ) → list-lts.Need-byte-at-requires (
 ) (list-at t) list.Post
 list-byte-at-requires t c κs = search needs
 
--- src/lib.rt:402:40
 list-add-list : (t : ℕ) → list-lts.Need-add-list (
   item-below t,
   item.Post,
@@ -334,7 +319,6 @@ list-add-list t c =
     let at-start = at-item .before .before .before in
     omega (arith, in-text (at-start .args .s .now) (at-item .item .result .at) 43 (sym (c .before .before .byte-at .ensures) ∙ c .before .if3 .taken))
 
--- src/lib.rt:402:50
 list-sub-list : (t : ℕ) → list-lts.Need-sub-list (
   item-below t,
   item.Post,
@@ -347,7 +331,6 @@ list-sub-list : (t : ℕ) → list-lts.Need-sub-list (
 ) (list-at t) list.Post
 list-sub-list t c = search needs
 
--- src/lib.rt:402:32
 list-list-requires : (t : ℕ) → list-lts.Need-list-requires (
   item-below t,
   item.Post,
@@ -360,7 +343,6 @@ list-list-requires : (t : ℕ) → list-lts.Need-list-requires (
 ) (list-at t) list.Post
 list-list-requires t c κs = (omega arith, tt)
 
--- src/lib.rt:402:9
 list-measure-more-requires : (t : ℕ) → list-lts.Need-measure-more-requires (
   item-below t,
   item.Post,
@@ -373,7 +355,6 @@ list-measure-more-requires : (t : ℕ) → list-lts.Need-measure-more-requires (
 ) (list-at t) list.Post
 list-measure-more-requires t c κs = search needs
 
--- src/lib.rt:402:9
 list-returns-3 : (t : ℕ) → list-lts.Need-returns-3 (
   item-below t,
   item.Post,
@@ -387,9 +368,9 @@ list-returns-3 : (t : ℕ) → list-lts.Need-returns-3 (
 list-returns-3 t c =
     let at-byte = c .before .before .before .before in
     let at-item = at-byte .before .before .before in
-    list-comma _ _ _ _ _ _ (at-item .before .if1 .left) (at-item .item .ensures) (not-false _ (at-byte .before .if2 .left)) (sym (at-byte .byte-at .ensures) ∙ c .before .before .before .if3 .taken) (c .before .list .ensures) (c .measure-more .ensures)
+    list-comma _ _ _ _ _ _ (at-item .before .if1 .left) (at-item .item .ensures) (not-false _ (at-byte .before .if2 .left))
+    (sym (at-byte .byte-at .ensures) ∙ c .before .before .before .if3 .taken) (c .before .list .ensures) (c .measure-more .ensures)
 
--- src/lib.rt:391:1
 list-returns-4 : (t : ℕ) → list-lts.Need-returns-4 (
   item-below t,
   item.Post,

@@ -1,5 +1,6 @@
+-- `format::lay_item` and `format::lay_list` meet their contracts, bytes left falling.
 use borrow.Author.Tests.{not-true, not-false}
-use mathlib.Core.Path.{_≡_, sym, _∙_}
+use mathlib.Core.Path.{sym, _∙_}
 use Rattle.format.specs.MeasuredLaws.{in-text}
 use Rattle.format.specs.LayLaws.{item-zero, item-uncounted, item-grouped, item-plain, list-zero, list-empty, list-comma, list-one}
 use borrow.Author.Needs.{needs}
@@ -42,7 +43,6 @@ abbrev lay-list-below : ℕ → In 1 lay-list-kinds.ps
 lay-list-below t =
     and 1 lay-list-kinds.ps (falls 1 lay-list-kinds.ps _<_ μ-lay-list t) lay-list.Pre
 
--- src/lib.rt:542:9
 lay-item-nothing-requires : (t : ℕ) → lay-item-lts.Need-nothing-requires (
   nothing-reads.Asked,
   nothing-reads.Learnt,
@@ -61,7 +61,6 @@ lay-item-nothing-requires : (t : ℕ) → lay-item-lts.Need-nothing-requires (
 ) (lay-item-at t) lay-item.Post
 lay-item-nothing-requires t c κs = search needs
 
--- src/lib.rt:542:9
 lay-item-returns : (t : ℕ) → lay-item-lts.Need-returns (
   nothing-reads.Asked,
   nothing-reads.Learnt,
@@ -80,7 +79,6 @@ lay-item-returns : (t : ℕ) → lay-item-lts.Need-returns (
 ) (lay-item-at t) lay-item.Post
 lay-item-returns t c = item-zero _ _ _ _ _ (c .before .if1 .taken) (c .nothing .ensures)
 
--- src/lib.rt:544:9
 lay-item-counted-requires : (t : ℕ) → lay-item-lts.Need-counted-requires (
   nothing-reads.Asked,
   nothing-reads.Learnt,
@@ -99,7 +97,6 @@ lay-item-counted-requires : (t : ℕ) → lay-item-lts.Need-counted-requires (
 ) (lay-item-at t) lay-item.Post
 lay-item-counted-requires t c κs = search needs
 
--- src/lib.rt:546:9
 lay-item-nothing-requires-2 : (t : ℕ) → lay-item-lts.Need-nothing-requires-2 (
   nothing-reads.Asked,
   nothing-reads.Learnt,
@@ -118,7 +115,6 @@ lay-item-nothing-requires-2 : (t : ℕ) → lay-item-lts.Need-nothing-requires-2
 ) (lay-item-at t) lay-item.Post
 lay-item-nothing-requires-2 t c κs = search needs
 
--- src/lib.rt:546:9
 lay-item-returns-2 : (t : ℕ) → lay-item-lts.Need-returns-2 (
   nothing-reads.Asked,
   nothing-reads.Learnt,
@@ -139,7 +135,6 @@ lay-item-returns-2 t c =
     let at-counted = c .before .before .before in
     item-uncounted _ _ _ _ _ _ (at-counted .before .if1 .left) (at-counted .counted .ensures) (not-true _ (c .before .if2 .taken)) (c .nothing2 .ensures)
 
--- src/lib.rt:548:8
 lay-item-byte-at-requires : (t : ℕ) → lay-item-lts.Need-byte-at-requires (
   nothing-reads.Asked,
   nothing-reads.Learnt,
@@ -158,7 +153,6 @@ lay-item-byte-at-requires : (t : ℕ) → lay-item-lts.Need-byte-at-requires (
 ) (lay-item-at t) lay-item.Post
 lay-item-byte-at-requires t c κs = search needs
 
--- src/lib.rt:549:55
 lay-item-add-lay-list : (t : ℕ) → lay-item-lts.Need-add-lay-list (
   nothing-reads.Asked,
   nothing-reads.Learnt,
@@ -180,7 +174,6 @@ lay-item-add-lay-list t c =
     let at-start = at-counted .before .before .before in
     omega (arith, in-text (at-start .args .s .now) (at-counted .counted .result .at) 39 (sym (c .before .before .byte-at .ensures) ∙ c .before .if3 .taken))
 
--- src/lib.rt:549:65
 lay-item-sub-lay-list : (t : ℕ) → lay-item-lts.Need-sub-lay-list (
   nothing-reads.Asked,
   nothing-reads.Learnt,
@@ -199,7 +192,6 @@ lay-item-sub-lay-list : (t : ℕ) → lay-item-lts.Need-sub-lay-list (
 ) (lay-item-at t) lay-item.Post
 lay-item-sub-lay-list t c = search needs
 
--- src/lib.rt:549:43
 lay-item-lay-list-requires : (t : ℕ) → lay-item-lts.Need-lay-list-requires (
   nothing-reads.Asked,
   nothing-reads.Learnt,
@@ -218,7 +210,6 @@ lay-item-lay-list-requires : (t : ℕ) → lay-item-lts.Need-lay-list-requires (
 ) (lay-item-at t) lay-item.Post
 lay-item-lay-list-requires t c κs = (omega arith, tt)
 
--- src/lib.rt:549:9
 lay-item-lay-group-requires : (t : ℕ) → lay-item-lts.Need-lay-group-requires (
   nothing-reads.Asked,
   nothing-reads.Learnt,
@@ -237,7 +228,6 @@ lay-item-lay-group-requires : (t : ℕ) → lay-item-lts.Need-lay-group-requires
 ) (lay-item-at t) lay-item.Post
 lay-item-lay-group-requires t c κs = search needs
 
--- src/lib.rt:549:9
 lay-item-returns-3 : (t : ℕ) → lay-item-lts.Need-returns-3 (
   nothing-reads.Asked,
   nothing-reads.Learnt,
@@ -257,9 +247,9 @@ lay-item-returns-3 : (t : ℕ) → lay-item-lts.Need-returns-3 (
 lay-item-returns-3 t c =
     let at-byte = c .before .before .before .before in
     let at-counted = at-byte .before .before .before in
-    item-grouped _ _ _ _ _ _ _ (at-counted .before .if1 .left) (at-counted .counted .ensures) (not-false _ (at-byte .before .if2 .left)) (sym (at-byte .byte-at .ensures) ∙ c .before .before .before .if3 .taken) (c .before .lay-list .ensures) (c .lay-group .ensures)
+    item-grouped _ _ _ _ _ _ _ (at-counted .before .if1 .left) (at-counted .counted .ensures) (not-false _ (at-byte .before .if2 .left))
+    (sym (at-byte .byte-at .ensures) ∙ c .before .before .before .if3 .taken) (c .before .lay-list .ensures) (c .lay-group .ensures)
 
--- src/lib.rt:551:19
 lay-item-plain-requires : (t : ℕ) → lay-item-lts.Need-plain-requires (
   nothing-reads.Asked,
   nothing-reads.Learnt,
@@ -278,7 +268,6 @@ lay-item-plain-requires : (t : ℕ) → lay-item-lts.Need-plain-requires (
 ) (lay-item-at t) lay-item.Post
 lay-item-plain-requires t c κs = search needs
 
--- src/lib.rt:551:5
 lay-item-lay-leaf-requires : (t : ℕ) → lay-item-lts.Need-lay-leaf-requires (
   nothing-reads.Asked,
   nothing-reads.Learnt,
@@ -297,7 +286,6 @@ lay-item-lay-leaf-requires : (t : ℕ) → lay-item-lts.Need-lay-leaf-requires (
 ) (lay-item-at t) lay-item.Post
 lay-item-lay-leaf-requires t c κs = search needs
 
--- src/lib.rt:538:1
 lay-item-returns-4 : (t : ℕ) → lay-item-lts.Need-returns-4 (
   nothing-reads.Asked,
   nothing-reads.Learnt,
@@ -317,9 +305,9 @@ lay-item-returns-4 : (t : ℕ) → lay-item-lts.Need-returns-4 (
 lay-item-returns-4 t c =
     let at-byte = c .before .before .before in
     let at-counted = at-byte .before .before .before in
-    item-plain _ _ _ _ _ _ _ (at-counted .before .if1 .left) (at-counted .counted .ensures) (not-false _ (at-byte .before .if2 .left)) (λ e. c .before .before .if3 .left (at-byte .byte-at .ensures ∙ e)) (c .before .plain .ensures) (c .lay-leaf .ensures)
+    item-plain _ _ _ _ _ _ _ (at-counted .before .if1 .left) (at-counted .counted .ensures) (not-false _ (at-byte .before .if2 .left))
+    (λ e. c .before .before .if3 .left (at-byte .byte-at .ensures ∙ e)) (c .before .plain .ensures) (c .lay-leaf .ensures)
 
--- src/lib.rt:559:9
 lay-list-nothing-requires : (t : ℕ) → lay-list-lts.Need-nothing-requires (
   nothing-reads.Asked,
   nothing-reads.Learnt,
@@ -332,7 +320,6 @@ lay-list-nothing-requires : (t : ℕ) → lay-list-lts.Need-nothing-requires (
 ) (lay-list-at t) lay-list.Post
 lay-list-nothing-requires t c κs = search needs
 
--- src/lib.rt:559:9
 lay-list-returns : (t : ℕ) → lay-list-lts.Need-returns (
   nothing-reads.Asked,
   nothing-reads.Learnt,
@@ -345,7 +332,6 @@ lay-list-returns : (t : ℕ) → lay-list-lts.Need-returns (
 ) (lay-list-at t) lay-list.Post
 lay-list-returns t c = list-zero _ _ _ _ _ (c .before .if1 .taken) (c .nothing .ensures)
 
--- src/lib.rt:561:29
 lay-list-sub-lay-item : (t : ℕ) → lay-list-lts.Need-sub-lay-item (
   nothing-reads.Asked,
   nothing-reads.Learnt,
@@ -358,7 +344,6 @@ lay-list-sub-lay-item : (t : ℕ) → lay-list-lts.Need-sub-lay-item (
 ) (lay-list-at t) lay-list.Post
 lay-list-sub-lay-item t c = search needs
 
--- src/lib.rt:561:9
 lay-list-lay-item-requires : (t : ℕ) → lay-list-lts.Need-lay-item-requires (
   nothing-reads.Asked,
   nothing-reads.Learnt,
@@ -371,7 +356,6 @@ lay-list-lay-item-requires : (t : ℕ) → lay-list-lts.Need-lay-item-requires (
 ) (lay-list-at t) lay-list.Post
 lay-list-lay-item-requires t c κs = (omega arith, tt)
 
--- src/lib.rt:563:9
 lay-list-nothing-requires-2 : (t : ℕ) → lay-list-lts.Need-nothing-requires-2 (
   nothing-reads.Asked,
   nothing-reads.Learnt,
@@ -384,7 +368,6 @@ lay-list-nothing-requires-2 : (t : ℕ) → lay-list-lts.Need-nothing-requires-2
 ) (lay-list-at t) lay-list.Post
 lay-list-nothing-requires-2 t c κs = search needs
 
--- src/lib.rt:563:9
 lay-list-returns-2 : (t : ℕ) → lay-list-lts.Need-returns-2 (
   nothing-reads.Asked,
   nothing-reads.Learnt,
@@ -399,7 +382,6 @@ lay-list-returns-2 t c =
     let at-item = c .before .before .before in
     list-empty _ _ _ _ _ _ (at-item .before .if1 .left) (at-item .lay-item .ensures) (not-true _ (c .before .if2 .taken)) (c .nothing2 .ensures)
 
--- src/lib.rt:565:8
 lay-list-byte-at-requires : (t : ℕ) → lay-list-lts.Need-byte-at-requires (
   nothing-reads.Asked,
   nothing-reads.Learnt,
@@ -412,7 +394,6 @@ lay-list-byte-at-requires : (t : ℕ) → lay-list-lts.Need-byte-at-requires (
 ) (lay-list-at t) lay-list.Post
 lay-list-byte-at-requires t c κs = search needs
 
--- src/lib.rt:566:28
 lay-list-add-lay-list : (t : ℕ) → lay-list-lts.Need-add-lay-list (
   nothing-reads.Asked,
   nothing-reads.Learnt,
@@ -428,7 +409,6 @@ lay-list-add-lay-list t c =
     let at-start = at-item .before .before .before in
     omega (arith, in-text (at-start .args .s .now) (at-item .lay-item .result .at) 43 (sym (c .before .before .byte-at .ensures) ∙ c .before .if3 .taken))
 
--- src/lib.rt:566:38
 lay-list-sub-lay-list : (t : ℕ) → lay-list-lts.Need-sub-lay-list (
   nothing-reads.Asked,
   nothing-reads.Learnt,
@@ -441,7 +421,6 @@ lay-list-sub-lay-list : (t : ℕ) → lay-list-lts.Need-sub-lay-list (
 ) (lay-list-at t) lay-list.Post
 lay-list-sub-lay-list t c = search needs
 
--- src/lib.rt:566:9
 lay-list-lay-list-requires : (t : ℕ) → lay-list-lts.Need-lay-list-requires (
   nothing-reads.Asked,
   nothing-reads.Learnt,
@@ -454,7 +433,6 @@ lay-list-lay-list-requires : (t : ℕ) → lay-list-lts.Need-lay-list-requires (
 ) (lay-list-at t) lay-list.Post
 lay-list-lay-list-requires t c κs = (omega arith, tt)
 
--- src/lib.rt:566:9
 lay-list-returns-3 : (t : ℕ) → lay-list-lts.Need-returns-3 (
   nothing-reads.Asked,
   nothing-reads.Learnt,
@@ -468,9 +446,9 @@ lay-list-returns-3 : (t : ℕ) → lay-list-lts.Need-returns-3 (
 lay-list-returns-3 t c =
     let at-byte = c .before .before .before in
     let at-item = at-byte .before .before .before in
-    list-comma _ _ _ _ _ _ (at-item .before .if1 .left) (at-item .lay-item .ensures) (not-false _ (at-byte .before .if2 .left)) (sym (at-byte .byte-at .ensures) ∙ c .before .before .if3 .taken) (c .lay-list .ensures)
+    list-comma _ _ _ _ _ _ (at-item .before .if1 .left) (at-item .lay-item .ensures) (not-false _ (at-byte .before .if2 .left))
+    (sym (at-byte .byte-at .ensures) ∙ c .before .before .if3 .taken) (c .lay-list .ensures)
 
--- src/lib.rt:555:1
 lay-list-returns-4 : (t : ℕ) → lay-list-lts.Need-returns-4 (
   nothing-reads.Asked,
   nothing-reads.Learnt,

@@ -1,18 +1,13 @@
-use mathlib.Core.Path.{_≡_}
+-- `format::again` meets its contract.
+use mathlib.Core.Path.{_≡_, refl, sym, _∙_}
 use mathlib.Core.List.{List}
-use Prim.Native.Nat.{ℕ}
+use Prim.Native.Nat.{ℕ, _-_}
 use Rattle.format.specs.Row.{againRow}
 use Rattle.format.specs.declared.Row.{Row}
 use Rattle.format.specs.RowLaws.{againRow-end, againRow-full, againRow-next}
-use mathlib.Core.Path.{refl, sym, _∙_}
-use Prim.Native.Nat.{_-_}
 use borrow.Author.Needs.{needs}
-use native.Mathlib.Omega.{arith}
 use Rattle.format.proofs.again.Statement.{statement}
 use Rattle.format.proofs.again.Tie as tie
-use Rattle.format.proofs.again.Reads as reads
-use Rattle.format.proofs.again.Lts as lts
-use Rattle.format.proofs.push_field.Reads as push-field-reads
 
 -- from here on the fields that are left give what all of them give
 record Going (from past : ℕ) (kinds widths : List ℕ) (r₀ r : Row) (j : ℕ) : Type 0 where
@@ -24,42 +19,33 @@ Inv-loop from past kinds widths r₀ j₀ r j = Going from past kinds widths r�
 abbrev μ-loop : tie.MeasureT-loop
 μ-loop from past kinds widths r₀ j₀ r j = past - j
 
--- src/lib.rt:472:5
 loop-holds : tie.Need-loop-holds Inv-loop μ-loop
 loop-holds c = record { same = refl }
 
--- src/lib.rt:474:13
 returns : tie.Need-returns Inv-loop μ-loop
 returns c = sym (againRow-full _ _ _ _ _ (c .if1 .taken)) ∙ c .before .before .loop .inv .same
 
--- src/lib.rt:476:27
 array-read-push-field : tie.Need-array-read-push-field Inv-loop μ-loop
 array-read-push-field c = search needs
 
--- src/lib.rt:476:37
 array-read-push-field-2 : tie.Need-array-read-push-field-2 Inv-loop μ-loop
 array-read-push-field-2 c = search needs
 
--- src/lib.rt:476:9
 push-field-requires : tie.Need-push-field-requires Inv-loop μ-loop
 push-field-requires c κs = search needs
 
--- src/lib.rt:477:9
 add-j : tie.Need-add-j Inv-loop μ-loop
 add-j c = search needs
 
--- src/lib.rt:472:5
 loop-less : tie.Need-loop-less Inv-loop μ-loop
 loop-less c = search needs
 
--- src/lib.rt:472:5
 loop-again : tie.Need-loop-again Inv-loop μ-loop
 loop-again c =
     let at-test = c .before .before in
     let at-loop = at-test .before in
     record { same = rw (c .push-field .ensures) (sym (againRow-next _ _ _ _ _ (at-test .loop-test .taken) (c .before .if1 .left)) ∙ at-loop .loop .inv .same) }
 
--- src/lib.rt:465:1
 returns-2 : tie.Need-returns-2 Inv-loop μ-loop
 returns-2 c = sym (againRow-end _ _ _ _ _ (c .loop-test .left)) ∙ c .before .loop .inv .same
 

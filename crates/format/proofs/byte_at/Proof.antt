@@ -1,21 +1,16 @@
+-- `format::byte_at` meets its contract.
 use mathlib.Core.Path.{sym}
 use lib.ListN.{List·getD-eq-default}
-use native.Mathlib.Omega.{arith}
 use borrow.Author.Needs.{needs}
 use Rattle.format.proofs.byte_at.Statement.{statement}
 use Rattle.format.proofs.byte_at.Tie as tie
-use Rattle.format.proofs.byte_at.Reads as reads
-use Rattle.format.proofs.byte_at.Lts as lts
 
--- src/lib.rt:62:16
 shared-slice-read-result : tie.Need-shared-slice-read-result
 shared-slice-read-result c = search needs
 
--- src/lib.rt:62:9
 returns : tie.Need-returns
 returns c = search needs
 
--- src/lib.rt:58:1
 returns-2 : tie.Need-returns-2
 returns-2 c = sym (List·getD-eq-default (c .before .args .s .now) 0 (c .if1 .left))
 

@@ -1,3 +1,4 @@
+-- `format::decimals` meets its contract.
 use Rattle.format.specs.MeasuredLaws.{decimalsLeaf-none, decimalsLeaf-point, decimalsLeaf-pointless, in-text}
 use Rattle.format.specs.Measured.{decimalsBy}
 use Rattle.format.specs.LeafLaws.{byte-at}
@@ -8,48 +9,36 @@ use native.Mathlib.Omega.{arith}
 use borrow.Author.Needs.{needs}
 use Rattle.format.proofs.decimals.Statement.{statement}
 use Rattle.format.proofs.decimals.Tie as tie
-use Rattle.format.proofs.decimals.Reads as reads
-use Rattle.format.proofs.decimals.Lts as lts
-use Rattle.format.proofs.byte_at.Reads as byte-at-reads
-use Rattle.format.proofs.decimals_by.Reads as decimals-by-reads
-use Rattle.format.proofs.number.Reads as number-reads
 
--- src/lib.rt:213:9
 returns : tie.Need-returns
 returns c = decimalsLeaf-none _ _ (not-true _ (c .if1 .taken))
 
--- src/lib.rt:215:8
 byte-at-requires : tie.Need-byte-at-requires
 byte-at-requires c κs = search needs
 
--- src/lib.rt:216:31
 add-decimals-by : tie.Need-add-decimals-by
 add-decimals-by c =
     let at-start = c .before .before .before .before .before .before in
     omega (arith, in-text (at-start .args .s .now) (at-start .args .i .at) 45 (sym (c .before .before .byte-at .ensures) ∙ c .before .if2 .taken))
 
--- src/lib.rt:216:51
 add-number : tie.Need-add-number
 add-number c =
     let at-byte = c .before .before .before in
     let at-start = at-byte .before .before .before .before in
     omega (arith, in-text (at-start .args .s .now) (at-start .args .i .at) 45 (sym (at-byte .byte-at .ensures) ∙ c .before .before .if2 .taken))
 
--- src/lib.rt:216:41
 number-requires : tie.Need-number-requires
 number-requires c κs = search needs
 
--- src/lib.rt:216:9
 decimals-by-requires : tie.Need-decimals-by-requires
 decimals-by-requires c κs = search needs
 
--- src/lib.rt:216:9
 returns-2 : tie.Need-returns-2
 returns-2 c =
     let at-byte = c .before .before .before .before .before in
-    c .decimals-by .ensures ∙ ap (decimalsBy _ _) (c .before .number .ensures) ∙ decimalsLeaf-point _ _ (not-false _ (at-byte .before .if1 .left)) (sym (at-byte .byte-at .ensures) ∙ c .before .before .before .before .if2 .taken)
+    c .decimals-by .ensures ∙ ap (decimalsBy _ _) (c .before .number .ensures) ∙ decimalsLeaf-point _ _ (not-false _ (at-byte .before .if1 .left))
+    (sym (at-byte .byte-at .ensures) ∙ c .before .before .before .before .if2 .taken)
 
--- src/lib.rt:209:1
 returns-3 : tie.Need-returns-3
 returns-3 c = decimalsLeaf-pointless _ _ (not-false _ (c .before .before .if1 .left)) (λ e. c .if2 .left (c .before .byte-at .ensures ∙ e))
 

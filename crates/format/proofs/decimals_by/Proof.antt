@@ -1,24 +1,17 @@
+-- `format::decimals_by` meets its contract.
 use Rattle.format.specs.Measured.{decimalsBy}
-use borrow.Author.Tests.{le-ltb, lt-ltb, le-leb, lt-leb, eq-eqb, ne-eqb}
-use mathlib.Core.Path.{_≡_, sym, _∙_, refl}
-use borrow.Author.Needs.{needs}
-use native.Mathlib.Omega.{arith}
+use borrow.Author.Tests.{le-ltb, lt-ltb, le-leb, lt-leb}
 use Rattle.format.proofs.decimals_by.Statement.{statement}
 use Rattle.format.proofs.decimals_by.Tie as tie
-use Rattle.format.proofs.decimals_by.Reads as reads
-use Rattle.format.proofs.decimals_by.Lts as lts
 
--- src/lib.rt:194:9
 returns : tie.Need-returns
 unfolding decimalsBy
 returns c = simp (le-leb _ _ (c .if1 .taken))
 
--- src/lib.rt:197:9
 returns-2 : tie.Need-returns-2
 unfolding decimalsBy
 returns-2 c = simp (lt-ltb _ _ (c .if2 .taken), lt-leb _ _ (c .before .before .before .if1 .left))
 
--- src/lib.rt:190:1
 returns-3 : tie.Need-returns-3
 unfolding decimalsBy
 returns-3 c = simp (le-ltb _ _ (c .if2 .left), lt-leb _ _ (c .before .before .before .if1 .left))

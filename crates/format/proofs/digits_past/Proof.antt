@@ -1,20 +1,15 @@
+-- `format::digits_past` meets its contract.
 use borrow.Author.Tests.{not-true, not-false}
-use mathlib.Core.Path.{_≡_}
+use mathlib.Core.Path.{_≡_, refl, sym, _∙_}
 use mathlib.Core.List.{List}
-use Prim.Native.Nat.{ℕ, _+_}
-use lib.ListN.{drop}
+use Prim.Native.Nat.{ℕ, _+_, _-_}
+use lib.ListN.{drop, length}
 use Rattle.format.specs.Reading.{digitsBefore}
 use Rattle.format.specs.NumberLaws.{digitsBefore-end, digitsBefore-here, digitsBefore-next}
-use mathlib.Core.Path.{refl, sym, _∙_}
-use lib.ListN.{length}
-use Prim.Native.Nat.{_-_}
 use borrow.Author.Needs.{needs}
 use native.Mathlib.Omega.{arith}
 use Rattle.format.proofs.digits_past.Statement.{statement}
 use Rattle.format.proofs.digits_past.Tie as tie
-use Rattle.format.proofs.digits_past.Reads as reads
-use Rattle.format.proofs.digits_past.Lts as lts
-use Rattle.text.proofs.is_digit.Reads as is-digit-reads
 
 -- the digits from here end where those from the start do
 record Going (s : List ℕ) (at i : ℕ) : Type 0 where
@@ -26,41 +21,33 @@ Inv-loop s at i₀ i = Going s at i
 abbrev μ-loop : tie.MeasureT-loop
 μ-loop s at i₀ i = length s - i
 
--- src/lib.rt:72:5
 loop-holds : tie.Need-loop-holds Inv-loop μ-loop
 loop-holds c = record { same = refl }
 
--- src/lib.rt:73:22
 shared-slice-read-is-digit : tie.Need-shared-slice-read-is-digit Inv-loop μ-loop
 shared-slice-read-is-digit c = search needs
 
--- src/lib.rt:73:13
 is-digit-requires : tie.Need-is-digit-requires Inv-loop μ-loop
 is-digit-requires c κs = search needs
 
--- src/lib.rt:74:13
 returns : tie.Need-returns Inv-loop μ-loop
 returns c =
     let at-test = c .before .before .before in
     let at-loop = at-test .before in
     omega (arith, digitsBefore-here (at-loop .before .before .args .s .now) (at-loop .loop .i) (at-test .loop-test .taken) (sym (c .before .is-digit .ensures) ∙ not-true _ (c .if1 .taken)), at-loop .loop .inv .same)
 
--- src/lib.rt:76:9
 add-i : tie.Need-add-i Inv-loop μ-loop
 add-i c = search needs
 
--- src/lib.rt:72:5
 loop-less : tie.Need-loop-less Inv-loop μ-loop
 loop-less c = search needs
 
--- src/lib.rt:72:5
 loop-again : tie.Need-loop-again Inv-loop μ-loop
 loop-again c =
     let at-test = c .before .before .before in
     let at-loop = at-test .before in
     record { same = omega (arith, digitsBefore-next (at-loop .before .before .args .s .now) (at-loop .loop .i) (at-test .loop-test .taken) (sym (c .before .is-digit .ensures) ∙ not-false _ (c .if1 .left)), at-loop .loop .inv .same) }
 
--- src/lib.rt:68:1
 returns-2 : tie.Need-returns-2 Inv-loop μ-loop
 returns-2 c = omega (arith, digitsBefore-end (c .before .before .before .args .s .now) (c .before .loop .i) (c .loop-test .left), c .before .loop .inv .same)
 

@@ -1,3 +1,4 @@
+-- `format::lay_group` meets its contract.
 use Rattle.format.specs.LeafLaws.{byte-at}
 use Rattle.format.specs.Format.{repeated}
 use Rattle.format.specs.RowLaws.{closedLaid-none, closedLaid-open, closedLaid-some}
@@ -8,45 +9,32 @@ use native.Mathlib.Omega.{arith}
 use borrow.Author.Needs.{needs}
 use Rattle.format.proofs.lay_group.Statement.{statement}
 use Rattle.format.proofs.lay_group.Tie as tie
-use Rattle.format.proofs.lay_group.Reads as reads
-use Rattle.format.proofs.lay_group.Lts as lts
-use Rattle.format.proofs.byte_at.Reads as byte-at-reads
-use Rattle.format.proofs.nothing.Reads as nothing-reads
-use Rattle.format.proofs.repeated.Reads as repeated-reads
 
--- src/lib.rt:525:9
 nothing-requires : tie.Need-nothing-requires
 nothing-requires c κs = search needs
 
--- src/lib.rt:525:9
 returns : tie.Need-returns
 returns c = closedLaid-none _ _ _ _ _ (c .nothing .ensures) (not-true _ (c .before .if1 .taken))
 
--- src/lib.rt:527:8
 byte-at-requires : tie.Need-byte-at-requires
 byte-at-requires c κs = search needs
 
--- src/lib.rt:530:17
 add-t7 : tie.Need-add-t7
 add-t7 c =
     let at-start = c .before .before .before .before .before .before in
     omega (arith, in-text (at-start .args .s .now) (at-start .args .m .at) 40 (sym (c .before .before .byte-at .ensures) ∙ c .before .if2 .taken))
 
--- src/lib.rt:531:18
 repeated-requires : tie.Need-repeated-requires
 repeated-requires c κs = search needs
 
--- src/lib.rt:528:9
 returns-2 : tie.Need-returns-2
 returns-2 c =
     let at-byte = c .before .before .before in
     closedLaid-some _ _ _ _ _ (not-false _ (at-byte .before .if1 .left)) (sym (at-byte .byte-at .ensures) ∙ c .before .before .if2 .taken) (c .repeated .ensures)
 
--- src/lib.rt:534:5
 nothing-requires-2 : tie.Need-nothing-requires-2
 nothing-requires-2 c κs = search needs
 
--- src/lib.rt:521:1
 returns-3 : tie.Need-returns-3
 returns-3 c =
     let at-byte = c .before .before in

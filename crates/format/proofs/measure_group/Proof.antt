@@ -1,53 +1,39 @@
+-- `format::measure_group` meets its contract.
 use Rattle.format.specs.MeasuredLaws.{closedMeasure-none, closedMeasure-open, closedMeasure-some, in-text}
 use Rattle.format.specs.LeafLaws.{byte-at}
 use borrow.Author.Tests.{not-true, not-false}
-use Rattle.format.specs.Measured.{closedMeasure}
-use borrow.Author.Tests.{le-ltb, lt-ltb, le-leb, lt-leb, eq-eqb, ne-eqb}
-use mathlib.Core.Path.{_≡_, sym, _∙_, refl}
+use mathlib.Core.Path.{sym, _∙_}
 use native.Mathlib.Omega.{arith}
 use borrow.Author.Needs.{needs}
 use Rattle.format.proofs.measure_group.Statement.{statement}
 use Rattle.format.proofs.measure_group.Tie as tie
-use Rattle.format.proofs.measure_group.Reads as reads
-use Rattle.format.proofs.measure_group.Lts as lts
-use Rattle.format.proofs.byte_at.Reads as byte-at-reads
-use Rattle.format.proofs.group_depth.Reads as group-depth-reads
-use Rattle.format.proofs.one_deeper.Reads as one-deeper-reads
-use Rattle.format.proofs.product.Reads as product-reads
 
--- src/lib.rt:343:9
 returns : tie.Need-returns
 returns c = closedMeasure-none _ _ _ (not-true _ (c .if1 .taken))
 
--- src/lib.rt:345:8
 byte-at-requires : tie.Need-byte-at-requires
 byte-at-requires c κs = search needs
 
--- src/lib.rt:348:17
 add-t6 : tie.Need-add-t6
 add-t6 c =
     let at-start = c .before .before .before .before .before .before in
     omega (arith, in-text (at-start .args .s .now) (at-start .args .m .at) 40 (sym (c .before .before .byte-at .ensures) ∙ c .before .if2 .taken))
 
--- src/lib.rt:349:20
 one-deeper-requires : tie.Need-one-deeper-requires
 one-deeper-requires c κs = search needs
 
--- src/lib.rt:350:21
 group-depth-requires : tie.Need-group-depth-requires
 group-depth-requires c κs = search needs
 
--- src/lib.rt:351:22
 product-requires : tie.Need-product-requires
 product-requires c κs = search needs
 
--- src/lib.rt:346:9
 returns-2 : tie.Need-returns-2
 returns-2 c =
     let at-byte = c .before .before .before .before .before in
-    closedMeasure-some _ _ _ _ _ _ (not-false _ (at-byte .before .if1 .left)) (sym (at-byte .byte-at .ensures) ∙ c .before .before .before .before .if2 .taken) (c .before .before .one-deeper .ensures) (c .before .group-depth .ensures) (c .product .ensures)
+    closedMeasure-some _ _ _ _ _ _ (not-false _ (at-byte .before .if1 .left)) (sym (at-byte .byte-at .ensures) ∙ c .before .before .before .before .if2 .taken)
+    (c .before .before .one-deeper .ensures) (c .before .group-depth .ensures) (c .product .ensures)
 
--- src/lib.rt:339:1
 returns-3 : tie.Need-returns-3
 returns-3 c = closedMeasure-open _ _ _ (not-false _ (c .before .before .if1 .left)) (λ e. c .if2 .left (c .before .byte-at .ensures ∙ e))
 

@@ -1,48 +1,32 @@
-use Rattle.format.specs.MeasuredLaws.{sum-is}
-use Rattle.format.specs.MeasuredLaws.{joinedMeasure-none, joinedMeasure-some}
+-- `format::measure_more` meets its contract.
+use Rattle.format.specs.MeasuredLaws.{sum-is, joinedMeasure-none, joinedMeasure-some}
 use borrow.Author.Tests.{not-true, not-false}
-use Rattle.format.specs.Measured.{joinedMeasure}
-use borrow.Author.Tests.{le-ltb, lt-ltb, le-leb, lt-leb, eq-eqb, ne-eqb}
-use mathlib.Core.Path.{_≡_, sym, _∙_, refl}
-use native.Mathlib.Omega.{arith}
+use mathlib.Core.Path.{_∙_}
 use borrow.Author.Needs.{needs}
 use Rattle.format.proofs.measure_more.Statement.{statement}
 use Rattle.format.proofs.measure_more.Tie as tie
-use Rattle.format.proofs.measure_more.Reads as reads
-use Rattle.format.proofs.measure_more.Lts as lts
-use Rattle.format.proofs.cap.Reads as cap-reads
-use Rattle.format.proofs.larger.Reads as larger-reads
-use Rattle.laws.proofs.wide.Reads as wide-reads
 
--- src/lib.rt:362:9
 returns : tie.Need-returns
 returns c = joinedMeasure-none _ _ (not-true _ (c .if1 .taken))
 
--- src/lib.rt:367:16
 larger-requires : tie.Need-larger-requires
 larger-requires c κs = search needs
 
--- src/lib.rt:368:17
 larger-requires-2 : tie.Need-larger-requires-2
 larger-requires-2 c κs = search needs
 
--- src/lib.rt:369:22
 wide-requires : tie.Need-wide-requires
 wide-requires c κs = search needs
 
--- src/lib.rt:369:40
 wide-requires-2 : tie.Need-wide-requires-2
 wide-requires-2 c κs = search needs
 
--- src/lib.rt:369:22
 add-cap : tie.Need-add-cap
 add-cap c = search needs
 
--- src/lib.rt:369:18
 cap-requires : tie.Need-cap-requires
 cap-requires c κs = search needs
 
--- src/lib.rt:358:1
 returns-2 : tie.Need-returns-2
 returns-2 c =
     let at-wide = c .before .before in

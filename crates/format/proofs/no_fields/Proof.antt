@@ -1,13 +1,9 @@
+-- `format::no_fields` meets its contract.
 use Rattle.format.specs.Laid.{padded}
 use mathlib.Core.Path.{refl}
-use borrow.Author.Needs.{needs}
-use native.Mathlib.Omega.{arith}
 use Rattle.format.proofs.no_fields.Statement.{statement}
 use Rattle.format.proofs.no_fields.Tie as tie
-use Rattle.format.proofs.no_fields.Reads as reads
-use Rattle.format.proofs.no_fields.Lts as lts
 
--- src/lib.rt:424:1
 returns : tie.Need-returns
 unfolding padded
 returns c = refl

@@ -1,3 +1,4 @@
+-- `format::number` meets its contract.
 use Rattle.format.specs.MeasuredLaws.{figure-none, figure-some, figure-zero}
 use Rattle.format.specs.LeafLaws.{byte-at}
 use Rattle.format.specs.NumberLaws.{digitsBefore-most}
@@ -6,54 +7,39 @@ use native.Mathlib.Omega.{arith}
 use borrow.Author.Needs.{needs}
 use Rattle.format.proofs.number.Statement.{statement}
 use Rattle.format.proofs.number.Tie as tie
-use Rattle.format.proofs.number.Reads as reads
-use Rattle.format.proofs.number.Lts as lts
-use Rattle.format.proofs.byte_at.Reads as byte-at-reads
-use Rattle.format.proofs.digits_past.Reads as digits-past-reads
-use Rattle.format.proofs.value.Reads as value-reads
 
--- src/lib.rt:118:9
 digits-past-requires : tie.Need-digits-past-requires
 digits-past-requires c κs = search needs
 
--- src/lib.rt:120:9
 returns : tie.Need-returns
 returns c = figure-none _ _ _ (c .before .digits-past .ensures) (c .if1 .taken)
 
--- src/lib.rt:122:9
 byte-at-requires : tie.Need-byte-at-requires
 byte-at-requires c κs = search needs
 
--- src/lib.rt:122:38
 sub-if2 : tie.Need-sub-if2
 sub-if2 c = search needs
 
--- src/lib.rt:123:9
 returns-2 : tie.Need-returns-2
 returns-2 c =
     let at-past = c .before .before .before in
     figure-zero _ _ _ (at-past .digits-past .ensures) _ (c .before .before .if1 .left) (c .before .byte-at .ensures) (c .if2 .taken)
 
--- src/lib.rt:126:22
 sub-value : tie.Need-sub-value
 sub-value c = search needs
 
--- src/lib.rt:126:22
 part-value-start : tie.Need-part-value-start
 part-value-start c = search needs
 
--- src/lib.rt:126:22
 part-value-end : tie.Need-part-value-end
 part-value-end c =
     let at-past = c .before .before .before in
     let at-start = at-past .before .before in
     omega (arith, at-past .digits-past .ensures, digitsBefore-most (drop (at-start .args .at) (at-start .args .s .now)), length-drop (at-start .args .at) (at-start .args .s .now), c .before .before .if1 .left)
 
--- src/lib.rt:126:16
 value-requires : tie.Need-value-requires
 value-requires c κs = search needs
 
--- src/lib.rt:115:1
 returns-3 : tie.Need-returns-3
 returns-3 c =
     let at-byte = c .before .before .before in

@@ -1,28 +1,21 @@
+-- `format::push_field` meets its contract.
 use Rattle.format.specs.RowLaws.{pushed-full, pushed-more}
-use native.Mathlib.Omega.{arith}
 use borrow.Author.Needs.{needs}
 use Rattle.format.proofs.push_field.Statement.{statement}
 use Rattle.format.proofs.push_field.Tie as tie
-use Rattle.format.proofs.push_field.Reads as reads
-use Rattle.format.proofs.push_field.Lts as lts
 
--- src/lib.rt:453:9
 array-write-kinds : tie.Need-array-write-kinds
 array-write-kinds c = search needs
 
--- src/lib.rt:454:9
 array-write-widths : tie.Need-array-write-widths
 array-write-widths c = search needs
 
--- src/lib.rt:456:20
 add-t12 : tie.Need-add-t12
 add-t12 c = search needs
 
--- src/lib.rt:455:9
 returns : tie.Need-returns
 returns c = pushed-more _ _ _ (c .if1 .taken)
 
--- src/lib.rt:446:1
 returns-2 : tie.Need-returns-2
 returns-2 c = pushed-full _ _ _ (c .if1 .left)
 

@@ -1,3 +1,4 @@
+-- `format::read` meets its contract.
 use Rattle.format.specs.AnswerLaws.{answer-long, answer-short}
 use mathlib.Core.Path.{sym}
 use lib.ListN.{length}
@@ -7,42 +8,30 @@ use native.Mathlib.Omega.{arith}
 use borrow.Author.Needs.{needs}
 use Rattle.format.proofs.read.Statement.{statement}
 use Rattle.format.proofs.read.Tie as tie
-use Rattle.format.proofs.read.Reads as reads
-use Rattle.format.proofs.read.Lts as lts
-use Rattle.format.proofs.read_packed.Reads as read-packed-reads
-use Rattle.format.proofs.refused.Reads as refused-reads
-use Rattle.format.proofs.unblank.Reads as unblank-reads
 
--- src/lib.rt:653:9
 refused-requires : tie.Need-refused-requires
 refused-requires c κs = search needs
 
--- src/lib.rt:653:9
 returns : tie.Need-returns
 returns c = answer-long _ _ (c .before .if1 .taken) (c .refused .ensures)
 
--- src/lib.rt:656:9
 unblank-requires : tie.Need-unblank-requires
 unblank-requires c κs = search needs
 
--- src/lib.rt:657:17
 array-share-prefix-packed : tie.Need-array-share-prefix-packed
 array-share-prefix-packed c = omega (arith, c .unblank .ensures .within, c .unblank .ensures .size, c .before .before .if1 .left)
 
--- src/lib.rt:657:17
 slice-aggregate-read-packed : tie.Need-slice-aggregate-read-packed
 slice-aggregate-read-packed c =
     let at-unblank = c .before in
     sym (length-take-le _ _ (omega (arith, at-unblank .unblank .ensures .within, at-unblank .unblank .ensures .size, at-unblank .before .before .if1 .left)))
 
--- src/lib.rt:657:5
 read-packed-requires : tie.Need-read-packed-requires
 read-packed-requires c κs =
     let at-unblank = c .before in
     let fits : at-unblank .unblank .result ≤ length (at-unblank .unblank .last .0) = omega (arith, at-unblank .unblank .ensures .within, at-unblank .unblank .ensures .size, at-unblank .before .before .if1 .left) in
     omega (arith, length-take-le (at-unblank .unblank .result) (at-unblank .unblank .last .0) fits, at-unblank .unblank .ensures .size)
 
--- src/lib.rt:649:1
 returns-2 : tie.Need-returns-2
 returns-2 c =
     let at-unblank = c .before .before in

@@ -1,17 +1,12 @@
-use Rattle.format.specs.RowLaws.{repeatRow-step}
-use mathlib.Core.Path.{_≡_, refl, sym, ap, _∙_}
+-- `format::repeated` meets its contract.
+use Rattle.format.specs.RowLaws.{repeatRow-step, repeatRow-end}
+use mathlib.Core.Path.{_≡_, refl, sym, _∙_}
 use Prim.Native.Nat.{ℕ, _-_}
 use Rattle.format.specs.Row.{repeatRow}
 use Rattle.format.specs.declared.Row.{Row}
-use Rattle.format.specs.RowLaws.{repeatRow-end, repeatRow-next}
-use Rattle.format.specs.Row.{againRow}
 use borrow.Author.Needs.{needs}
-use native.Mathlib.Omega.{arith}
 use Rattle.format.proofs.repeated.Statement.{statement}
 use Rattle.format.proofs.repeated.Tie as tie
-use Rattle.format.proofs.repeated.Reads as reads
-use Rattle.format.proofs.repeated.Lts as lts
-use Rattle.format.proofs.again.Reads as again-reads
 
 -- the rounds that are left give what all of them give
 record Going (row : Row) (from count past : ℕ) (r : Row) (i : ℕ) : Type 0 where
@@ -24,29 +19,23 @@ Inv-loop row from count past r₀ i₀ r i = Going row from count past r i
 abbrev μ-loop : tie.MeasureT-loop
 μ-loop row from count past r₀ i₀ r i = count - i
 
--- src/lib.rt:489:5
 loop-holds : tie.Need-loop-holds Inv-loop μ-loop
 loop-holds c = record { past-is = refl; same = refl }
 
--- src/lib.rt:490:9
 again-requires : tie.Need-again-requires Inv-loop μ-loop
 again-requires c κs = search needs
 
--- src/lib.rt:491:9
 add-i : tie.Need-add-i Inv-loop μ-loop
 add-i c = search needs
 
--- src/lib.rt:489:5
 loop-less : tie.Need-loop-less Inv-loop μ-loop
 loop-less c = search needs
 
--- src/lib.rt:489:5
 loop-again : tie.Need-loop-again Inv-loop μ-loop
 loop-again c =
     let at-loop = c .before .before in
     record { past-is = at-loop .loop .inv .past-is; same = repeatRow-step _ _ _ _ _ _ _ (at-loop .loop .inv .past-is) (c .before .loop-test .taken) (c .again .ensures) ∙ at-loop .loop .inv .same }
 
--- src/lib.rt:483:1
 returns : tie.Need-returns Inv-loop μ-loop
 returns c = sym (repeatRow-end _ _ _ _ _ (c .loop-test .left)) ∙ c .before .loop .inv .same
 

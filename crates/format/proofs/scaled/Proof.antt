@@ -1,29 +1,19 @@
+-- `format::scaled` meets its contract.
 use Rattle.format.specs.MeasuredLaws.{scaledLeaf-none, scaledLeaf-some}
 use borrow.Author.Tests.{not-true, not-false}
-use Rattle.format.specs.Measured.{scaledBy}
-use mathlib.Core.Path.{sym, ap, _∙_}
-use native.Mathlib.Omega.{arith}
 use borrow.Author.Needs.{needs}
 use Rattle.format.proofs.scaled.Statement.{statement}
 use Rattle.format.proofs.scaled.Tie as tie
-use Rattle.format.proofs.scaled.Reads as reads
-use Rattle.format.proofs.scaled.Lts as lts
-use Rattle.format.proofs.counted.Reads as counted-reads
-use Rattle.format.proofs.real.Reads as real-reads
 
--- src/lib.rt:236:9
 counted-requires : tie.Need-counted-requires
 counted-requires c κs = search needs
 
--- src/lib.rt:238:9
 returns : tie.Need-returns
 returns c = scaledLeaf-none _ _ _ (c .before .before .counted .ensures) (not-true _ (c .if1 .taken))
 
--- src/lib.rt:240:5
 real-requires : tie.Need-real-requires
 real-requires c κs = search needs
 
--- src/lib.rt:233:1
 returns-2 : tie.Need-returns-2
 returns-2 c = scaledLeaf-some _ _ _ _ (c .before .before .before .counted .ensures) (not-false _ (c .before .if1 .left)) (c .real .ensures)
 

@@ -1,26 +1,19 @@
+-- `format::sized` meets its contract.
 use Rattle.format.specs.Format.{number}
 use Rattle.format.specs.MeasuredLaws.{sizedLeaf-high, sizedLeaf-low, sizedLeaf-some}
-use native.Mathlib.Omega.{arith}
 use borrow.Author.Needs.{needs}
 use Rattle.format.proofs.sized.Statement.{statement}
 use Rattle.format.proofs.sized.Tie as tie
-use Rattle.format.proofs.sized.Reads as reads
-use Rattle.format.proofs.sized.Lts as lts
-use Rattle.format.proofs.number.Reads as number-reads
 
--- src/lib.rt:173:9
 number-requires : tie.Need-number-requires
 number-requires c κs = search needs
 
--- src/lib.rt:175:9
 returns : tie.Need-returns
 returns c = sizedLeaf-low _ _ _ _ _ (c .before .before .number .ensures) (c .if1 .taken)
 
--- src/lib.rt:178:9
 returns-2 : tie.Need-returns-2
 returns-2 c = sizedLeaf-high _ _ _ _ _ (c .before .before .before .before .number .ensures) (c .before .before .if1 .left) (c .if2 .taken)
 
--- src/lib.rt:170:1
 returns-3 : tie.Need-returns-3
 returns-3 c = sizedLeaf-some _ _ _ _ _ (c .before .before .before .before .number .ensures) (c .before .before .if1 .left) (c .if2 .left)
 

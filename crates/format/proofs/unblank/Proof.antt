@@ -1,3 +1,4 @@
+-- `format::unblank` meets its contract.
 use mathlib.Core.Path.{_≡_, refl, ap, _∙_}
 use mathlib.Core.List.{List}
 use Prim.Native.Nat.{ℕ, _-_, _≤_, _<_}
@@ -10,9 +11,6 @@ use borrow.Author.Needs.{needs}
 use native.Mathlib.Omega.{arith}
 use Rattle.format.proofs.unblank.Statement.{statement}
 use Rattle.format.proofs.unblank.Tie as tie
-use Rattle.format.proofs.unblank.Reads as reads
-use Rattle.format.proofs.unblank.Lts as lts
-use Rattle.format.proofs.kept.Reads as kept-reads
 
 -- n bytes of the buffer are those of the first i that are no blanks
 record Going (text out : List ℕ) (n i : ℕ) : Type 0 where
@@ -27,36 +25,28 @@ Inv-loop out₀ text n₀ i₀ out n i = Going text out n i
 abbrev μ-loop : tie.MeasureT-loop
 μ-loop out₀ text n₀ i₀ out n i = length text - i
 
--- src/lib.rt:602:5
 loop-holds : tie.Need-loop-holds Inv-loop μ-loop
 unfolding unblanked
 loop-holds c = record { within = omega arith; most = omega arith; size = refl; bytes = refl }
 
--- src/lib.rt:603:18
 shared-slice-read-out : tie.Need-shared-slice-read-out Inv-loop μ-loop
 shared-slice-read-out c = search needs
 
--- src/lib.rt:603:9
 element-write-out : tie.Need-element-write-out Inv-loop μ-loop
 element-write-out c = omega (arith, c .before .before .loop .inv .within, c .before .before .before .before .before .pre)
 
--- src/lib.rt:604:21
 shared-slice-read-kept : tie.Need-shared-slice-read-kept Inv-loop μ-loop
 shared-slice-read-kept c = search needs
 
--- src/lib.rt:604:9
 kept-requires : tie.Need-kept-requires Inv-loop μ-loop
 kept-requires c κs = omega (arith, c .before .before .before .loop .inv .within, c .before .before .before .before .before .before .pre)
 
--- src/lib.rt:605:9
 add-i : tie.Need-add-i Inv-loop μ-loop
 add-i c = search needs
 
--- src/lib.rt:602:5
 loop-less : tie.Need-loop-less Inv-loop μ-loop
 loop-less c = search needs
 
--- src/lib.rt:602:5
 loop-again : tie.Need-loop-again Inv-loop μ-loop
 loop-again c =
     let at-test = c .before .before .before in
@@ -73,7 +63,6 @@ loop-again c =
       bytes = rw (c .kept .ensures) next;
     }
 
--- src/lib.rt:595:1
 returns : tie.Need-returns Inv-loop μ-loop
 returns c =
     let inv = c .before .loop .inv in

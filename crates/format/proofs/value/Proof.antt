@@ -1,20 +1,14 @@
-use mathlib.Core.Path.{_≡_}
+-- `format::value` meets its contract.
+use mathlib.Core.Path.{_≡_, refl, sym, _∙_}
 use mathlib.Core.List.{List}
-use Prim.Native.Nat.{ℕ}
-use lib.ListN.{drop}
+use Prim.Native.Nat.{ℕ, _-_}
+use lib.ListN.{drop, length}
 use Rattle.laws.specs.Run.{run}
 use Rattle.format.specs.Measured.{keptDigit}
-use mathlib.Core.Path.{refl, sym, _∙_}
-use lib.ListN.{length}
 use Rattle.laws.specs.RunLaws.{run-next, run-done}
-use Prim.Native.Nat.{_-_}
 use borrow.Author.Needs.{needs}
-use native.Mathlib.Omega.{arith}
 use Rattle.format.proofs.value.Statement.{statement}
 use Rattle.format.proofs.value.Tie as tie
-use Rattle.format.proofs.value.Reads as reads
-use Rattle.format.proofs.value.Lts as lts
-use Rattle.format.proofs.with_digit.Reads as with-digit-reads
 
 -- the digits that are left give what all of them give
 record Going (digits : List ℕ) (m i : ℕ) : Type 0 where
@@ -26,33 +20,26 @@ Inv-loop digits m₀ i₀ m i = Going digits m i
 abbrev μ-loop : tie.MeasureT-loop
 μ-loop digits m₀ i₀ m i = length digits - i
 
--- src/lib.rt:107:5
 loop-holds : tie.Need-loop-holds Inv-loop μ-loop
 loop-holds c = record { same = refl }
 
--- src/lib.rt:108:27
 shared-slice-read-with-digit : tie.Need-shared-slice-read-with-digit Inv-loop μ-loop
 shared-slice-read-with-digit c = search needs
 
--- src/lib.rt:108:9
 with-digit-requires : tie.Need-with-digit-requires Inv-loop μ-loop
 with-digit-requires c κs = search needs
 
--- src/lib.rt:109:9
 add-i : tie.Need-add-i Inv-loop μ-loop
 add-i c = search needs
 
--- src/lib.rt:107:5
 loop-less : tie.Need-loop-less Inv-loop μ-loop
 loop-less c = search needs
 
--- src/lib.rt:107:5
 loop-again : tie.Need-loop-again Inv-loop μ-loop
 loop-again c =
     let at-test = c .before .before in
     record { same = rw (c .with-digit .ensures) (sym (run-next keptDigit _ _ _ (at-test .loop-test .taken)) ∙ at-test .before .loop .inv .same) }
 
--- src/lib.rt:102:1
 returns : tie.Need-returns Inv-loop μ-loop
 returns c = sym (run-done keptDigit _ _ _ (c .loop-test .left)) ∙ c .before .loop .inv .same
 
