@@ -55,6 +55,7 @@ check: all target/uff-strict target/canaries $(DIST)
 	target/canaries samples/bearing.uff
 	$(if $(VALGRIND),$(VALGRIND) -q --error-exitcode=1 --leak-check=full target/canaries samples/bearing.uff,@echo 'no valgrind: canaries were run without it')
 	bash tests/host/command target/uff
+	bash tests/host/field target/uff
 	bash tests/host/watch target/uff
 	bash tests/host/faults target/uff
 	bash tests/host/many target/uff
@@ -104,7 +105,7 @@ $(DIST): target/uff-static $(SHARED) uff.pc.in cmd/uff.1 docs/FORMAT.md samples/
 # The speeds of the calls beside plain Rust, C's strtod and, where there is gfortran, its formatted READ; with BEFORE=ARCHIVE also beside
 # the calls of that archive, in each round.
 GFORTRAN = $(shell command -v gfortran)
-BENCH = $(wildcard bench/* tests/common/*.rs) tests/judge/judge.rs tests/reader/reader.rs include/uff.h samples/bearing.uff
+BENCH = $(wildcard bench/* tests/common/*.rs) tests/field/field.rs tests/judge/judge.rs tests/reader/reader.rs include/uff.h samples/bearing.uff
 TIMED = target/bench$(if $(BEFORE),-before)
 
 # The other archive's calls, by names that begin with before_.

@@ -11,6 +11,9 @@
 mod calls;
 #[path = "../tests/common/mod.rs"]
 mod common;
+#[allow(dead_code)]
+#[path = "../tests/field/field.rs"]
+mod field;
 #[path = "../tests/judge/judge.rs"]
 mod judge;
 #[allow(dead_code)]
@@ -341,6 +344,35 @@ fn bursts_table() {
     }
 }
 
+// A line by a FORMAT ---------------------------------------------------------------------------
+
+/// One question on a full line, four reals in 80 columns, the last of them asked for: nanoseconds of the best round. An
+/// earlier archive may not have the call, so it is not asked.
+fn field_line() {
+    const QUESTIONS: u32 = 100_000;
+    let (format, line) = (b"4E20.12", b"  1.000000000000E-01".repeat(4));
+    let mut out = [0; uff::NUMBER_BYTES];
+    let (mut word, mut plain) = (Word::accepted(0), Err(judge::Reply::no_line(18)));
+    let mut sides: Vec<Side> = vec![
+        Box::new(|| word = black_box(uff::field(black_box(format), black_box(&line), 3, &mut out))),
+        Box::new(|| plain = black_box(field::ask(black_box(format), black_box(&line), 3))),
+    ];
+    let mut best = [f64::INFINITY; 2];
+    for _ in 0..ROUNDS {
+        for (side, best) in sides.iter_mut().zip(&mut best) {
+            let start = Instant::now();
+            (0..QUESTIONS).for_each(|_| side());
+            *best = best.min(start.elapsed().as_nanos() as f64 / f64::from(QUESTIONS));
+        }
+    }
+    drop(sides);
+    let due = plain.expect("a real");
+    check("a line by a FORMAT", word == Word::accepted(due.kind()) && out.to_vec() == due.bytes());
+    let [proved, rust] = best;
+    println!("\na question by a FORMAT on a full line (4E20.12, the last field)");
+    println!("proved {proved:.0} ns, Rust {rust:.0} ns, Rust/proved {:.2}", rust / proved);
+}
+
 fn main() {
     println!("best of {ROUNDS} rounds; files built once, caches not cleared; MB are 1,000,000 bytes of the file");
     if !calls::FORTRAN {
@@ -351,4 +383,5 @@ fn main() {
     values_tables();
     rewrite_table();
     bursts_table();
+    field_line();
 }

@@ -131,6 +131,18 @@ struct verdict verdict_on_text(uint64_t reply, const struct text *t);
 /* Prints a verdict in a line of words: the paper's number first, line and column where there are, the reason. */
 void print_words(FILE *to, const struct verdict *v);
 
+/* The same without the end of the line. */
+void print_reason(FILE *to, const struct verdict *v);
+
+/* A line of a file, without its end; past that it reads as blanks. */
+struct line {
+    const uint8_t *bytes;
+    size_t count;
+};
+
+/* Finds a line, counted from 1. Gives whether it is there. */
+bool find_line(const struct text *t, uint32_t number, struct line *line);
+
 /* Prints the line that a verdict names with a caret under the column, where there is one. */
 void print_shown(FILE *to, uint64_t reply, const struct text *t);
 
@@ -162,6 +174,9 @@ const uint32_t *row_of(uint32_t set);
 /* A set's own bytes, which are a file of that set alone. */
 struct text own_bytes(const struct text *t, uint32_t set);
 
+/* Prints what a number means, as uff_number and uff_field lay it: -200000 x 10^-6. */
+void print_exact(const uint8_t *number);
+
 /* The verdict 18 for a set of a file of so many sets that is not there or is not a 58. */
 struct verdict no_such_set(uint32_t set, uint32_t sets);
 
@@ -192,6 +207,7 @@ bool parse_seconds(const char *word, int64_t *milliseconds);
 int run_judge(const struct choices *o, int count, char **words);
 int run_list(const struct choices *o, int count, char **words);
 int run_number(const struct choices *o, int count, char **words);
+int run_field(const struct choices *o, int count, char **words);
 int run_values(const struct choices *o, int count, char **words);
 int run_rewrite(const struct choices *o, int count, char **words);
 int run_watch(const struct choices *o, int count, char **words);

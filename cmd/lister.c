@@ -82,16 +82,25 @@ int run_list(const struct choices *o, int count, char **words)
     return status;
 }
 
+static int scale_in(const uint8_t *number)
+{
+    int bits = (int)number_in(number + 16, 2);
+    return bits < 32768 ? bits : bits - 65536;
+}
+
+void print_exact(const uint8_t *number)
+{
+    printf("%s%llu x 10^%d", number[18] ? "-" : "", (unsigned long long)number_in(number + 8, 8), scale_in(number));
+}
+
 static void print_number(const uint8_t *answer, uint32_t set, uint32_t index)
 {
     uint64_t first = number_in(answer, 4), past = number_in(answer + 4, 4), coefficient = number_in(answer + 8, 8);
-    int64_t bits = (int64_t)number_in(answer + 16, 2);
-    int scale = (int)(bits < 32768 ? bits : bits - 65536);
-    char sign = answer[18] ? '-' : '+';
     printf("first past sign coefficient scale\n%llu %llu %c %llu %d\n", (unsigned long long)first, (unsigned long long)past,
-           sign, (unsigned long long)coefficient, scale);
-    printf("Number %u of set %u is %s%llu x 10^%d.\n", index, set, sign == '-' ? "-" : "", (unsigned long long)coefficient,
-           scale);
+           answer[18] ? '-' : '+', (unsigned long long)coefficient, scale_in(answer));
+    printf("Number %u of set %u is ", index, set);
+    print_exact(answer);
+    puts(".");
 }
 
 /* How many stored numbers a set 58 has: its values times one, two or three. */

@@ -49,7 +49,7 @@ struct verdict verdict_on_text(uint64_t reply, const struct text *t)
     return verdict_on(reply, t->count, count_lines(t->bytes, t->count, true));
 }
 
-void print_words(FILE *to, const struct verdict *v)
+void print_reason(FILE *to, const struct verdict *v)
 {
     unsigned number = UFF_NUMBER(v->reply);
     uint32_t place = UFF_PLACE(v->reply);
@@ -63,17 +63,15 @@ void print_words(FILE *to, const struct verdict *v)
             fprintf(to, " at line %u: column %u", place, UFF_COLUMN(v->reply));
         fprintf(to, ": %s%s%s%s", uff_text(number), *v->note ? " (" : "", v->note, *v->note ? ")" : "");
     }
+}
+
+void print_words(FILE *to, const struct verdict *v)
+{
+    print_reason(to, v);
     putc('\n', to);
 }
 
-/* A line of a file, without its end; past that it reads as blanks. */
-struct line {
-    const uint8_t *bytes;
-    size_t count;
-};
-
-/* Finds a line, counted from 1. Gives whether it is there. */
-static bool find_line(const struct text *t, uint32_t number, struct line *line)
+bool find_line(const struct text *t, uint32_t number, struct line *line)
 {
     const uint8_t *at = t->bytes, *past = t->bytes + t->count, *end = NULL;
     if (number == 0)

@@ -45,6 +45,16 @@ static const struct command commands[] = {
      "the byte past them, sign, coefficient and scale, and what it means, exactly.\n"
      "  -v  " SHOWS_LINE,
      "v", 3, 3, run_number},
+    {"field", "[-v] FORMAT FILE LINE [N]", "show the fields of a line by a FORMAT",
+     "Reads line LINE, counted from 1, alone and without its end, by a FORMAT as the\n"
+     "data sheets print it, such as '3I10,3E13.5' or '(I10,3I5,2(1X,20A1))'. Prints\n"
+     "each field, or field N, counted from 0: its number, its kind (text, integer or\n"
+     "real), the first byte of its columns and the byte past them, from 0 in the\n"
+     "line, and what stands there; of a real what it means, exactly. The file is not\n"
+     "judged. A refusal is of line 1, as the line is read alone; its place in the\n"
+     "file follows.\n"
+     "  -v  " SHOWS_LINE,
+     "v", 3, 4, run_field},
     {"values", "[-Hnv] FILE [SET...]", "show all values of its sets 58",
      "One value a line, of the sets that are asked for, counted from 1, or of all.\n"
      "Before each set stands a line such as '# set 2: 4096 values, abscissa real', but\n"

@@ -1,7 +1,8 @@
 /*
- * Universal Files for C99 and C++11, or later: a judge, a lister, a reader, a writer, a rewriter, and a
- * judge of files that are still arriving. What a file must look like is in docs/FORMAT.md, which is
- * installed as share/doc/uff/FORMAT.md. Every call is proved for all inputs; no call has a precondition
+ * Universal Files for C99 and C++11, or later: a judge, a lister, a reader, a writer, a rewriter, a
+ * judge of files that are still arriving, and a reader of a line by a printed FORMAT. What a file must
+ * look like is in docs/FORMAT.md, which is installed as share/doc/uff/FORMAT.md. Every call is proved
+ * for all inputs; no call has a precondition
  * but those of C itself:
  *
  * - A slice is a pointer and a count of elements, and lies in memory that the caller may use. A null
@@ -19,7 +20,7 @@
  * again before it answers, uff_number and uff_value for one number too: ask for all values of a set at
  * once, and read many sets by their rows ("A set alone", below).
  *
- * Lines, sets and columns are counted from 1; bytes, stored numbers and values from 0.
+ * Lines, sets and columns are counted from 1; bytes, stored numbers, values and fields from 0.
  */
 #ifndef UFF_H
 #define UFF_H
@@ -27,17 +28,24 @@
 #include <stddef.h>
 #include <stdint.h>
 
-#define UFF_VERSION "4.0"
+#define UFF_VERSION "4.1"
 
 /* The most bytes that a file has, the most sets, and the numbers that the lister gives for a set. */
 #define UFF_LONGEST 16777216
 #define UFF_SETS 4096
 #define UFF_ROW_NUMBERS 7
 
-/* The bytes that uff_number gives, the most that uff_value gives, and the most doubles that uff_values gives. */
+/*
+ * The bytes of an answer of uff_number, the most that uff_value gives, the most doubles that uff_values
+ * gives, and the most bytes that uff_field gives.
+ */
 #define UFF_NUMBER_BYTES 20
 #define UFF_VALUE_BYTES 24
 #define UFF_DOUBLES 196608
+#define UFF_FIELD_BYTES 20
+
+/* The most bytes of a FORMAT. */
+#define UFF_FORMAT_LONGEST 120
 
 /*
  * The record of the streaming calls: its numbers, and the bytes of its line. Some are not used yet:
@@ -86,7 +94,7 @@ static inline const char *uff_text(unsigned number)
     case 15: return "the file has more than 4,096 sets";
     case 16: return "the file has no set";
     case 17: return "fewer than seven places are lent for each set";
-    case 18: return "there is no such set, number or value, or the set is not a 58";
+    case 18: return "there is no such set, number, value or field, or the set is not a 58";
     case 19: return "a number cannot be written exactly in its field";
     case 20: return "the buffer lent is too short";
     case 21: return "a number is outside the range that is read exactly";
@@ -94,6 +102,8 @@ static inline const char *uff_text(unsigned number)
     case 23: return "a burst came after the end was asked";
     case 24: return "an integer field is blank";
     case 25: return "a real field is blank";
+    case 26: return "the FORMAT is malformed, or has more than 120 bytes";
+    case 27: return "the FORMAT has groups more than three deep, or more than 80 columns";
     case 127: return "so far every finished line is good";
     default: return "not a number of this table";
     }
@@ -171,6 +181,24 @@ uint64_t uff_rewrite(const uint8_t *file, size_t file_len, uint8_t *out, size_t 
  *             ...
  *         }
  */
+
+/*
+ * The reader of a line by a FORMAT: field `field` of a line lent alone, without its end. X columns are no
+ * fields. Bytes are counted in the line filled with blanks to column 80. The answer is the kind: 1 a
+ * text or 2 an integer, in 8 bytes, each part with its lowest byte first: first byte of its columns (4
+ * bytes), byte past them (4); 3 a real, in the 20 bytes of uff_number. Integers have any length.
+ *
+ * A FORMAT is a list of items with one comma between them, in brackets or not, blanks ignored: Iw, Aw,
+ * Ew.d, Dw.d, X or a list in brackets, with a count before it or none, and 1P before the count of an E
+ * or D. Letters are capitals, numbers have no leading zeros, counts are from 1, widths 1 to 80, decimals
+ * at most the width. An A with a count is one text. Groups lie three deep, brackets around the whole
+ * not counted.
+ *
+ * Refused with 26, then 27, then as the line is, which is line 1 (2, a line end in it too, 3, then of
+ * its fields from left to right 10, 12, 24 or 25, then 13), whichever field is asked, then with 18, 20.
+ */
+uint64_t uff_field(const uint8_t *format, size_t format_len, const uint8_t *line, size_t line_len, uint32_t field,
+                   uint8_t *out, size_t out_len);
 
 /*
  * The writer: one whole set 58 from its eleven header lines and its stored numbers, each a coefficient

@@ -1,16 +1,24 @@
 # Completion of the command `uff` for bash.
 
 # The commands.
-_uff_commands='judge list number values rewrite watch help version'
+_uff_commands='judge list number field values rewrite watch help version'
 
 # COMMAND: its options.
 _uff_options() {
     case $1 in
         judge) echo -H -j -q -r -v -h ;;
         list) echo -j -v -h ;;
-        number | rewrite) echo -v -h ;;
+        number | field | rewrite) echo -v -h ;;
         values) echo -H -n -v -h ;;
         watch) echo -j -t -v -w -h ;;
+    esac
+}
+
+# COMMAND: the number of its first word that is the name of a file.
+_uff_first() {
+    case $1 in
+        field) echo 1 ;;
+        *) echo 0 ;;
     esac
 }
 
@@ -18,7 +26,7 @@ _uff_options() {
 _uff_files() {
     case $1 in
         judge) echo 1000000 ;;
-        list | number | values | watch) echo 1 ;;
+        list | number | field | values | watch) echo 1 ;;
         rewrite) echo 2 ;;
         *) echo 0 ;;
     esac
@@ -44,7 +52,7 @@ _uff() {
         [ "$names" -gt 0 ] || mapfile -t COMPREPLY < <(compgen -W "$_uff_commands" -- "$word")
     elif [[ -z $ended && $word == -* ]]; then
         mapfile -t COMPREPLY < <(compgen -W "$(_uff_options "$command")" -- "$word")
-    elif [ "$names" -lt "$(_uff_files "$command")" ]; then
+    elif ((names >= $(_uff_first "$command") && names < $(_uff_first "$command") + $(_uff_files "$command"))); then
         compopt -o filenames 2>/dev/null
         mapfile -t COMPREPLY < <(compgen -f -- "$word")
     fi

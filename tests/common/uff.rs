@@ -127,6 +127,16 @@ macro_rules! calls {
                 pub fn value(file: *const u8, file_len: usize, set: u32, index: u32, out: *mut u8, out_len: usize) -> u64;
                 #[link_name = concat!($prefix, "uff_values")]
                 pub fn values(file: *const u8, file_len: usize, set: u32, out: *mut f64, places: usize) -> u64;
+                #[link_name = concat!($prefix, "uff_field")]
+                pub fn field(
+                    format: *const u8,
+                    format_len: usize,
+                    line: *const u8,
+                    line_len: usize,
+                    field: u32,
+                    out: *mut u8,
+                    out_len: usize,
+                ) -> u64;
                 #[link_name = concat!($prefix, "uff_rewrite")]
                 pub fn rewrite(file: *const u8, file_len: usize, out: *mut u8, out_len: usize) -> u64;
                 #[link_name = concat!($prefix, "uff_write")]
@@ -179,6 +189,12 @@ macro_rules! calls {
         pub fn values(file: &[u8], set: u32, out: &mut [f64]) -> Word {
             let ((file, file_len), (out, places)) = (lend(file), lend_mut(out));
             Word(unsafe { declared::values(file, file_len, set, out, places) })
+        }
+
+        pub fn field(format: &[u8], line: &[u8], field: u32, out: &mut [u8]) -> Word {
+            let ((format, format_len), (line, line_len)) = (lend(format), lend(line));
+            let (out, out_len) = lend_mut(out);
+            Word(unsafe { declared::field(format, format_len, line, line_len, field, out, out_len) })
         }
 
         pub fn rewrite(file: &[u8], out: &mut [u8]) -> Word {

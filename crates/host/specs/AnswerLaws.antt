@@ -13,8 +13,9 @@ use Rattle.exact.specs.Bits.{bitsOf}
 use Rattle.output.specs.Output.{placed, bytesOf}
 use Rattle.output.specs.OutputLaws.{placed-then, placed-first}
 use Rattle.reader.specs.Reader.{shown, Said}
+use Rattle.format_reader.specs.Question.{columns}
 use Rattle.host.specs.Packed.{word, packed}
-use Rattle.host.specs.Answer.{twosComplement, numberBytes, valueBytes, replyFor, bytesAfter}
+use Rattle.host.specs.Answer.{twosComplement, numberBytes, valueBytes, seenBytes, fieldBytes, replyFor, bytesAfter}
 
 -- one number's bytes after those of others
 after : (out o₁ o₂ p t : List ℕ) → o₁ ≡ placed 0 p out → o₂ ≡ placed (length p) t o₁ → o₂ ≡ placed 0 (p ++ t) out
@@ -39,6 +40,12 @@ module _ (o o₁ o₂ o₃ o₄ o₅ : List ℕ) (a e c : ℕ) (m b : Bool) (k :
       sign : (m : Bool) → bytesOf 2 (pick m 1 0) ≡ pick m 1 0 ∷ 0 ∷ []
       sign true = refl
       sign false = refl
+
+-- a field's columns
+pub laid-columns : (o o₁ o₂ : List ℕ) (a e : ℕ) → o₁ ≡ placed 0 (bytesOf 4 a) o → o₂ ≡ placed 4 (bytesOf 4 e) o₁
+    → o₂ ≡ fieldBytes (columns a e ∷ []) ++ drop 8 o
+unfolding fieldBytes seenBytes bytesOf
+laid-columns o o₁ o₂ a e q₁ q₂ = after o o₁ o₂ (bytesOf 4 a) (bytesOf 4 e) q₁ q₂ ∙ placed-first _ o
 
 -- one f64, two, three
 module _ (o o₁ : List ℕ) (x : Float) (k : ℕ) (e : k ≡ bitsOf x) (q : o₁ ≡ placed 0 (bytesOf 8 k) o) where

@@ -1,7 +1,7 @@
 -- A reply as one number word of 64 bits for the C host: number * 2^57 + column * 2^32 + place. The number is taken modulo 2^7, the column is at
--- most 2^25 − 1 and the place is taken modulo 2^32, so that the word is defined for every reply; numbers are at most 25, or 127, and places are
--- lines of a file or a header, sets, indices of stored numbers, lengths of an accepted text, a value's kind, the 20 bytes of a stored number, or
--- how many f64 a 58 stores.
+-- most 2^25 − 1 and the place is taken modulo 2^32, so that the word is defined for every reply; numbers are at most 27, or 127, and places are
+-- lines of a file or a header, sets, indices of stored numbers, lengths of an accepted text, a value's or a field's kind, the 20 bytes of a stored
+-- number, or how many f64 a 58 stores.
 use mathlib.Core.Path.{_≡_}
 use Prim.Native.Nat.{ℕ, _+_, _*_, _/_, _%_, _≤_, _<_}
 use lib.Dec.{ltb}

@@ -4,7 +4,7 @@ ghost use mathlib.Core.List.{[], _∷_, _++_};
 ghost use Prim.Native.Nat.{_≤_};
 ghost use lib.ListN.{length, drop};
 ghost use Rattle.host.specs.Packed.{columnBits, word, packed};
-ghost use Rattle.host.specs.Answer.{twosComplement, numberBytes, numberAnswer, valueAnswer, replyFor, bytesAfter};
+ghost use Rattle.host.specs.Answer.{twosComplement, numberBytes, numberAnswer, valueAnswer, fieldAnswer, replyFor, bytesAfter};
 ghost use Rattle.laws.specs.Choice.{pick};
 ghost use Rattle.text.specs.Parts.{signed};
 ghost use Rattle.judge.specs.Judge.{judged};
@@ -14,7 +14,9 @@ ghost use Rattle.rewriter.specs.Rewriter.{rewriteReply, rewriteOut};
 ghost use Rattle.values.specs.Values.{allReply, allPlaces};
 ghost use Rattle.writer.specs.Writer.{writeReply, writeOut};
 ghost use Rattle.reader.specs.Reader.{said, shown, paper, paperNumber, storedNumber, valueOf};
+ghost use Rattle.format_reader.specs.Question.{columns, number, paperField, answerOf};
 use exact::bits;
+use format_reader::FieldAnswer;
 use judge::Reply;
 use laws::wide;
 use output::put_bytes;
@@ -188,6 +190,49 @@ pub extern "C" fn uff_values(file: &[u8], set: u32, out: &mut [u64]) -> u64
 {
     let found = values::values(file, set, out);
     pack(found)
+}
+
+// Answers with the columns of a text or an integer, a field of this kind; 20 where they have no room.
+fn answer_columns(out: &mut [u8], kind: usize, first: usize, past: usize) -> u64
+    ensures { λ r. ⌜ (r ≡ replyFor (fieldAnswer (said 0 kind (columns first past ∷ []))) (length (now (out .entry)))) × (now (out .exit) ≡ bytesAfter (fieldAnswer (said 0 kind (columns first past ∷ []))) (now (out .entry))) ⌝ }
+{
+    if out.len() < 8 {
+        return bare(20, 0);
+    }
+    put_bytes(out, 0, 4, first as u64);
+    put_bytes(out, 4, 8, past as u64);
+    bare(0, kind)
+}
+
+// Answers with a real; 20 where it has no room.
+fn answer_real(out: &mut [u8], s: Stored) -> u64
+    ensures { λ r. ⌜ (r ≡ replyFor (fieldAnswer (said 0 3 (number (shown (s .first) (s .past) (s .minus) (s .coefficient) (s .below) (s .scale)) ∷ []))) (length (now (out .entry)))) × (now (out .exit) ≡ bytesAfter (fieldAnswer (said 0 3 (number (shown (s .first) (s .past) (s .minus) (s .coefficient) (s .below) (s .scale)) ∷ []))) (now (out .entry))) ⌝ }
+{
+    if out.len() < 20 {
+        return bare(20, 0);
+    }
+    put_number(out, s);
+    bare(0, 3)
+}
+
+// Answers with a line's field, or with its refusal.
+fn answer_field(out: &mut [u8], a: FieldAnswer) -> u64
+    ensures { λ r. ⌜ (r ≡ replyFor (fieldAnswer (paperField a)) (length (now (out .entry)))) × (now (out .exit) ≡ bytesAfter (fieldAnswer (paperField a)) (now (out .entry))) ⌝ }
+{
+    match a {
+        FieldAnswer::Text(first, past) => answer_columns(out, 1, first, past),
+        FieldAnswer::Integer(first, past) => answer_columns(out, 2, first, past),
+        FieldAnswer::Real(s) => answer_real(out, s),
+        FieldAnswer::Refused(r) => pack(r),
+    }
+}
+
+// Document 02's question of C-15: a field, by its number from 0, of a line lent alone, as a FORMAT has it.
+#[no_mangle]
+pub extern "C" fn uff_field(format: &[u8], line: &[u8], field: u32, out: &mut [u8]) -> u64
+    ensures { λ r. ⌜ (r ≡ replyFor (fieldAnswer (answerOf (now (format .entry)) field (now (line .entry)))) (length (now (out .entry)))) × (now (out .exit) ≡ bytesAfter (fieldAnswer (answerOf (now (format .entry)) field (now (line .entry)))) (now (out .entry))) ⌝ }
+{
+    answer_field(out, format_reader::ask(format, line, field))
 }
 
 // Document 01's rewriter: the file in rewritten form into the bytes lent; its length.

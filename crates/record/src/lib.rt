@@ -25,7 +25,7 @@ const PASSED: Refusal = Refusal {
 };
 
 // The number of the refusal of a field of this form in the columns from `at` on; 0 where it passes.
-fn number_at(line: &[u8; 80], form: u8, at: usize, width: usize) -> u8
+pub fn number_at(line: &[u8; 80], form: u8, at: usize, width: usize) -> u8
     requires { ⌜ at + width ≤ 80 ⌝ }
     ensures { λ r. ⌜ r ≡ fieldNumber (formOf form) (mayBlank (formOf form) (now (line .entry))) (take width (drop at (now (line .entry)))) ⌝ }
 {
@@ -93,7 +93,7 @@ fn stray_at(line: &[u8; 80], form: u8, at: usize, width: usize) -> usize
 }
 
 // The column of the first byte outside the fields that is no blank; 0 where there is none.
-fn first_stray(line: &[u8; 80], forms: &[u8], widths: &[u8]) -> usize
+pub fn first_stray(line: &[u8; 80], forms: &[u8], widths: &[u8]) -> usize
     requires { ⌜ (length (now widths) ≤ length (now forms)) × (total (now widths) ≤ 80) ⌝ }
     ensures { λ r. ⌜ r ≡ stray (fieldList (now (forms .entry)) (now (widths .entry))) 0 (now (line .entry)) ⌝ }
 {

@@ -103,7 +103,7 @@ refused-word r h = by (r .number) refl
     by zero e = absurd (omega (arith, word-none r e))
     by (suc n) e = omega arith
 
-answer-kept : (s : Said ℕ) (out : List ℕ) → Quiet s → 0 < numberIn (replyFor s (length out)) → bytesAfter s out ≡ out
+pub answer-kept : (s : Said ℕ) (out : List ℕ) → Quiet s → 0 < numberIn (replyFor s (length out)) → bytesAfter s out ≡ out
 unfolding replyFor bytesAfter
 answer-kept s out q h = by (ltb (length out) (length (s .shown))) h
   where

@@ -36,4 +36,5 @@ pub mod LaidOutLaws
 pub mod WriterLaws
 pub mod KeptLaws
 pub mod ArrivalLaws
+pub mod QuestionLaws
 pub mod Theorems

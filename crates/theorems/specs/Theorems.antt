@@ -1,4 +1,4 @@
--- THE PAGE OF THEOREMS: the three demands, C-11, C-13 and C-14, sentence by sentence, each with the theorems that carry it; what is proved stands in the files that
+-- THE PAGE OF THEOREMS: the three demands, C-11, C-13, C-14 and C-15, sentence by sentence, each with the theorems that carry it; what is proved stands in the files that
 -- they cite. A file is a list of bytes. Every call is proved to answer, for all bytes and numbers, by definitions that are named here, in its `ensures`: C
 -- gets `word` of a reply, a stored number or a value by `replyFor`, a burst by `Burst word` (crates/host/src/lib.rt); for C-11 also crates/stream_mut/src/lib.rt.
 -- `judged` is the judge's reply, and `Proper sets bytes` says from a list of sets alone that a text is a proper writing of it.
@@ -91,6 +91,32 @@ use Rattle.theorems.specs.AloneLaws as AloneLaws
 use Rattle.theorems.specs.WriterLaws as WriterLaws
 use Rattle.theorems.specs.KeptLaws as KeptLaws
 use Rattle.theorems.specs.ArrivalLaws as ArrivalLaws
+use Rattle.format.specs.Format as Format
+use Rattle.format.specs.Format.{Format}
+use Rattle.format.specs.Reading.{fields, readingOf}
+use Rattle.format.specs.ReadingLaws as ReadingLaws
+use Rattle.line.specs.Line.{columns, filled}
+use Rattle.record_table.specs.Row.{Field, firstFields}
+use Rattle.record_table.specs.Records.{recordOf, dataRow, noRecord, traceEntries, orderLists}
+use Rattle.record.specs.Check.{taken}
+use Rattle.walk.specs.declared.State.{State}
+use Rattle.walk.specs.declared.Outcome.the-variants.{Next}
+use Rattle.walk.specs.declared.Outcome.the-variants as Outcome
+use Rattle.judge.specs.Judge.{lineStep}
+use Rattle.reader.specs.Reader.{refusedBy}
+use Rattle.format_reader.specs.Question.{Seen}
+use Rattle.format_reader.specs.Question as Question
+use Rattle.host.specs.Answer.{seenBytes, fieldAnswer}
+use Rattle.format_laws.specs.Asked.{ReadsAs, leftBlank, Ruled, Asked}
+use Rattle.format_laws.specs.Printed.{printAt, caseAt, isAmong, entriesText, ordersText, lastText}
+use Rattle.format_laws.specs.Printed as Printed
+use Rattle.format_laws.specs.Said.{FieldSaid}
+use Rattle.format_laws.specs.SameLaws as SameLaws
+use Rattle.format_laws.specs.PrintedLaws as PrintedLaws
+use Rattle.format_laws.specs.JudgeLaws as QuestionJudgeLaws
+use Rattle.format_laws.specs.SaidLaws as SaidLaws
+use Rattle.theorems.specs.QuestionLaws.{ItemsShown}
+use Rattle.theorems.specs.QuestionLaws as QuestionLaws
 
 -- DEMAND 1. "Every call takes every string of bytes and every number, and ends.": what each answers is proved for all of them.
 -- "A bad file or a bad question gets a number from document 01's table, with the line where the table says so."
@@ -475,3 +501,73 @@ module _ (header : List ℕ) (h : 0 < headerOf header .reply .number) where
   pub header-twelfth : headerLines < length (cut header .lines) → headerLines < headerOf header .reply .place
       → headerOf header .reply ≡ atLine headerLines (twelfthFault (getD (cut header .lines) headerLines []))
   header-twelfth = HeaderRefusedLaws.past-refused header h
+
+-- C-15. "The planner wants to type in a set's printed FORMAT and read a line's fields, by number from 0.": `Question.answerOf text k line`, field k of a line lent alone;
+-- C gets it by `replyFor` (`uff_field`). What it can answer:
+pub question-table : (text : List ℕ) (k : ℕ) (line : List ℕ) → FieldSaid (Question.answerOf text k line)
+question-table = SaidLaws.question-said
+
+pub question-kept : (text : List ℕ) (k : ℕ) (line out : List ℕ) → 0 < numberIn (replyFor (fieldAnswer (Question.answerOf text k line)) (length out))
+    → bytesAfter (fieldAnswer (Question.answerOf text k line)) out ≡ out
+question-kept = QuestionLaws.field-kept
+
+pub question-short : (text : List ℕ) (k : ℕ) (line : List ℕ) (kind : ℕ) (x : Seen) → Question.answerOf text k line ≡ said 0 kind (x ∷ [])
+    → (room : ℕ) → room < length (seenBytes x) → replyFor (fieldAnswer (Question.answerOf text k line)) room ≡ word (reply 20 0)
+question-short = QuestionLaws.field-short
+
+-- "Items are I and A with width, .. no list is empty.", "An A item with its own count is one text", "Widths are 1 to 80, decimals at most the width.", "The text is at
+-- most 120 bytes, with groups three deep, optional outer brackets not counted.": `format` Format says by a grammar which texts are FORMATs (`Text`), which of them
+-- fit (`Fits`), and their fields. What is read is one, every one is read, and as one list of fields only
+pub format-sound : (bytes : List ℕ) (fs : List Format.Field) → readingOf bytes ≡ fields fs → ReadingLaws.ReadAs fs bytes
+format-sound = ReadingLaws.reading-sound
+
+pub format-complete : {t : Format} {bytes : List ℕ} → Format.Text t bytes → Format.Fits t → readingOf bytes ≡ fields (Format.fieldsOf t)
+format-complete = ReadingLaws.reading-complete
+
+pub format-one : {t u : Format} {bytes : List ℕ} → Format.Text t bytes → Format.Text u bytes → t ≡ u
+format-one = ReadingLaws.reading-one
+
+-- "Refusals: 26, text malformed or too long; then 27, deeper than three or over 80 columns; then the line's own; then 18."
+pub format-malformed : (bytes : List ℕ) → ((t : Format) → Format.Text t bytes → ⊥) → (k : ℕ) (line : List ℕ) → Question.answerOf bytes k line ≡ refused 26 0
+format-malformed bytes n k line = QuestionLaws.text-first bytes k line .0 (ReadingLaws.malformed-reading bytes n)
+
+pub format-large : {t : Format} {bytes : List ℕ} → Format.Text t bytes → (Format.Fits t → ⊥) → (k : ℕ) (line : List ℕ) → Question.answerOf bytes k line ≡ refused 27 0
+format-large {bytes = bytes} x n k line = QuestionLaws.text-first bytes k line .1 (ReadingLaws.reading-large x n)
+
+-- "For every record of document 01 and every line, reading by the printed FORMAT gives the same fields or the same refusal as the built-in reader, before 9, 11 and 14
+-- are looked at": of any fields of a row, by any text that reads as them; `format_laws` Printed has the printed texts, each of which reads as its record
+pub format-same : (text : List ℕ) (fs : List Field) → ReadsAs text fs → (k : ℕ) (line : List ℕ) → leftBlank fs (filled line) ≡ false
+    → Question.answerOf text k line ≡ Question.fieldOf fs k line
+format-same = SameLaws.by-format
+
+pub record-printed : (k : ℕ) → k < noRecord → isAmong Printed.records k ≡ true
+record-printed = PrintedLaws.is-printed
+
+pub record-reads : (i : ℕ) → i < length Printed.records → ReadsAs (printAt i .text) (recordOf (printAt i .number) .fields)
+record-reads = PrintedLaws.record-reads
+
+pub case-reads : (i : ℕ) → i < length Printed.cases → ReadsAs (caseAt i .text) (dataRow (caseAt i .number) .fields)
+case-reads = PrintedLaws.case-reads
+
+-- "a last line of numbers is read by the FORMAT of what it holds, C-13's remainder counting whole unless blank"
+pub entries-read : (n : ℕ) → 1 ≤ n → n ≤ 8 → ReadsAs (entriesText n) (take n (recordOf traceEntries .fields))
+entries-read = PrintedLaws.entries-reads
+
+pub orders-read : (n : ℕ) → 1 ≤ n → n ≤ 5 → ReadsAs (ordersText n) (take n (recordOf orderLists .fields))
+orders-read = PrintedLaws.orders-reads
+
+pub last-reads : (c n : ℕ) (line : List ℕ) → c < 8 → 1 ≤ n → n ≤ 6 → ReadsAs (lastText c n line) (taken (firstFields n (dataRow c)) line .fields)
+last-reads = PrintedLaws.last-reads
+
+-- the built-in reader is the judge's: in a state s where a row is due, on a line of bytes l before its LF, by a text that reads as the row's fields. Where the judge passes
+-- the line every field shows the list's item in its columns; where it refuses it, but for 9, 11 and 14, the question has the same number and column; where a field
+-- is shown it passes the line, or refuses it with 9, 11 or 14
+module _ {s : State} {l text : List ℕ} (a : Asked s l text) where
+  pub judge-passes : (t : State) → lineStep s l ≡ Next t → ItemsShown a
+  judge-passes = QuestionLaws.items-shown a
+
+  pub judge-refuses : (f : Refusal) → lineStep s l ≡ Outcome.Refused f → (Ruled (f .number) → ⊥) → (k : ℕ) → Question.answerOf text k (columns true l) ≡ refusedBy (atLine 0 f)
+  judge-refuses = QuestionJudgeLaws.refused-same a
+
+  pub field-shown : (k : ℕ) → Question.answerOf text k (columns true l) .reply .number ≡ 0 → (f : Refusal) → lineStep s l ≡ Outcome.Refused f → Ruled (f .number)
+  field-shown = QuestionJudgeLaws.shown-passes a

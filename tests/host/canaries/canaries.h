@@ -86,6 +86,7 @@ struct text padded(void);
 void try_judge(void);
 void try_list(void);
 void try_number(void);
+void try_field(void);
 void try_value(void);
 void try_values(void);
 void try_rewrite(void);

@@ -42,7 +42,7 @@ static void check_texts(void)
 {
     name = "the table of texts";
     for (unsigned i = 0; i < 128; i++) {
-        bool in_table = i <= 25 || i == 127;
+        bool in_table = i <= 27 || i == 127;
         if ((strcmp(uff_text(i), uff_text(99)) != 0) != in_table)
             differs("a number without a text of its own");
         cases++;
@@ -50,7 +50,7 @@ static void check_texts(void)
 }
 
 static void (*const calls[])(void) = {
-    try_judge, try_list, try_number, try_value, try_values, try_rewrite, try_alone, try_write, try_stream,
+    try_judge, try_list, try_number, try_field, try_value, try_values, try_rewrite, try_alone, try_write, try_stream,
 };
 
 int main(int count, char **words)

@@ -1,0 +1,17 @@
+pub mod Format
+pub mod Reading
+pub mod NumberLaws
+pub mod LeafLaws
+pub mod ListLaws
+pub mod FieldsLaws
+pub mod ReadingLaws
+pub mod Laid
+pub mod Measured
+pub mod Row
+pub mod MeasuredLaws
+pub mod StepLaws
+pub mod RowLaws
+pub mod LayLaws
+pub mod AnswerLaws
+pub mod Computed
+pub mod Examples

@@ -1,0 +1,63 @@
+-- What C-15 says of reading by a printed FORMAT: "For every record of document 01 and every line, reading by the printed FORMAT gives the same fields or
+-- the same refusal as the built-in reader, before 9, 11 and 14 are looked at".
+use mathlib.Core.Path.{_≡_}
+use mathlib.Core.Bool.{Bool, true, false, _||_}
+use mathlib.Core.List.{List, [], _∷_, map}
+use Prim.Native.Nat.{ℕ}
+use Rattle.text.specs.Text.{TextIn}
+use Rattle.text.specs.Parts.{signed}
+use Rattle.integer.specs.Spelling.{IntegerSpelling}
+use Rattle.real.specs.Spelling.{RealSpelling}
+use Rattle.format.specs.Format as Format
+use Rattle.format.specs.Reading.{fields, readingOf}
+use Rattle.line.specs.Line.{columns, filled}
+use Rattle.delimiter.specs.Kind.{Delimiter}
+use Rattle.field.specs.Item.{Item}
+use Rattle.field.specs.Field.{columnsOf, mayBlank}
+use Rattle.record_table.specs.Row.{Field}
+use Rattle.record.specs.Check.{taken}
+use Rattle.walk.specs.Due.{mayContinue, rowDue}
+use Rattle.walk.specs.declared.Due.{Due}
+use Rattle.walk.specs.declared.Place.the-variants.{Typed}
+use Rattle.walk.specs.declared.State.{State}
+use Rattle.reader.specs.Reader.{Said, said, Shown, scaleOf}
+use Rattle.format_reader.specs.Question.{Seen, kindOf}
+use Rattle.format_reader.specs.Question as Question
+
+-- a row's field as a FORMAT has it: its kind and its width
+abbrev pub formatField : Field → Format.Field
+formatField f = record { kind = kindOf (f .form); width = f .width }
+
+-- the text reads as these fields of a row
+abbrev pub ReadsAs : List ℕ → List Field → Type 0
+ReadsAs text fs = readingOf text ≡ fields (map formatField fs)
+
+-- "lines of 151 and 164 with a number field that may be blank left blank": whether a line is one, which is left out
+unfoldable pub leftBlank : List Field → List ℕ → Bool
+leftBlank [] line = false
+leftBlank (f ∷ fs) line = mayBlank (f .form) line || leftBlank fs line
+
+-- 9, 11 and 14
+pub data Ruled : ℕ → Type 0 where
+  nine : Ruled 9
+  eleven : Ruled 11
+  fourteen : Ruled 14
+
+-- a field shows an item in its columns, of a line's 80: "a text or integer being shown as the first and past byte of its columns, a real as the
+-- reader shows it"
+pub data Shows (line : List ℕ) : Item → Said Seen → Type 0 where
+  a-text : {a e : ℕ} {t : List ℕ} → TextIn t (columnsOf a e line) → Shows line (Item.text t) (said 0 1 (Question.columns a e ∷ []))
+  an-integer : {a e v : ℕ} {n : Bool} → IntegerSpelling n v (columnsOf a e line) → Shows line (Item.integer (signed n v)) (said 0 2 (Question.columns a e ∷ []))
+  a-real : (x : Shown) → RealSpelling (x .sign) (x .coefficient) (scaleOf x) (columnsOf (x .first) (x .past) line)
+      → Shows line (Item.real (x .sign) (x .coefficient) (scaleOf x)) (said 0 3 (Question.number x ∷ []))
+
+-- a line of a file, by the bytes before its LF, where a row is due in a typed set, and a text that reads as the fields of this row that are taken: the
+-- row's own ("a last line of numbers is read by the FORMAT of what it holds"), of a 58 those of the full line where the remainder is not blank. No
+-- delimiter, and no line with a field left blank
+pub record Asked (s : State) (l text : List ℕ) : Type 0 where
+  pub due : Due
+  pub place : s .place ≡ Typed due
+  pub more : mayContinue due ≡ true
+  pub inside : Delimiter (filled (columns true l)) → ⊥
+  pub reads : ReadsAs text (taken (rowDue due) (filled (columns true l)) .fields)
+  pub present : leftBlank (taken (rowDue due) (filled (columns true l)) .fields) (filled (columns true l)) ≡ false

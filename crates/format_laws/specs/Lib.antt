@@ -1,0 +1,10 @@
+pub mod Asked
+pub mod SameLaws
+pub mod RuledLaws
+pub mod ShownLaws
+pub mod JudgeLaws
+pub mod Printed
+pub mod PrintedLaws
+pub mod Said
+pub mod SaidLaws
+pub mod Examples

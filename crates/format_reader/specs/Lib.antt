@@ -1,0 +1,5 @@
+pub mod Unruled
+pub mod UnruledLaws
+pub mod Question
+pub mod QuestionLaws
+pub mod TextLaws
