@@ -1,13 +1,12 @@
 -- The question and the judge on one line, in its place in a file.
 use mathlib.Core.Path.{_≡_, refl, sym, ap, _∙_}
-use mathlib.Core.Logic.{_⊎_, inl, inr}
+use mathlib.Core.Logic.{inl, inr}
 use mathlib.Core.Bool.{Bool, true, false}
 use mathlib.Core.List.{List}
-use Prim.Native.Nat.{ℕ, zero, suc, _≤_, _<_}
+use Prim.Native.Nat.{ℕ, zero, suc, _<_}
 use native.Mathlib.Omega.{arith}
 use borrow.Author.Tests.{lt-ltb, le-ltb}
 use lib.ListN.{length, getD}
-use Rattle.laws.specs.ChoiceLaws.{false-not-true}
 use Rattle.line.specs.Line.{refusal, columns, lineFault, filled}
 use Rattle.line.specs.declared.Refusal.{Refusal}
 use Rattle.delimiter.specs.Kind.{Delimiter, isDelimiter}

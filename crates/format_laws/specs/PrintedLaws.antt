@@ -1,10 +1,10 @@
 -- Each printed FORMAT reads as its record's fields, so reading by it is reading by the record.
-use mathlib.Core.Path.{_≡_, refl, _∙_}
+use mathlib.Core.Path.{_≡_, refl}
 use mathlib.Core.Bool.{Bool, true, false}
 use mathlib.Core.List.{List, [], _∷_, map}
-use Prim.Native.Nat.{ℕ, suc, _+_, _-_, _*_, _/_, _%_, _≤_, _<_}
+use Prim.Native.Nat.{ℕ, _+_, _-_, _*_, _/_, _%_, _≤_, _<_}
 use native.Mathlib.Omega.{arith}
-use lib.ListN.{length, getD, take}
+use lib.ListN.{length, take}
 use Rattle.laws.specs.Choice.{pick}
 use Rattle.laws.specs.Ranges.{allAre}
 use Rattle.laws.specs.RangesLaws.{in-range}
@@ -13,7 +13,6 @@ use Rattle.text.specs.Blank.{allBlank}
 use Rattle.format.specs.Reading.{Reading, fields, readingOf}
 use Rattle.format.specs.Computed.{computed-reading}
 use Rattle.line.specs.Line.{filled}
-use Rattle.codes.specs.Form.{optionalOf}
 use Rattle.layout.specs.Layout.{layouts, layoutOf}
 use Rattle.field.specs.Field.{mayBlank}
 use Rattle.record_table.specs.Row.{Field, firstFields}

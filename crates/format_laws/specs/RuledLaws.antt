@@ -1,5 +1,5 @@
 -- The judge's refusal of a line by its row is the question's, or 9, 11 or 14.
-use mathlib.Core.Path.{_≡_, refl, sym, ap, _∙_}
+use mathlib.Core.Path.{_≡_, refl, _∙_}
 use mathlib.Core.Logic.{_⊎_, inl, inr}
 use mathlib.Core.Bool.{Bool, true, false, _||_}
 use mathlib.Core.List.{List, [], _∷_}
@@ -81,9 +81,6 @@ module _ (line : List ℕ) where
   unfolding takenRefusal conditionFault
   tied-taken r = by (tied-refusal (r .fields))
     where
-      f : Refusal
-      f = fieldsRefusal (r .fields) line
-
       b : ℕ
       b = breach (r .condition) (itemsOf (r .fields) 0 line)
 

@@ -1,7 +1,7 @@
 -- The question answers nothing else.
-use mathlib.Core.Path.{_≡_, refl, sym}
+use mathlib.Core.Path.{_≡_, refl}
 use mathlib.Core.Bool.{Bool, true, false}
-use mathlib.Core.List.{List, [], _∷_, map}
+use mathlib.Core.List.{List, [], _∷_}
 use Prim.Native.Nat.{ℕ, zero, suc, _+_, _-_, _≤_, _<_}
 use native.Mathlib.Omega.{arith}
 use borrow.Author.Tests.{ltb-true, lt-ltb}
@@ -27,11 +27,11 @@ use Rattle.field.specs.Field.{mayBlank, integerNumber, realNumber, fieldNumber}
 use Rattle.record_table.specs.Row.{Field}
 use Rattle.record.specs.Check.{orElse, strayFault, stray}
 use Rattle.record.specs.CheckLaws.{orElse-here}
-use Rattle.judge.specs.Judge.{atLine}
-use Rattle.reader.specs.Reader.{Said, refusedBy}
+use Rattle.reader.specs.Reader.{Said}
 use Rattle.format_reader.specs.Unruled.{lookedAt, unruledNumber, unruledFault, unruledRefusal}
 use Rattle.format_reader.specs.Question.{Seen, kindOf, counts, fieldShown, realShown, shownFrom, lineFirst, fieldIn, fieldOf, answerBy, answerOf}
-use Rattle.format_laws.specs.Said.{QuestionNumber, byte, long, integer-malformed, real-malformed, integer-blank, real-blank, Questioned, none, some, FieldSaid, shown, malformed, too-large, no-field, line}
+use Rattle.format_laws.specs.Said.{QuestionNumber, byte, long, integer-malformed, real-malformed, integer-blank, real-blank, Questioned, none, some}
+use Rattle.format_laws.specs.Said.{FieldSaid, shown, malformed, too-large, no-field, line}
 use Rattle.format_laws.specs.Said as Said
 
 -- A field's number: 0, or one of those.

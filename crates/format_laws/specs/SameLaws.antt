@@ -11,9 +11,9 @@ use Rattle.text.specs.Parts.{signed}
 use Rattle.integer.specs.Integer.{integerOf}
 use Rattle.integer.specs.declared.Integer.{Integer}
 use Rattle.integer.specs.declared.Integer.the-variants.{Blank, Malformed, OutOfRange, Value}
-use Rattle.line.specs.Line.{lineFault, filled}
+use Rattle.line.specs.Line.{filled}
 use Rattle.codes.specs.Rule.{Rule, any, keeps}
-use Rattle.codes.specs.Form.{Form, Optional, skip, text, identification, real, integer}
+use Rattle.codes.specs.Form.{Form, skip, text, identification, real, integer}
 use Rattle.field.specs.Field.{mayBlank, integerNumber, fieldNumber}
 use Rattle.record_table.specs.Row.{Field}
 use Rattle.record.specs.Check.{strayIn, stray}

@@ -1,8 +1,8 @@
 -- On a line that passes, each field shows its item.
-use mathlib.Core.Path.{_≡_, refl, sym, ap, _∙_}
-use mathlib.Core.Bool.{Bool, true, false}
-use mathlib.Core.List.{List, [], _∷_, _++_, append-nil}
-use Prim.Native.Nat.{ℕ, zero, suc, _+_, _-_, _≤_, _<_}
+use mathlib.Core.Path.{_≡_, refl}
+use mathlib.Core.Bool.{false}
+use mathlib.Core.List.{List, [], _∷_, _++_}
+use Prim.Native.Nat.{ℕ, zero, suc, _+_, _-_, _<_}
 use native.Mathlib.Omega.{arith}
 use borrow.Author.Tests.{le-ltb}
 use lib.Dec.{ltb}
@@ -23,11 +23,10 @@ use Rattle.codes.specs.Rule.{Rule}
 use Rattle.codes.specs.Form.{Form, skip, text, identification, real, integer}
 use Rattle.field.specs.Item.{Item}
 use Rattle.field.specs.Field.{columnsOf, mayBlank, integerNumber, realNumber, fieldNumber, integerItem, realItem, withItem}
-use Rattle.record_table.specs.Row.{Field, Row, withPadding, paddingFields, span}
+use Rattle.record_table.specs.Row.{Field, Row, paddingFields}
 use Rattle.record.specs.Check.{fieldsFault, itemsOf, taken}
 use Rattle.record.specs.CheckLaws.{orElse-passed, past-width}
 use Rattle.record.specs.TakenLaws.{taken-is}
-use Rattle.layout.specs.Columns.{total}
 use Rattle.reader.specs.Reader.{Said, said, shown}
 use Rattle.format_reader.specs.Question.{Seen, kindOf, counts, fieldShown, realShown, shownFrom}
 use Rattle.format_reader.specs.Question as Question

@@ -2,7 +2,6 @@
 use mathlib.Core.Path.{refl}
 use Prim.Native.Nat.{_-_}
 use borrow.Author.Needs.{needs}
-use native.Mathlib.Omega.{arith}
 use Rattle.format_reader.specs.Question.{formNumber}
 use Rattle.format_reader.specs.QuestionLaws.{Changing, changing-next, changing-done}
 use Rattle.format_reader.proofs.forms_of.Statement.{statement}
