@@ -20,7 +20,7 @@ static uint8_t file[1 << 16], plain[1 << 16];
 static size_t file_len, header_from, header_len;
 static uint32_t rows[UFF_SETS * UFF_ROW_NUMBERS];
 static double doubles[UFF_DOUBLES];
-static uint8_t out[UFF_VALUE_BYTES];
+static uint8_t out[UFF_VALUE_BYTES]; /* room for a number and a field too */
 static const int64_t coefficients[7] = {1, -2, 3, -4, 5, -6, 7};
 static const int16_t scales[7] = {-1, -1, -1, -1, -1, -1, -1};
 static struct uff_stream record;
@@ -36,12 +36,31 @@ static void start(void) { reply = uff_stream_start(&record); }
 static void burst(void) { reply = uff_stream_burst(&record, file, file_len / 2); }
 static void next_burst(void) { reply = uff_stream_burst(&record, file + file_len / 2, file_len - file_len / 2); }
 static void end(void) { reply = uff_stream_end(&record); }
+static void field(void)
+{
+    static const char format[] = "(2(1(1(1(I10,1X,20A1,1X,1P2E13.5)))))", line[] = "         7";
+    reply = uff_field((const uint8_t *)format, sizeof format - 1, (const uint8_t *)line, sizeof line - 1, 0, out, sizeof out);
+    if (UFF_NUMBER(reply) != 27)
+        abort();
+    reply = uff_field((const uint8_t *)"2(1(1(I10)))", 12, (const uint8_t *)line, sizeof line - 1, 0, out, sizeof out);
+    if (UFF_NUMBER(reply) != 24)
+        abort();
+    reply = uff_field((const uint8_t *)"((((I10))))", 11, (const uint8_t *)line, sizeof line - 1, 0, out, sizeof out);
+}
+static void deep_field(void)
+{
+    static uint8_t brackets[UFF_FORMAT_LONGEST];
+    memset(brackets, '(', sizeof brackets);
+    if (UFF_NUMBER(uff_field(brackets, sizeof brackets, brackets, 0, 0, out, sizeof out)) != 26)
+        abort();
+    reply = 0;
+}
 static void write_set(void)
 {
     reply = uff_write(file + header_from, header_len, coefficients, 7, scales, 7, plain, sizeof plain);
 }
 
-static void (*const calls[])(void) = {judge, list, number, value, values, rewrite, write_set, start, burst, next_burst, end};
+static void (*const calls[])(void) = {judge, list, number, value, values, rewrite, field, deep_field, write_set, start, burst, next_burst, end};
 
 static void fail(const char *what)
 {
