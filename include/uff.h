@@ -13,8 +13,9 @@
  * record of the streaming calls is told apart below.) No call allocates, keeps a pointer or has state
  * of its own; calls on separate buffers may run at the same time.
  *
- * 16 KB of stack are enough for every call, measured by the archive's instructions for any input, and
- * by running (tests/host/stack).
+ * 16 KB of stack are enough for every call but uff_field, for which 128 KB are: it lays out the items of
+ * a FORMAT one inside the other. Both are measured, the first by the archive's instructions for any
+ * input too (tests/host/stack).
  *
  * A call takes time in proportion to the bytes that it is given. Each question judges the whole file
  * again before it answers, uff_number and uff_value for one number too: ask for all values of a set at

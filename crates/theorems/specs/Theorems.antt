@@ -111,7 +111,7 @@ use Rattle.format_laws.specs.Asked.{ReadsAs, leftBlank, Ruled, Asked}
 use Rattle.format_laws.specs.Printed.{printAt, caseAt, isAmong, entriesText, ordersText, lastText}
 use Rattle.format_laws.specs.Printed as Printed
 use Rattle.format_laws.specs.Said.{FieldSaid}
-use Rattle.format_laws.specs.SameLaws as SameLaws
+use Rattle.format_laws.specs.SameLaws as FormatLaws
 use Rattle.format_laws.specs.PrintedLaws as PrintedLaws
 use Rattle.format_laws.specs.JudgeLaws as QuestionJudgeLaws
 use Rattle.format_laws.specs.SaidLaws as SaidLaws
@@ -538,7 +538,7 @@ format-large {bytes = bytes} x n k line = QuestionLaws.text-first bytes k line .
 -- are looked at": of any fields of a row, by any text that reads as them; `format_laws` Printed has the printed texts, each of which reads as its record
 pub format-same : (text : List ℕ) (fs : List Field) → ReadsAs text fs → (k : ℕ) (line : List ℕ) → leftBlank fs (filled line) ≡ false
     → Question.answerOf text k line ≡ Question.fieldOf fs k line
-format-same = SameLaws.by-format
+format-same = FormatLaws.by-format
 
 pub record-printed : (k : ℕ) → k < noRecord → isAmong Printed.records k ≡ true
 record-printed = PrintedLaws.is-printed
