@@ -62,8 +62,8 @@
  *
  * The column of a refusal that has a line is that of the first such byte for 2 and 13, the first of the
  * field for 10, 11, 12, 14, 24 and 25, and otherwise 1. Every other reply has column 0. Only 2 has a
- * column past 80. No column of a file is over UFF_LONGEST; of a header lent to uff_write one over
- * 33,554,431, which the word has no room for, is given as 33,554,431.
+ * column past 80. No column of a file is over UFF_LONGEST; of a header lent to uff_write or a line lent to
+ * uff_field one over 33,554,431, which the word has no room for, is given as 33,554,431.
  */
 #define UFF_NUMBER(reply) ((unsigned)((uint64_t)(reply) >> 57))
 #define UFF_COLUMN(reply) ((uint32_t)((uint64_t)(reply) >> 32 & 0x1ffffff))
