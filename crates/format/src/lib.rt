@@ -10,6 +10,7 @@ ghost use Rattle.format.specs.Reading.{digitsBefore, numberOf, countOf, 
 ghost use Rattle.format.specs.Laid.{fieldsIn, refusedFields};
 ghost use Rattle.format.specs.Row.{aRow, layingIn, pushed, againRow, repeatFrom, layPlain, laidLeaf, closedLaid, laid, Unblanked};
 ghost use Rattle.format.specs.Measured.{capped, deeper, highest, keptDigit, figureAt, tallyAt, sizedLeaf, decimalsBy, decimalsLeaf, realLeaf, scaledLeaf, plainLeaf, measuredLeaf, groupDepth, closedMeasure, joinedMeasure, measured};
+use laws::index;
 use laws::wide;
 use text::is_digit;
 
@@ -408,43 +409,32 @@ fn list(s: &[u8], at: usize, left: usize) -> Measure
 // Where an item or a list ends, and how many fields there are with those that it adds.
 pub struct Laid {
     pub found: bool,
+    pub count: u8,
     pub at: usize,
-    pub count: usize,
 }
 
 // Nothing is laid.
 const NOTHING: Laid = Laid {
     found: false,
-    at: 0,
     count: 0,
+    at: 0,
 };
 
 // Puts one field after `count` fields; 80 stay as they are. Answers how many there are.
-fn push_field(
-    kinds: &mut [u8; 80],
-    widths: &mut [u8; 80],
-    count: usize,
-    kind: u8,
-    width: u8,
-) -> usize
+fn push_field(kinds: &mut [u8; 80], widths: &mut [u8; 80], count: u8, kind: u8, width: u8) -> u8
     ensures { λ r. ⌜ aRow r (now (kinds .exit)) (now (widths .exit)) ≡ pushed (aRow count (now (kinds .entry)) (now (widths .entry))) kind width ⌝ }
 {
     if count < 80 {
-        kinds[count] = kind;
-        widths[count] = width;
+        let at = index(count);
+        kinds[at] = kind;
+        widths[at] = width;
         return count + 1;
     }
     count
 }
 
 // Puts, after `count` fields, those from one place to before another once more. Answers how many there are.
-fn again(
-    kinds: &mut [u8; 80],
-    widths: &mut [u8; 80],
-    count: usize,
-    from: usize,
-    past: usize,
-) -> usize
+fn again(kinds: &mut [u8; 80], widths: &mut [u8; 80], count: u8, from: u8, past: u8) -> u8
     ensures { λ r. ⌜ aRow r (now (kinds .exit)) (now (widths .exit)) ≡ againRow (past - from) from (aRow count (now (kinds .entry)) (now (widths .entry))) ⌝ }
 {
     let mut n = count;
@@ -453,8 +443,9 @@ fn again(
         if 80 <= j {
             return n;
         }
-        let kind = kinds[j];
-        let width = widths[j];
+        let at = index(j);
+        let kind = kinds[at];
+        let width = widths[at];
         n = push_field(kinds, widths, n, kind, width);
         j += 1;
     }
@@ -462,13 +453,7 @@ fn again(
 }
 
 // Puts the fields from a place on so often that they come this many times. Answers how many there are.
-fn repeated(
-    kinds: &mut [u8; 80],
-    widths: &mut [u8; 80],
-    count: usize,
-    from: usize,
-    times: u8,
-) -> usize
+fn repeated(kinds: &mut [u8; 80], widths: &mut [u8; 80], count: u8, from: u8, times: u8) -> u8
     ensures { λ r. ⌜ aRow r (now (kinds .exit)) (now (widths .exit)) ≡ repeatFrom (times - 1) from (aRow count (now (kinds .entry)) (now (widths .entry))) ⌝ }
 {
     let mut n = count;
@@ -481,7 +466,7 @@ fn repeated(
 }
 
 // Puts the fields of an item without brackets: a text with a count is one. Answers how many there are.
-fn lay_plain(kinds: &mut [u8; 80], widths: &mut [u8; 80], count: usize, i: Leaf) -> usize
+fn lay_plain(kinds: &mut [u8; 80], widths: &mut [u8; 80], count: u8, i: Leaf) -> u8
     ensures { λ r. ⌜ aRow r (now (kinds .exit)) (now (widths .exit)) ≡ layPlain (aRow count (now (kinds .entry)) (now (widths .entry))) (i .kind) (i .count) (i .width) ⌝ }
 {
     if i.kind == 1 {
@@ -492,7 +477,7 @@ fn lay_plain(kinds: &mut [u8; 80], widths: &mut [u8; 80], count: usize, i: Leaf)
 }
 
 // The same, with where the item ends.
-fn lay_leaf(kinds: &mut [u8; 80], widths: &mut [u8; 80], count: usize, i: Leaf) -> Laid
+fn lay_leaf(kinds: &mut [u8; 80], widths: &mut [u8; 80], count: u8, i: Leaf) -> Laid
     ensures { λ r. ⌜ layingIn r (now (kinds .exit)) (now (widths .exit)) ≡ laidLeaf (aRow count (now (kinds .entry)) (now (widths .entry))) i ⌝ }
 {
     if !i.found {
@@ -510,7 +495,7 @@ fn lay_group(
     kinds: &mut [u8; 80],
     widths: &mut [u8; 80],
     s: &[u8],
-    from: usize,
+    from: u8,
     c: Tally,
     m: Laid,
 ) -> Laid
@@ -533,7 +518,7 @@ fn lay_group(
 fn lay_item(
     kinds: &mut [u8; 80],
     widths: &mut [u8; 80],
-    count: usize,
+    count: u8,
     s: &[u8],
     at: usize,
     left: usize,
@@ -558,7 +543,7 @@ fn lay_item(
 fn lay_list(
     kinds: &mut [u8; 80],
     widths: &mut [u8; 80],
-    count: usize,
+    count: u8,
     s: &[u8],
     at: usize,
     left: usize,
@@ -641,7 +626,7 @@ fn read_packed(s: &[u8]) -> Fields
     let l = lay_list(&mut kinds, &mut widths, 0, s, 0, left);
     Fields {
         number: 0,
-        count: l.count,
+        count: index(l.count),
         kinds,
         widths,
     }

@@ -23,6 +23,9 @@ loop-holds c = record { same = refl }
 returns : tie.Need-returns Inv-loop μ-loop
 returns c = sym (againRow-full _ _ _ (c .if1 .taken)) ∙ c .before .before .loop .inv .same
 
+index-requires : tie.Need-index-requires Inv-loop μ-loop
+index-requires c κs = search needs
+
 element-copy-out-kind : tie.Need-element-copy-out-kind Inv-loop μ-loop
 element-copy-out-kind c = search needs
 
@@ -40,9 +43,10 @@ loop-less c = search needs
 
 loop-again : tie.Need-loop-again Inv-loop μ-loop
 loop-again c =
-    let at-if1 = c .before .before .before .before .before in
+    let at-index = c .before .before .before .before .before in
+    let at-if1 = at-index .before in
     let at-loop = at-if1 .before .before in
-    record { same = rw (c .push-field .ensures) (sym (againRow-next _ _ _ (at-if1 .before .loop-test .taken) (at-if1 .if1 .left)) ∙ at-loop .loop .inv .same) }
+    record { same = rw (c .push-field .ensures, at-index .index .ensures) (sym (againRow-next _ _ _ (at-if1 .before .loop-test .taken) (at-if1 .if1 .left)) ∙ at-loop .loop .inv .same) }
 
 returns-2 : tie.Need-returns-2 Inv-loop μ-loop
 returns-2 c = sym (againRow-end _ _ _ (c .loop-test .left)) ∙ c .before .loop .inv .same
@@ -55,6 +59,7 @@ again-spec =
     μ-loop
     loop-holds
     returns
+    index-requires
     element-copy-out-kind
     element-copy-out-width
     push-field-requires

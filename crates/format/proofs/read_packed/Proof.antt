@@ -48,14 +48,20 @@ returns-4 c =
 lay-list-requires : tie.Need-lay-list-requires
 lay-list-requires c κs = search needs
 
+index-requires : tie.Need-index-requires
+index-requires c κs = search needs
+
 returns-5 : tie.Need-returns-5
 unfolding padded
 returns-5 c =
-    let at-if4 = c .before .before .before in
+    let at-lay = c .before in
+    let at-if4 = at-lay .before .before .before in
     let at-if3 = at-if4 .before .before in
     let at-if2 = at-if3 .before .before in
     let at-if1 = at-if2 .before .before in
-    answer-some _ _ (at-if1 .before .before .list .ensures) _ _ _ (not-false _ (at-if1 .if1 .left)) (at-if2 .if2 .left) (at-if3 .if3 .left) (at-if4 .if4 .left) (c .lay-list .ensures)
+    let list = at-if1 .before .before .list .ensures in
+    rw (c .index .ensures)
+    (answer-some _ _ list _ _ _ (not-false _ (at-if1 .if1 .left)) (at-if2 .if2 .left) (at-if3 .if3 .left) (at-if4 .if4 .left) (at-lay .lay-list .ensures))
 
 pub read-packed-spec : {M : Type 1} → statement M
 read-packed-spec =
@@ -72,4 +78,5 @@ read-packed-spec =
     refused-requires-4
     returns-4
     lay-list-requires
+    index-requires
     returns-5)
