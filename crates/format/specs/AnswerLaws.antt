@@ -1,25 +1,24 @@
 -- The code's answer is the reading: a FORMAT that fits is laid as its fields, any other is refused by its number.
 use mathlib.Core.Path.{_≡_, refl, sym, ap, _∙_}
-use mathlib.Core.Bool.{Bool, true, false, _&&_}
+use mathlib.Core.Bool.{true, false, _&&_}
 use mathlib.Core.List.{List, [], _∷_, _++_, append-assoc}
-use Prim.Native.Nat.{ℕ, suc, _+_, _-_, _*_, _≤_, _<_, min}
+use Prim.Native.Nat.{ℕ, _+_, _-_, _*_, _≤_, _<_, min}
 use native.Mathlib.Nat.{mul-le-mul}
 use native.Mathlib.Omega.{arith}
-use borrow.Author.Tests.{le-leb, lt-leb, eq-eqb, ne-eqb, leb-true, leb-false}
-use lib.Dec.{leb, eqb}
+use borrow.Author.Tests.{le-leb, lt-leb, eq-eqb, ne-eqb}
+use lib.Dec.{leb}
 use lib.ListN.{length, length-append}
 use Rattle.laws.specs.ChoiceLaws.{false-not-true}
-use Rattle.format.specs.Format.{Kind, skip, text, integer, real, Field, field, Count, number, Format, plain, group, join, Sort, list, Spelled, counted, scaled, brackets, last, more, repeated, fieldsFor, fieldsOf, span, columns, groups, unblanked}
-use Rattle.format.specs.Reading.{Parsed, none, some, listOf, Reading, malformed, tooLarge, fields, fitting, wholeOf, packedReading, readingOf}
-use Rattle.format.specs.ListLaws.{Read, list-sound}
+use Rattle.format.specs.Format.{Kind, skip, text, integer, real, Field, field, number, Format, Sort, Spelled, counted, scaled, brackets, last, more, repeated, fieldsFor, fieldsOf, columns, groups, unblanked}
+use Rattle.format.specs.Reading.{Parsed, none, some, listOf, tooLarge, fields, fitting, wholeOf, packedReading, readingOf}
+use Rattle.format.specs.ListLaws.{list-sound}
 use Rattle.format.specs.FieldsLaws.{columns-span, spelled-wide, wide-count, counted-some, plain-some}
 use Rattle.format.specs.Laid.{kindNumber, refusedFields, fieldsIn}
 use Rattle.format.specs.Measured.{capped, measured}
-use Rattle.format.specs.Row.{rowOf, pushed, repeatRow, layPlain, lay, laid, answered}
-use Rattle.format.specs.RowLaws.{row-pushed, row-times}
+use Rattle.format.specs.Row.{Row, aRow, rowOf, pushed, repeatFrom, layPlain, lay, layingIn, laid}
+use Rattle.format.specs.RowLaws.{row-pushed, row-times, laid-row}
 use Rattle.format.specs.declared.Fields.{Fields}
 use Rattle.format.specs.declared.Measure.{Measure}
-use Rattle.format.specs.declared.Row.{Row}
 use Rattle.format.specs.declared.Laid.{Laid}
 
 -- a factor is at most the product
@@ -28,10 +27,10 @@ times-most n w h = let more : n * 1 ≤ n * w = mul-le-mul {n₁ = n} {n₂ = n}
 
 -- an item that is no text
 row-items : (n : ℕ) (k : Kind) (w : ℕ) (fs : List Field) → 1 ≤ n → length fs + n ≤ 80
-    → repeatRow (n - 1) (length fs) (pushed (rowOf fs) (kindNumber k) w) (pushed (rowOf fs) (kindNumber k) w) ≡ rowOf (fs ++ repeated n (field k w ∷ []))
+    → repeatFrom (n - 1) (length fs) (pushed (rowOf fs) (kindNumber k) w) ≡ rowOf (fs ++ repeated n (field k w ∷ []))
 row-items n k w fs h g =
     let once-more = row-pushed fs (field k w) (omega arith) in
-    ap (λ (r : Row). repeatRow (n - 1) (length fs) r r) once-more ∙ row-times n fs (field k w ∷ []) h (omega arith)
+    ap (λ (r : Row). repeatFrom (n - 1) (length fs) r) once-more ∙ row-times n fs (field k w ∷ []) h (omega arith)
 
 row-plain : (n : ℕ) (k : Kind) (w : ℕ) (fs : List Field) → 1 ≤ n → 1 ≤ w → length fs + n * w ≤ 80 → layPlain (rowOf fs) (kindNumber k) (capped n) w ≡ rowOf (fs ++ fieldsFor n k w)
 unfolding layPlain fieldsFor
@@ -67,11 +66,14 @@ row-format (brackets {c} {t} n s) fs h =
     let same : capped (number c) ≡ number c = omega arith in
     let few : number c * length (fieldsOf t) ≤ number c * columns t = mul-le-mul {n₁ = number c} {n₂ = number c} (omega arith) (fields-most s) in
     let inside = row-format s fs (omega arith) in
-    rw same (ap (λ (r : Row). repeatRow (number c - 1) (length fs) r r) inside ∙ row-times (number c) fs (fieldsOf t) (counted-some n) (omega arith))
+    rw same (ap (λ (r : Row). repeatFrom (number c - 1) (length fs) r) inside ∙ row-times (number c) fs (fieldsOf t) (counted-some n) (omega arith))
 row-format (last s) fs h = row-format s fs h
 row-format (more {t} {u} s r) fs h =
     let room : length (fs ++ fieldsOf t) + columns u ≤ 80 = omega (arith, length-append fs (fieldsOf t), fields-most s) in
     ap (λ (x : Row). lay x u) (row-format s fs (omega arith)) ∙ row-format r (fs ++ fieldsOf t) room ∙ ap rowOf (append-assoc fs (fieldsOf t) (fieldsOf u))
+
+abbrev answered : Row → Fields
+answered r = record { number = 0; count = r .count; kinds = r .kinds; widths = r .widths }
 
 -- The cases of the code, by what is measured.
 
@@ -148,24 +150,20 @@ module _ (l : List ℕ) (m : Measure) (e : m ≡ measured (listOf (length l + 1)
   unfolding fitting
   fits t g c = rw (g, c) refl
 
-  row-laid : (w : Row) (x : Laid) (t : Format) (k : ℕ) → x ≡ laid w (some t k) → x .row ≡ lay w t
-  unfolding laid
-  row-laid w x t k q = ap (λ (y : Laid). y .row) q
-
-  pub answer-some : (r : Fields) (w : Row) (x : Laid) → m .found ≡ true → m .at ≡ length l → m .groups ≤ 3 → m .columns ≤ 80 → w ≡ rowOf []
-      → x ≡ laid w (listOf (length l + 1) l 0) → r ≡ answered (x .row) → r ≡ fieldsIn (packedReading l)
+  pub answer-some : (x : Laid) (ks ws : List ℕ) → m .found ≡ true → m .at ≡ length l → m .groups ≤ 3 → m .columns ≤ 80
+      → layingIn x ks ws ≡ laid (rowOf []) (listOf (length l + 1) l 0) → record { number = 0; count = x .count; kinds = ks; widths = ws } ≡ fieldsIn (packedReading l)
   unfolding fieldsIn
-  answer-some r w x f h d g ew ex a = go (listOf (length l + 1) l 0) refl
+  answer-some x ks ws f h d g ex = go (listOf (length l + 1) l 0) refl
     where
-      go : (p : Parsed) → listOf (length l + 1) l 0 ≡ p → r ≡ fieldsIn (packedReading l)
+      go : (p : Parsed) → listOf (length l + 1) l 0 ≡ p → record { number = 0; count = x .count; kinds = ks; widths = ws } ≡ fieldsIn (packedReading l)
       go none q = false-not-true (found-none (is none q) f)
       go (some t k) q =
           let fine : leb (groups t) 3 ≡ true = le-leb (groups t) 3 (omega (arith, groups-some t k (is (some t k) q))) in
           let most : columns t ≤ 80 = omega (arith, columns-are t k (is (some t k) q)) in
           let spelled = list-sound (length l + 1) l 0 t k q .spelled in
           let room : 0 + columns t ≤ 80 = omega (arith, most) in
-          let row : x .row ≡ rowOf (fieldsOf t) = row-laid w x t k (ex ∙ ap (laid w) q) ∙ ap (λ (y : Row). lay y t) ew ∙ row-format spelled [] room in
-          a ∙ ap answered row ∙ ap fieldsIn (sym (whole-reading t k q h ∙ fits t fine (le-leb (columns t) 80 most)))
+          let row : aRow (x .count) ks ws ≡ rowOf (fieldsOf t) = laid-row (rowOf []) x ks ws t k (ex ∙ ap (laid (rowOf [])) q) ∙ row-format spelled [] room in
+          ap answered row ∙ ap fieldsIn (sym (whole-reading t k q h ∙ fits t fine (le-leb (columns t) 80 most)))
 
 -- The text with its blanks.
 

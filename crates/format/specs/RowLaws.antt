@@ -1,25 +1,24 @@
 -- A FORMAT that fits is laid as its fields; the laws of the loops that lay them.
 use mathlib.Core.Path.{_≡_, refl, sym, ap, _∙_}
-use mathlib.Core.Bool.{Bool, true, false, _&&_}
+use mathlib.Core.Bool.{Bool, true, false}
 use mathlib.Core.List.{List, [], _∷_, _++_, map, append-assoc, append-nil}
-use Prim.Native.Nat.{ℕ, zero, suc, _+_, _-_, _*_, _≤_, _<_, min}
-use native.Mathlib.Nat.{mul-le-mul}
+use Prim.Native.Nat.{ℕ, zero, suc, _+_, _-_, _*_, _≤_, _<_}
 use native.Mathlib.Numerals.{add-one}
 use native.Mathlib.Omega.{arith}
-use borrow.Author.Tests.{ltb-true, ltb-false, leb-true, leb-false, eqb-true, eqb-false, lt-ltb, le-ltb, le-leb, lt-leb, eq-eqb, ne-eqb}
-use lib.Dec.{ltb, leb, eqb}
-use lib.ListN.{length, take, drop, getD, set, replicate, length-append, length-set, length-map}
+use borrow.Author.Tests.{lt-ltb, le-ltb, eq-eqb, ne-eqb}
+use lib.Dec.{eqb}
+use lib.ListN.{length, take, getD, set, replicate, length-append, length-map}
 use lib.Seq.{set-at, getD-at, take-suc, take-suc-set, take-set-le}
 use Rattle.laws.specs.Choice.{pick}
-use Rattle.format.specs.Format.{Kind, skip, text, integer, real, Field, field, Count, once, times, number, Format, plain, group, join, repeated, fieldsFor, fieldsOf, span, columns, unblanked, Wide}
+use Rattle.laws.specs.ChoiceLaws.{false-not-true}
+use Rattle.format.specs.Format.{Field, field, Count, times, number, Format, group, repeated, unblanked}
 use Rattle.format.specs.Reading.{Parsed, none, some, closed, joined, leaf, Leaf}
 use Rattle.format.specs.Laid.{kindNumber, padded, kindsOf, widthsOf}
 use Rattle.format.specs.Measured.{capped, leafIn}
 use Rattle.format.specs.MeasuredLaws.{found}
-use Rattle.format.specs.Row.{aRow, rowOf, pushed, againRow, repeatRow, layPlain, lay, aLaid, unlaid, laid, laidLeaf, closedLaid}
+use Rattle.format.specs.Row.{Row, aRow, rowOf, pushed, againRow, repeatRow, repeatFrom, layPlain, lay, Laying, aLaying, unlaid, layingIn, laid, laidLeaf, closedLaid}
 use Rattle.format.specs.declared.Tally.{Tally}
 use Rattle.format.specs.declared.Leaf as code
-use Rattle.format.specs.declared.Row.{Row}
 use Rattle.format.specs.declared.Laid.{Laid}
 
 pub pushed-more : (r : Row) (k w : ℕ) → r .count < 80 → aRow (r .count + 1) (set (r .kinds) (r .count) k) (set (r .widths) (r .count) w) ≡ pushed r k w
@@ -31,28 +30,27 @@ unfolding pushed
 pushed-full r k w h = rw (le-ltb (r .count) 80 h) refl
 
 -- a loop over fields: one more, the last place, the end
-pub againRow-next : (past j : ℕ) (ks ws : List ℕ) (r : Row) → j < past → j < 80
-    → againRow (past - j) j ks ws r ≡ againRow (past - (j + 1)) (j + 1) ks ws (pushed r (getD ks j 0) (getD ws j 0))
+pub againRow-next : (past j : ℕ) (r : Row) → j < past → j < 80
+    → againRow (past - j) j r ≡ againRow (past - (j + 1)) (j + 1) (pushed r (getD (r .kinds) j 0) (getD (r .widths) j 0))
 unfolding againRow
-againRow-next past j ks ws r h g = let one : past - j ≡ suc (past - (j + 1)) = omega arith in rw (one, lt-ltb j 80 g) refl
+againRow-next past j r h g = let one : past - j ≡ suc (past - (j + 1)) = omega arith in rw (one, lt-ltb j 80 g) refl
 
-pub againRow-full : (m j : ℕ) (ks ws : List ℕ) (r : Row) → 80 ≤ j → againRow m j ks ws r ≡ r
+pub againRow-full : (m j : ℕ) (r : Row) → 80 ≤ j → againRow m j r ≡ r
 unfolding againRow
-againRow-full zero j ks ws r h = refl
-againRow-full (suc m) j ks ws r h = rw (le-ltb j 80 h) refl
+againRow-full zero j r h = refl
+againRow-full (suc m) j r h = rw (le-ltb j 80 h) refl
 
-pub againRow-end : (past j : ℕ) (ks ws : List ℕ) (r : Row) → past ≤ j → againRow (past - j) j ks ws r ≡ r
+pub againRow-end : (past j : ℕ) (r : Row) → past ≤ j → againRow (past - j) j r ≡ r
 unfolding againRow
-againRow-end past j ks ws r h = let none-left : past - j ≡ 0 = omega arith in rw none-left refl
+againRow-end past j r h = let none-left : past - j ≡ 0 = omega arith in rw none-left refl
 
-pub repeatRow-next : (n i from : ℕ) (source r : Row) → i < n
-    → repeatRow (n - i) from source r ≡ repeatRow (n - (i + 1)) from source (againRow (source .count - from) from (source .kinds) (source .widths) r)
+pub repeatRow-next : (n i from past : ℕ) (r s : Row) → i < n → s ≡ againRow (past - from) from r → repeatRow (n - (i + 1)) from past s ≡ repeatRow (n - i) from past r
 unfolding repeatRow
-repeatRow-next n i from source r h = let one : n - i ≡ suc (n - (i + 1)) = omega arith in rw one refl
+repeatRow-next n i from past r s h e = let one : n - i ≡ suc (n - (i + 1)) = omega arith in rw (one, e) refl
 
-pub repeatRow-end : (n i from : ℕ) (source r : Row) → n ≤ i → repeatRow (n - i) from source r ≡ r
+pub repeatRow-end : (n i from past : ℕ) (r : Row) → n ≤ i → repeatRow (n - i) from past r ≡ r
 unfolding repeatRow
-repeatRow-end n i from source r h = let none-left : n - i ≡ 0 = omega arith in rw none-left refl
+repeatRow-end n i from past r h = let none-left : n - i ≡ 0 = omega arith in rw none-left refl
 
 -- The code's cases.
 
@@ -60,30 +58,38 @@ pub layPlain-text : (r s : Row) (k n w x : ℕ) → k ≡ 1 → x ≡ capped (n 
 unfolding layPlain
 layPlain-text r s k n w x e q p = rw e (p ∙ ap (pushed r 1) q)
 
-pub layPlain-other : (r p s : Row) (k n w : ℕ) → (k ≡ 1 → ⊥) → p ≡ pushed r k w → s ≡ repeatRow (n - 1) (r .count) p p → s ≡ layPlain r k n w
+pub layPlain-other : (r p s : Row) (k n w : ℕ) → (k ≡ 1 → ⊥) → p ≡ pushed r k w → s ≡ repeatFrom (n - 1) (r .count) p → s ≡ layPlain r k n w
 unfolding layPlain
-layPlain-other r p s k n w e q t = rw (ne-eqb k 1 e) (t ∙ ap (λ (x : Row). repeatRow (n - 1) (r .count) x x) q)
+layPlain-other r p s k n w e q t = rw (ne-eqb k 1 e) (t ∙ ap (λ (x : Row). repeatFrom (n - 1) (r .count) x) q)
 
-pub laidLeaf-none : (r : Row) (i : code.Leaf) (m : Laid) → m ≡ unlaid → i .found ≡ false → m ≡ laidLeaf r i
+pub layingIn-none : (m : Laid) (ks ws : List ℕ) → m .found ≡ false → layingIn m ks ws ≡ unlaid
+unfolding layingIn
+layingIn-none m ks ws e = rw e refl
+
+pub layingIn-some : (m : Laid) (ks ws : List ℕ) → m .found ≡ true → layingIn m ks ws ≡ aLaying (m .at) (aRow (m .count) ks ws)
+unfolding layingIn
+layingIn-some m ks ws e = rw e refl
+
+pub laidLeaf-none : (r : Row) (i : code.Leaf) (m : Laying) → m ≡ unlaid → i .found ≡ false → m ≡ laidLeaf r i
 unfolding laidLeaf
 laidLeaf-none r i m p e = rw e p
 
-pub laidLeaf-some : (r s : Row) (i : code.Leaf) → i .found ≡ true → s ≡ layPlain r (i .kind) (i .count) (i .width) → aLaid (i .at) s ≡ laidLeaf r i
+pub laidLeaf-some : (r s : Row) (i : code.Leaf) (m : Laying) → m ≡ aLaying (i .at) s → i .found ≡ true → s ≡ layPlain r (i .kind) (i .count) (i .width) → m ≡ laidLeaf r i
 unfolding laidLeaf
-laidLeaf-some r s i e q = rw (e, q) refl
+laidLeaf-some r s i m p e q = rw e (p ∙ ap (aLaying (i .at)) q)
 
-pub closedLaid-none : (from : ℕ) (c : Tally) (l : List ℕ) (m x : Laid) → x ≡ unlaid → m .found ≡ false → x ≡ closedLaid from c l m
+pub closedLaid-none : (from : ℕ) (c : Tally) (l : List ℕ) (m x : Laying) → x ≡ unlaid → m ≡ unlaid → x ≡ closedLaid from c l m
 unfolding closedLaid
 closedLaid-none from c l m x p e = rw e p
 
-pub closedLaid-open : (from : ℕ) (c : Tally) (l : List ℕ) (m x : Laid) → x ≡ unlaid → m .found ≡ true → (getD l (m .at) 0 ≡ 41 → ⊥) → x ≡ closedLaid from c l m
+pub closedLaid-open : (from : ℕ) (c : Tally) (l : List ℕ) (m x : Laying) (at : ℕ) (r : Row) → x ≡ unlaid → m ≡ aLaying at r → (getD l at 0 ≡ 41 → ⊥) → x ≡ closedLaid from c l m
 unfolding closedLaid
-closedLaid-open from c l m x p e h = rw (e, ne-eqb (getD l (m .at) 0) 41 h) p
+closedLaid-open from c l m x at r p e h = rw (e, ne-eqb (getD l at 0) 41 h) p
 
-pub closedLaid-some : (from : ℕ) (c : Tally) (l : List ℕ) (m : Laid) (s : Row) → m .found ≡ true → getD l (m .at) 0 ≡ 41
-    → s ≡ repeatRow (c .count - 1) from (m .row) (m .row) → aLaid (m .at + 1) s ≡ closedLaid from c l m
+pub closedLaid-some : (from : ℕ) (c : Tally) (l : List ℕ) (m x : Laying) (at : ℕ) (r s : Row) → x ≡ aLaying (at + 1) s → m ≡ aLaying at r → getD l at 0 ≡ 41
+    → s ≡ repeatFrom (c .count - 1) from r → x ≡ closedLaid from c l m
 unfolding closedLaid
-closedLaid-some from c l m s e h q = rw (e, eq-eqb (getD l (m .at) 0) 41 h, q) refl
+closedLaid-some from c l m x at r s p e h q = rw (e, eq-eqb (getD l at 0) 41 h) (p ∙ ap (aLaying (at + 1)) q)
 
 -- The code's steps are the reading's.
 
@@ -97,7 +103,7 @@ unfolding closed closedLaid laid lay
 laid-closed r c k l none = refl
 laid-closed r c k l (some t at) = go (eqb (getD l at 0) 41)
   where
-    go : (b : Bool) → laid r (pick b (some (group c t) (at + 1)) none) ≡ pick b (aLaid (at + 1) (repeatRow (capped (number c) - 1) (r .count) (lay r t) (lay r t))) unlaid
+    go : (b : Bool) → laid r (pick b (some (group c t) (at + 1)) none) ≡ pick b (aLaying (at + 1) (repeatFrom (capped (number c) - 1) (r .count) (lay r t))) unlaid
     go true = refl
     go false = refl
 
@@ -105,6 +111,30 @@ pub laid-joined : (r : Row) (t : Format) (p : Parsed) → laid r (joined t p) �
 unfolding joined laid lay
 laid-joined r t none = refl
 laid-joined r t (some u at) = refl
+
+-- What an answer says where an item or a list is found.
+
+pub laid-missing : (w : Row) (i : Laid) (ks ws : List ℕ) → layingIn i ks ws ≡ laid w none → i .found ≡ true → false ≡ true
+unfolding laid
+laid-missing w i ks ws e h = sym (ap (λ (x : Laying). x .found) (sym (layingIn-some i ks ws h) ∙ e))
+
+pub laid-there : (w : Row) (i : Laid) (ks ws : List ℕ) (t : Format) (k : ℕ) → layingIn i ks ws ≡ laid w (some t k) → i .found ≡ true
+unfolding laid
+laid-there w i ks ws t k e = go (i .found) refl
+  where
+    go : (b : Bool) → i .found ≡ b → i .found ≡ true
+    go true q = q
+    go false q = false-not-true (ap (λ (x : Laying). x .found) (sym (layingIn-none i ks ws q) ∙ e))
+
+laid-is : (w : Row) (i : Laid) (ks ws : List ℕ) (t : Format) (k : ℕ) → layingIn i ks ws ≡ laid w (some t k) → aLaying (i .at) (aRow (i .count) ks ws) ≡ aLaying k (lay w t)
+unfolding laid
+laid-is w i ks ws t k e = sym (layingIn-some i ks ws (laid-there w i ks ws t k e)) ∙ e
+
+pub laid-at : (w : Row) (i : Laid) (ks ws : List ℕ) (t : Format) (k : ℕ) → layingIn i ks ws ≡ laid w (some t k) → i .at ≡ k
+laid-at w i ks ws t k e = ap (λ (x : Laying). x .at) (laid-is w i ks ws t k e)
+
+pub laid-row : (w : Row) (i : Laid) (ks ws : List ℕ) (t : Format) (k : ℕ) → layingIn i ks ws ≡ laid w (some t k) → aRow (i .count) ks ws ≡ lay w t
+laid-row w i ks ws t k e = ap (λ (x : Laying). x .row) (laid-is w i ks ws t k e)
 
 -- Bytes without blanks, one after the other.
 
@@ -138,11 +168,6 @@ unblanked-next l out i n h g e =
 pub kept-most : (t : Bool) (n : ℕ) → pick t n (n + 1) ≤ n + 1
 kept-most true n = omega arith
 kept-most false n = omega arith
-
-pub repeatRow-step : (n i from past : ℕ) (source r s : Row) → past ≡ source .count → i < n → s ≡ againRow (past - from) from (source .kinds) (source .widths) r
-    → repeatRow (n - (i + 1)) from source s ≡ repeatRow (n - i) from source r
-repeatRow-step n i from past source r s p h e =
-    ap (repeatRow (n - (i + 1)) from source) (e ∙ ap (λ (x : ℕ). againRow (x - from) from (source .kinds) (source .widths) r) p) ∙ sym (repeatRow-next n i from source r h)
 
 -- A list of numbers filled with zeros to 80, and one number more.
 padded-set : (l : List ℕ) (v : ℕ) → length l < 80 → set (padded l) (length l) v ≡ padded (l ++ (v ∷ []))
@@ -184,21 +209,27 @@ row-pushed fs g h =
     let size : length fs + 1 ≡ length (fs ++ (g ∷ [])) = sym (length-append fs (g ∷ [])) in
     sym (pushed-more (rowOf fs) (kindIn g) (widthIn g) h) ∙ rw (size, more-set kindIn fs g h, more-set widthIn fs g h) refl
 
-row-again : (pre gs hs : List Field) → length (pre ++ gs) ≤ 80 → length hs + length gs ≤ 80
-    → againRow (length gs) (length pre) (kindsOf (pre ++ gs)) (widthsOf (pre ++ gs)) (rowOf hs) ≡ rowOf (hs ++ gs)
+-- one field more after fields of which some are looked at
+one-later : (pre gs xs : List Field) (g : Field) → (pre ++ ((g ∷ gs) ++ xs)) ++ (g ∷ []) ≡ (pre ++ (g ∷ [])) ++ (gs ++ (xs ++ (g ∷ [])))
+one-later pre gs xs g =
+    let inner : ((g ∷ gs) ++ xs) ++ (g ∷ []) ≡ (g ∷ gs) ++ (xs ++ (g ∷ [])) = append-assoc (g ∷ gs) xs (g ∷ []) in
+    append-assoc pre ((g ∷ gs) ++ xs) (g ∷ []) ∙ ap (λ (x : List Field). pre ++ x) inner ∙ sym (append-assoc pre (g ∷ []) (gs ++ (xs ++ (g ∷ []))))
+
+row-again : (pre gs xs hs : List Field) → hs ≡ pre ++ (gs ++ xs) → length hs + length gs ≤ 80 → againRow (length gs) (length pre) (rowOf hs) ≡ rowOf (hs ++ gs)
 unfolding againRow
-row-again pre [] hs h k = ap rowOf (sym (append-nil hs))
-row-again pre (g ∷ gs) hs h k =
-    let size = length-append pre (g ∷ gs) in
+row-again pre [] xs hs e k = ap rowOf (sym (append-nil hs))
+row-again pre (g ∷ gs) xs hs e k =
+    let size : length hs ≡ length pre + length ((g ∷ gs) ++ xs) = ap length e ∙ length-append pre ((g ∷ gs) ++ xs) in
     let here : length pre < 80 = omega (arith, size) in
     let room : length hs < 80 = omega arith in
     let next : length (pre ++ (g ∷ [])) ≡ length pre + 1 = length-append pre (g ∷ []) in
-    let regroup : (pre ++ (g ∷ [])) ++ gs ≡ pre ++ (g ∷ gs) = append-assoc pre (g ∷ []) gs in
-    let within : length ((pre ++ (g ∷ [])) ++ gs) ≤ 80 = rw regroup h in
     let grown : length (hs ++ (g ∷ [])) + length gs ≤ 80 = omega (arith, length-append hs (g ∷ [])) in
-    let rest = rw regroup at (row-again (pre ++ (g ∷ [])) gs (hs ++ (g ∷ [])) within grown) in
+    let later = ap (λ (x : List Field). x ++ (g ∷ [])) e ∙ one-later pre gs xs g in
+    let rest = row-again (pre ++ (g ∷ [])) gs (xs ++ (g ∷ [])) (hs ++ (g ∷ [])) later grown in
     let whole : (hs ++ (g ∷ [])) ++ gs ≡ hs ++ (g ∷ gs) = append-assoc hs (g ∷ []) gs in
-    rw (lt-ltb (length pre) 80 here, field-at kindIn pre g gs, field-at widthIn pre g gs, row-pushed hs g room, ← next) (rest ∙ ap rowOf whole)
+    let kind : getD (kindsOf hs) (length pre) 0 ≡ kindIn g = ap (λ (x : List Field). getD (kindsOf x) (length pre) 0) e ∙ field-at kindIn pre g (gs ++ xs) in
+    let width : getD (widthsOf hs) (length pre) 0 ≡ widthIn g = ap (λ (x : List Field). getD (widthsOf x) (length pre) 0) e ∙ field-at widthIn pre g (gs ++ xs) in
+    rw (lt-ltb (length pre) 80 here, kind, width, row-pushed hs g room, ← next) (rest ∙ ap rowOf whole)
 
 repeated-more : (n : ℕ) (gs : List Field) → gs ++ repeated n gs ≡ repeated n gs ++ gs
 unfolding repeated
@@ -210,25 +241,25 @@ unfolding repeated
 length-repeated zero gs = omega arith
 length-repeated (suc n) gs = omega (arith, length-append gs (repeated n gs), length-repeated n gs)
 
-row-repeated : (m : ℕ) (fs gs hs : List Field) → length (fs ++ gs) ≤ 80 → length hs + m * length gs ≤ 80
-    → repeatRow m (length fs) (rowOf (fs ++ gs)) (rowOf hs) ≡ rowOf (hs ++ repeated m gs)
+row-repeated : (m : ℕ) (fs gs xs hs : List Field) → hs ≡ fs ++ (gs ++ xs) → length hs + m * length gs ≤ 80
+    → repeatRow m (length fs) (length (fs ++ gs)) (rowOf hs) ≡ rowOf (hs ++ repeated m gs)
 unfolding repeatRow repeated
-row-repeated zero fs gs hs h k = ap rowOf (sym (append-nil hs))
-row-repeated (suc m) fs gs hs h k =
-    let size = length-append fs gs in
-    let those : length (fs ++ gs) - length fs ≡ length gs = omega (arith, size) in
+row-repeated zero fs gs xs hs e k = ap rowOf (sym (append-nil hs))
+row-repeated (suc m) fs gs xs hs e k =
+    let those : length (fs ++ gs) - length fs ≡ length gs = omega (arith, length-append fs gs) in
     let once-more : length hs + length gs ≤ 80 = omega arith in
     let grown : length (hs ++ gs) + m * length gs ≤ 80 = omega (arith, length-append hs gs) in
-    rw (those, row-again fs gs hs h once-more) (row-repeated m fs gs (hs ++ gs) h grown ∙ ap rowOf (append-assoc hs gs (repeated m gs)))
+    let inner : (fs ++ (gs ++ xs)) ++ gs ≡ fs ++ (gs ++ (xs ++ gs)) = append-assoc fs (gs ++ xs) gs ∙ ap (λ (x : List Field). fs ++ x) (append-assoc gs xs gs) in
+    let later = ap (λ (x : List Field). x ++ gs) e ∙ inner in
+    rw (those, row-again fs gs xs hs e once-more) (row-repeated m fs gs (xs ++ gs) (hs ++ gs) later grown ∙ ap rowOf (append-assoc hs gs (repeated m gs)))
 
 -- fields n times, n from 1
-pub row-times : (n : ℕ) (fs gs : List Field) → 1 ≤ n → length fs + n * length gs ≤ 80
-    → repeatRow (n - 1) (length fs) (rowOf (fs ++ gs)) (rowOf (fs ++ gs)) ≡ rowOf (fs ++ repeated n gs)
+pub row-times : (n : ℕ) (fs gs : List Field) → 1 ≤ n → length fs + n * length gs ≤ 80 → repeatFrom (n - 1) (length fs) (rowOf (fs ++ gs)) ≡ rowOf (fs ++ repeated n gs)
 unfolding repeated
 row-times zero fs gs h k = absurd (omega arith)
 row-times (suc m) fs gs h k =
     let fewer : suc m - 1 ≡ m = omega arith in
     let size = length-append fs gs in
-    let once-fits : length (fs ++ gs) ≤ 80 = omega (arith, size) in
     let all-fit : length (fs ++ gs) + m * length gs ≤ 80 = omega (arith, size) in
-    rw fewer (row-repeated m fs gs (fs ++ gs) once-fits all-fit ∙ ap rowOf (append-assoc fs gs (repeated m gs)))
+    let there : fs ++ gs ≡ fs ++ (gs ++ []) = ap (λ (x : List Field). fs ++ x) (sym (append-nil gs)) in
+    rw fewer (row-repeated m fs gs [] (fs ++ gs) there all-fit ∙ ap rowOf (append-assoc fs gs (repeated m gs)))

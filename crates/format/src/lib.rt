@@ -7,10 +7,10 @@ ghost use lib.ListN.{length, drop, getD};
 ghost use Rattle.laws.specs.Choice.{pick};
 ghost use Rattle.laws.specs.Run.{run};
 ghost use Rattle.format.specs.Reading.{digitsBefore, numberOf, countOf, itemOf, listOf, packedReading, readingOf};
-ghost use mathlib.Core.List.{[]};
 ghost use Rattle.format.specs.Laid.{fieldsIn, refusedFields};
-ghost use Rattle.format.specs.Row.{rowOf, unlaid, pushed, againRow, repeatRow, layPlain, laidLeaf, closedLaid, laid, answered, Unblanked};
+ghost use Rattle.format.specs.Row.{aRow, layingIn, pushed, againRow, repeatFrom, layPlain, laidLeaf, closedLaid, laid, Unblanked};
 ghost use Rattle.format.specs.Measured.{capped, deeper, highest, keptDigit, figureAt, tallyAt, sizedLeaf, decimalsBy, decimalsLeaf, realLeaf, scaledLeaf, plainLeaf, measuredLeaf, groupDepth, closedMeasure, joinedMeasure, measured};
+use laws::index;
 use laws::wide;
 use text::is_digit;
 
@@ -406,164 +406,159 @@ fn list(s: &[u8], at: usize, left: usize) -> Measure
     i
 }
 
-// Fields in order, as `Fields` has them.
-pub struct Row {
-    pub count: usize,
-    pub kinds: [u8; 80],
-    pub widths: [u8; 80],
-}
-
-// Where an item or a list ends, and the fields with those that it adds.
+// Where an item or a list ends, and how many fields there are with those that it adds.
 pub struct Laid {
     pub found: bool,
+    pub count: u8,
     pub at: usize,
-    pub row: Row,
-}
-
-// No fields.
-fn no_fields() -> Row
-    ensures { λ r. ⌜ r ≡ rowOf [] ⌝ }
-{
-    Row {
-        count: 0,
-        kinds: [0u8; 80],
-        widths: [0u8; 80],
-    }
 }
 
 // Nothing is laid.
-fn nothing() -> Laid
-    ensures { λ r. ⌜ r ≡ unlaid ⌝ }
-{
-    Laid {
-        found: false,
-        at: 0,
-        row: no_fields(),
-    }
-}
+const NOTHING: Laid = Laid {
+    found: false,
+    count: 0,
+    at: 0,
+};
 
-// The fields and one more; 80 stay as they are.
-fn push_field(row: Row, kind: u8, width: u8) -> Row
-    ensures { λ r. ⌜ r ≡ pushed row kind width ⌝ }
+// Puts one field after `count` fields; 80 stay as they are. Answers how many there are.
+fn push_field(kinds: &mut [u8; 80], widths: &mut [u8; 80], count: u8, kind: u8, width: u8) -> u8
+    ensures { λ r. ⌜ aRow r (now (kinds .exit)) (now (widths .exit)) ≡ pushed (aRow count (now (kinds .entry)) (now (widths .entry))) kind width ⌝ }
 {
-    let at = row.count;
-    let mut kinds = row.kinds;
-    let mut widths = row.widths;
-    if at < 80 {
+    if count < 80 {
+        let at = index(count);
         kinds[at] = kind;
         widths[at] = width;
-        return Row {
-            count: at + 1,
-            kinds,
-            widths,
-        };
+        return count + 1;
     }
-    row
+    count
 }
 
-// The fields `row` and, after them, those of `source` from one place to before another.
-fn again(source: Row, from: usize, past: usize, row: Row) -> Row
-    ensures { λ r. ⌜ r ≡ againRow (past - from) from (source .kinds) (source .widths) row ⌝ }
+// Puts, after `count` fields, those from one place to before another once more. Answers how many there are.
+fn again(kinds: &mut [u8; 80], widths: &mut [u8; 80], count: u8, from: u8, past: u8) -> u8
+    ensures { λ r. ⌜ aRow r (now (kinds .exit)) (now (widths .exit)) ≡ againRow (past - from) from (aRow count (now (kinds .entry)) (now (widths .entry))) ⌝ }
 {
-    let kinds = source.kinds;
-    let widths = source.widths;
-    let mut r = row;
+    let mut n = count;
     let mut j = from;
     while j < past {
         if 80 <= j {
-            return r;
+            return n;
         }
-        r = push_field(r, kinds[j], widths[j]);
+        let at = index(j);
+        let kind = kinds[at];
+        let width = widths[at];
+        n = push_field(kinds, widths, n, kind, width);
         j += 1;
     }
-    r
+    n
 }
 
-// The fields, of which those from a place on come this many times.
-fn repeated(row: Row, from: usize, count: u8) -> Row
-    ensures { λ r. ⌜ r ≡ repeatRow (count - 1) from row row ⌝ }
+// Puts the fields from a place on so often that they come this many times. Answers how many there are.
+fn repeated(kinds: &mut [u8; 80], widths: &mut [u8; 80], count: u8, from: u8, times: u8) -> u8
+    ensures { λ r. ⌜ aRow r (now (kinds .exit)) (now (widths .exit)) ≡ repeatFrom (times - 1) from (aRow count (now (kinds .entry)) (now (widths .entry))) ⌝ }
 {
-    let past = row.count;
-    let mut r = row;
+    let mut n = count;
     let mut i = 1;
-    while i < count {
-        r = again(row, from, past, r);
+    while i < times {
+        n = again(kinds, widths, n, from, count);
         i += 1;
     }
-    r
+    n
 }
 
-// The fields and those of an item without brackets: a text with a count is one.
-fn lay_plain(row: Row, i: Leaf) -> Row
-    ensures { λ r. ⌜ r ≡ layPlain row (i .kind) (i .count) (i .width) ⌝ }
+// Puts the fields of an item without brackets: a text with a count is one. Answers how many there are.
+fn lay_plain(kinds: &mut [u8; 80], widths: &mut [u8; 80], count: u8, i: Leaf) -> u8
+    ensures { λ r. ⌜ aRow r (now (kinds .exit)) (now (widths .exit)) ≡ layPlain (aRow count (now (kinds .entry)) (now (widths .entry))) (i .kind) (i .count) (i .width) ⌝ }
 {
     if i.kind == 1 {
-        return push_field(row, 1, product(i.count, i.width));
+        return push_field(kinds, widths, count, 1, product(i.count, i.width));
     }
-    repeated(push_field(row, i.kind, i.width), row.count, i.count)
+    let past = push_field(kinds, widths, count, i.kind, i.width);
+    repeated(kinds, widths, past, count, i.count)
 }
 
 // The same, with where the item ends.
-fn lay_leaf(row: Row, i: Leaf) -> Laid
-    ensures { λ r. ⌜ r ≡ laidLeaf row i ⌝ }
+fn lay_leaf(kinds: &mut [u8; 80], widths: &mut [u8; 80], count: u8, i: Leaf) -> Laid
+    ensures { λ r. ⌜ layingIn r (now (kinds .exit)) (now (widths .exit)) ≡ laidLeaf (aRow count (now (kinds .entry)) (now (widths .entry))) i ⌝ }
 {
     if !i.found {
-        return nothing();
+        return NOTHING;
     }
     Laid {
         found: true,
         at: i.at,
-        row: lay_plain(row, i),
+        count: lay_plain(kinds, widths, count, i),
     }
 }
 
-// The fields with those of a group, by its count and its list, whose fields begin at `from`.
-fn lay_group(s: &[u8], from: usize, c: Tally, m: Laid) -> Laid
-    ensures { λ r. ⌜ r ≡ closedLaid from c (now (s .entry)) m ⌝ }
+// Puts the fields of a group, by its count and its list, which is laid, and whose fields begin at `from`.
+fn lay_group(
+    kinds: &mut [u8; 80],
+    widths: &mut [u8; 80],
+    s: &[u8],
+    from: u8,
+    c: Tally,
+    m: Laid,
+) -> Laid
+    ensures { λ r. ⌜ layingIn r (now (kinds .exit)) (now (widths .exit)) ≡ closedLaid from c (now (s .entry)) (layingIn m (now (kinds .entry)) (now (widths .entry))) ⌝ }
 {
     if !m.found {
-        return nothing();
+        return NOTHING;
     }
     if byte_at(s, m.at) == 41 {
         return Laid {
             found: true,
             at: m.at + 1,
-            row: repeated(m.row, from, c.count),
+            count: repeated(kinds, widths, m.count, from, c.count),
         };
     }
-    nothing()
+    NOTHING
 }
 
-// The fields with those of the item at a place, of at most `left` bytes.
-fn lay_item(s: &[u8], at: usize, left: usize, row: Row) -> Laid
-    ensures { λ r. ⌜ r ≡ laid row (itemOf left (now (s .entry)) at) ⌝ }
+// Puts the fields of the item at a place, of at most `left` bytes, after `count` fields.
+fn lay_item(
+    kinds: &mut [u8; 80],
+    widths: &mut [u8; 80],
+    count: u8,
+    s: &[u8],
+    at: usize,
+    left: usize,
+) -> Laid
+    ensures { λ r. ⌜ layingIn r (now (kinds .exit)) (now (widths .exit)) ≡ laid (aRow count (now (kinds .entry)) (now (widths .entry))) (itemOf left (now (s .entry)) at) ⌝ }
 {
     if left == 0 {
-        return nothing();
+        return NOTHING;
     }
     let c = counted(s, at);
     if !c.found {
-        return nothing();
+        return NOTHING;
     }
     if byte_at(s, c.at) == 40 {
-        return lay_group(s, row.count, c, lay_list(s, c.at + 1, left - 1, row));
+        let m = lay_list(kinds, widths, count, s, c.at + 1, left - 1);
+        return lay_group(kinds, widths, s, count, c, m);
     }
-    lay_leaf(row, plain(s, c))
+    lay_leaf(kinds, widths, count, plain(s, c))
 }
 
-// The fields with those of the list at a place, of fewer than `left` bytes.
-fn lay_list(s: &[u8], at: usize, left: usize, row: Row) -> Laid
-    ensures { λ r. ⌜ r ≡ laid row (listOf left (now (s .entry)) at) ⌝ }
+// Puts the fields of the list at a place, of fewer than `left` bytes, after `count` fields.
+fn lay_list(
+    kinds: &mut [u8; 80],
+    widths: &mut [u8; 80],
+    count: u8,
+    s: &[u8],
+    at: usize,
+    left: usize,
+) -> Laid
+    ensures { λ r. ⌜ layingIn r (now (kinds .exit)) (now (widths .exit)) ≡ laid (aRow count (now (kinds .entry)) (now (widths .entry))) (listOf left (now (s .entry)) at) ⌝ }
 {
     if left == 0 {
-        return nothing();
+        return NOTHING;
     }
-    let i = lay_item(s, at, left - 1, row);
+    let i = lay_item(kinds, widths, count, s, at, left - 1);
     if !i.found {
-        return nothing();
+        return NOTHING;
     }
     if byte_at(s, i.at) == 44 {
-        return lay_list(s, i.at + 1, left - 1, i.row);
+        return lay_list(kinds, widths, i.count, s, i.at + 1, left - 1);
     }
     i
 }
@@ -607,20 +602,6 @@ fn unblank(out: &mut [u8; 120], text: &[u8]) -> usize
     n
 }
 
-// The fields as they are answered.
-fn fields_of(row: Row) -> Fields
-    ensures { λ r. ⌜ r ≡ answered row ⌝ }
-{
-    let kinds = row.kinds;
-    let widths = row.widths;
-    Fields {
-        number: 0,
-        count: row.count,
-        kinds,
-        widths,
-    }
-}
-
 // The fields of a FORMAT text without blanks.
 fn read_packed(s: &[u8]) -> Fields
     requires { ⌜ length (now s) ≤ 120 ⌝ }
@@ -640,9 +621,15 @@ fn read_packed(s: &[u8]) -> Fields
     if 80 < m.columns {
         return refused(27);
     }
-    let l = lay_list(s, 0, left, no_fields());
-    let row = l.row;
-    fields_of(row)
+    let mut kinds = [0u8; 80];
+    let mut widths = [0u8; 80];
+    let l = lay_list(&mut kinds, &mut widths, 0, s, 0, left);
+    Fields {
+        number: 0,
+        count: index(l.count),
+        kinds,
+        widths,
+    }
 }
 
 // The fields of a FORMAT text. 26: it is malformed, or longer than 120 bytes; then 27: its groups are deeper than three, or it takes over 80 columns.

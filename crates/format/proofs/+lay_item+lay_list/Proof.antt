@@ -1,8 +1,9 @@
 -- `format::lay_item` and `format::lay_list` meet their contracts, bytes left falling.
-use borrow.Author.Tests.{not-true, not-false}
-use mathlib.Core.Path.{sym, _∙_}
+use mathlib.Core.Path.{refl, sym, _∙_}
 use Rattle.format.specs.MeasuredLaws.{in-text}
+use Rattle.format.specs.RowLaws.{layingIn-none}
 use Rattle.format.specs.LayLaws.{item-zero, item-uncounted, item-grouped, item-plain, list-zero, list-empty, list-comma, list-one}
+use borrow.Author.Tests.{not-true, not-false}
 use borrow.Author.Needs.{needs}
 use native.Mathlib.Omega.{arith}
 use Prim.Native.Nat.{ℕ, _<_}
@@ -18,52 +19,31 @@ use Rattle.format.proofs.byte_at.Reads as byte-at-reads
 use Rattle.format.proofs.counted.Reads as counted-reads
 use Rattle.format.proofs.lay_group.Reads as lay-group-reads
 use Rattle.format.proofs.lay_leaf.Reads as lay-leaf-reads
-use Rattle.format.proofs.nothing.Reads as nothing-reads
 use Rattle.format.proofs.plain.Reads as plain-reads
 use Rattle.format.proofs.+lay_item+lay_list.{statement}
 use Rattle.format.proofs.+lay_item+lay_list.Tie.{close}
 
-abbrev μ-lay-item : Measures 1 lay-item-kinds.ps ℕ
-μ-lay-item κs a = a .1 .1 .0
+abbrev μ-lay-item : Measures 3 lay-item-kinds.ps ℕ
+μ-lay-item κs a = a .1 .1 .1 .1 .1 .0
 
-abbrev μ-lay-list : Measures 1 lay-list-kinds.ps ℕ
-μ-lay-list κs a = a .1 .1 .0
+abbrev μ-lay-list : Measures 3 lay-list-kinds.ps ℕ
+μ-lay-list κs a = a .1 .1 .1 .1 .1 .0
 
-abbrev lay-item-at : ℕ → In 1 lay-item-kinds.ps
-lay-item-at t = and 1 lay-item-kinds.ps (is 1 lay-item-kinds.ps μ-lay-item t) lay-item.Pre
+abbrev lay-item-at : ℕ → In 3 lay-item-kinds.ps
+lay-item-at t = and 3 lay-item-kinds.ps (is 3 lay-item-kinds.ps μ-lay-item t) lay-item.Pre
 
-abbrev lay-item-below : ℕ → In 1 lay-item-kinds.ps
+abbrev lay-item-below : ℕ → In 3 lay-item-kinds.ps
 lay-item-below t =
-    and 1 lay-item-kinds.ps (falls 1 lay-item-kinds.ps _<_ μ-lay-item t) lay-item.Pre
+    and 3 lay-item-kinds.ps (falls 3 lay-item-kinds.ps _<_ μ-lay-item t) lay-item.Pre
 
-abbrev lay-list-at : ℕ → In 1 lay-list-kinds.ps
-lay-list-at t = and 1 lay-list-kinds.ps (is 1 lay-list-kinds.ps μ-lay-list t) lay-list.Pre
+abbrev lay-list-at : ℕ → In 3 lay-list-kinds.ps
+lay-list-at t = and 3 lay-list-kinds.ps (is 3 lay-list-kinds.ps μ-lay-list t) lay-list.Pre
 
-abbrev lay-list-below : ℕ → In 1 lay-list-kinds.ps
+abbrev lay-list-below : ℕ → In 3 lay-list-kinds.ps
 lay-list-below t =
-    and 1 lay-list-kinds.ps (falls 1 lay-list-kinds.ps _<_ μ-lay-list t) lay-list.Pre
-
-lay-item-nothing-requires : (t : ℕ) → lay-item-lts.Need-nothing-requires (
-  nothing-reads.Asked,
-  nothing-reads.Learnt,
-  counted-reads.Asked,
-  counted-reads.Learnt,
-  byte-at-reads.Asked,
-  byte-at-reads.Learnt,
-  lay-list-below t,
-  lay-list.Post,
-  lay-group-reads.Asked,
-  lay-group-reads.Learnt,
-  plain-reads.Asked,
-  plain-reads.Learnt,
-  lay-leaf-reads.Asked,
-  lay-leaf-reads.Learnt,
-) (lay-item-at t) lay-item.Post
-lay-item-nothing-requires t c κs = search needs
+    and 3 lay-list-kinds.ps (falls 3 lay-list-kinds.ps _<_ μ-lay-list t) lay-list.Pre
 
 lay-item-returns : (t : ℕ) → lay-item-lts.Need-returns (
-  nothing-reads.Asked,
-  nothing-reads.Learnt,
   counted-reads.Asked,
   counted-reads.Learnt,
   byte-at-reads.Asked,
@@ -77,11 +57,9 @@ lay-item-returns : (t : ℕ) → lay-item-lts.Need-returns (
   lay-leaf-reads.Asked,
   lay-leaf-reads.Learnt,
 ) (lay-item-at t) lay-item.Post
-lay-item-returns t c = item-zero _ _ _ _ _ (c .before .if1 .taken) (c .nothing .ensures)
+lay-item-returns t c = item-zero _ _ _ _ _ (c .if1 .taken) (layingIn-none _ _ _ refl)
 
 lay-item-counted-requires : (t : ℕ) → lay-item-lts.Need-counted-requires (
-  nothing-reads.Asked,
-  nothing-reads.Learnt,
   counted-reads.Asked,
   counted-reads.Learnt,
   byte-at-reads.Asked,
@@ -97,27 +75,7 @@ lay-item-counted-requires : (t : ℕ) → lay-item-lts.Need-counted-requires (
 ) (lay-item-at t) lay-item.Post
 lay-item-counted-requires t c κs = search needs
 
-lay-item-nothing-requires-2 : (t : ℕ) → lay-item-lts.Need-nothing-requires-2 (
-  nothing-reads.Asked,
-  nothing-reads.Learnt,
-  counted-reads.Asked,
-  counted-reads.Learnt,
-  byte-at-reads.Asked,
-  byte-at-reads.Learnt,
-  lay-list-below t,
-  lay-list.Post,
-  lay-group-reads.Asked,
-  lay-group-reads.Learnt,
-  plain-reads.Asked,
-  plain-reads.Learnt,
-  lay-leaf-reads.Asked,
-  lay-leaf-reads.Learnt,
-) (lay-item-at t) lay-item.Post
-lay-item-nothing-requires-2 t c κs = search needs
-
 lay-item-returns-2 : (t : ℕ) → lay-item-lts.Need-returns-2 (
-  nothing-reads.Asked,
-  nothing-reads.Learnt,
   counted-reads.Asked,
   counted-reads.Learnt,
   byte-at-reads.Asked,
@@ -132,12 +90,10 @@ lay-item-returns-2 : (t : ℕ) → lay-item-lts.Need-returns-2 (
   lay-leaf-reads.Learnt,
 ) (lay-item-at t) lay-item.Post
 lay-item-returns-2 t c =
-    let at-counted = c .before .before .before in
-    item-uncounted _ _ _ _ _ _ (at-counted .before .if1 .left) (at-counted .counted .ensures) (not-true _ (c .before .if2 .taken)) (c .nothing2 .ensures)
+    let at-counted = c .before .before in
+    item-uncounted _ _ _ _ _ _ (at-counted .before .if1 .left) (at-counted .counted .ensures) (not-true _ (c .if2 .taken)) (layingIn-none _ _ _ refl)
 
 lay-item-byte-at-requires : (t : ℕ) → lay-item-lts.Need-byte-at-requires (
-  nothing-reads.Asked,
-  nothing-reads.Learnt,
   counted-reads.Asked,
   counted-reads.Learnt,
   byte-at-reads.Asked,
@@ -154,8 +110,6 @@ lay-item-byte-at-requires : (t : ℕ) → lay-item-lts.Need-byte-at-requires (
 lay-item-byte-at-requires t c κs = search needs
 
 lay-item-add-lay-list : (t : ℕ) → lay-item-lts.Need-add-lay-list (
-  nothing-reads.Asked,
-  nothing-reads.Learnt,
   counted-reads.Asked,
   counted-reads.Learnt,
   byte-at-reads.Asked,
@@ -170,13 +124,12 @@ lay-item-add-lay-list : (t : ℕ) → lay-item-lts.Need-add-lay-list (
   lay-leaf-reads.Learnt,
 ) (lay-item-at t) lay-item.Post
 lay-item-add-lay-list t c =
-    let at-counted = c .before .before .before .before .before in
+    let at-if3 = c .before .before .before in
+    let at-counted = at-if3 .before .before .before .before in
     let at-start = at-counted .before .before .before in
-    omega (arith, in-text (at-start .args .s .now) (at-counted .counted .result .at) 39 (sym (c .before .before .byte-at .ensures) ∙ c .before .if3 .taken))
+    omega (arith, in-text (at-start .args .s .now) (at-counted .counted .result .at) 39 (sym (at-if3 .before .byte-at .ensures) ∙ at-if3 .if3 .taken))
 
 lay-item-sub-lay-list : (t : ℕ) → lay-item-lts.Need-sub-lay-list (
-  nothing-reads.Asked,
-  nothing-reads.Learnt,
   counted-reads.Asked,
   counted-reads.Learnt,
   byte-at-reads.Asked,
@@ -193,8 +146,6 @@ lay-item-sub-lay-list : (t : ℕ) → lay-item-lts.Need-sub-lay-list (
 lay-item-sub-lay-list t c = search needs
 
 lay-item-lay-list-requires : (t : ℕ) → lay-item-lts.Need-lay-list-requires (
-  nothing-reads.Asked,
-  nothing-reads.Learnt,
   counted-reads.Asked,
   counted-reads.Learnt,
   byte-at-reads.Asked,
@@ -211,8 +162,6 @@ lay-item-lay-list-requires : (t : ℕ) → lay-item-lts.Need-lay-list-requires (
 lay-item-lay-list-requires t c κs = (omega arith, tt)
 
 lay-item-lay-group-requires : (t : ℕ) → lay-item-lts.Need-lay-group-requires (
-  nothing-reads.Asked,
-  nothing-reads.Learnt,
   counted-reads.Asked,
   counted-reads.Learnt,
   byte-at-reads.Asked,
@@ -229,8 +178,6 @@ lay-item-lay-group-requires : (t : ℕ) → lay-item-lts.Need-lay-group-requires
 lay-item-lay-group-requires t c κs = search needs
 
 lay-item-returns-3 : (t : ℕ) → lay-item-lts.Need-returns-3 (
-  nothing-reads.Asked,
-  nothing-reads.Learnt,
   counted-reads.Asked,
   counted-reads.Learnt,
   byte-at-reads.Asked,
@@ -245,14 +192,14 @@ lay-item-returns-3 : (t : ℕ) → lay-item-lts.Need-returns-3 (
   lay-leaf-reads.Learnt,
 ) (lay-item-at t) lay-item.Post
 lay-item-returns-3 t c =
-    let at-byte = c .before .before .before .before in
+    let at-list = c .before .before .before in
+    let at-if3 = at-list .before .before .before .before in
+    let at-byte = at-if3 .before in
     let at-counted = at-byte .before .before .before in
     item-grouped _ _ _ _ _ _ _ (at-counted .before .if1 .left) (at-counted .counted .ensures) (not-false _ (at-byte .before .if2 .left))
-    (sym (at-byte .byte-at .ensures) ∙ c .before .before .before .if3 .taken) (c .before .lay-list .ensures) (c .lay-group .ensures)
+    (sym (at-byte .byte-at .ensures) ∙ at-if3 .if3 .taken) (at-list .lay-list .ensures) (c .lay-group .ensures)
 
 lay-item-plain-requires : (t : ℕ) → lay-item-lts.Need-plain-requires (
-  nothing-reads.Asked,
-  nothing-reads.Learnt,
   counted-reads.Asked,
   counted-reads.Learnt,
   byte-at-reads.Asked,
@@ -269,8 +216,6 @@ lay-item-plain-requires : (t : ℕ) → lay-item-lts.Need-plain-requires (
 lay-item-plain-requires t c κs = search needs
 
 lay-item-lay-leaf-requires : (t : ℕ) → lay-item-lts.Need-lay-leaf-requires (
-  nothing-reads.Asked,
-  nothing-reads.Learnt,
   counted-reads.Asked,
   counted-reads.Learnt,
   byte-at-reads.Asked,
@@ -287,8 +232,6 @@ lay-item-lay-leaf-requires : (t : ℕ) → lay-item-lts.Need-lay-leaf-requires (
 lay-item-lay-leaf-requires t c κs = search needs
 
 lay-item-returns-4 : (t : ℕ) → lay-item-lts.Need-returns-4 (
-  nothing-reads.Asked,
-  nothing-reads.Learnt,
   counted-reads.Asked,
   counted-reads.Learnt,
   byte-at-reads.Asked,
@@ -303,26 +246,13 @@ lay-item-returns-4 : (t : ℕ) → lay-item-lts.Need-returns-4 (
   lay-leaf-reads.Learnt,
 ) (lay-item-at t) lay-item.Post
 lay-item-returns-4 t c =
-    let at-byte = c .before .before .before in
+    let at-if3 = c .before .before .before .before in
+    let at-byte = at-if3 .before in
     let at-counted = at-byte .before .before .before in
     item-plain _ _ _ _ _ _ _ (at-counted .before .if1 .left) (at-counted .counted .ensures) (not-false _ (at-byte .before .if2 .left))
-    (λ e. c .before .before .if3 .left (at-byte .byte-at .ensures ∙ e)) (c .before .plain .ensures) (c .lay-leaf .ensures)
-
-lay-list-nothing-requires : (t : ℕ) → lay-list-lts.Need-nothing-requires (
-  nothing-reads.Asked,
-  nothing-reads.Learnt,
-  lay-item-below t,
-  lay-item.Post,
-  byte-at-reads.Asked,
-  byte-at-reads.Learnt,
-  lay-list-below t,
-  lay-list.Post,
-) (lay-list-at t) lay-list.Post
-lay-list-nothing-requires t c κs = search needs
+    (λ e. at-if3 .if3 .left (at-byte .byte-at .ensures ∙ e)) (c .before .plain .ensures) (c .lay-leaf .ensures)
 
 lay-list-returns : (t : ℕ) → lay-list-lts.Need-returns (
-  nothing-reads.Asked,
-  nothing-reads.Learnt,
   lay-item-below t,
   lay-item.Post,
   byte-at-reads.Asked,
@@ -330,11 +260,9 @@ lay-list-returns : (t : ℕ) → lay-list-lts.Need-returns (
   lay-list-below t,
   lay-list.Post,
 ) (lay-list-at t) lay-list.Post
-lay-list-returns t c = list-zero _ _ _ _ _ (c .before .if1 .taken) (c .nothing .ensures)
+lay-list-returns t c = list-zero _ _ _ _ _ (c .if1 .taken) (layingIn-none _ _ _ refl)
 
 lay-list-sub-lay-item : (t : ℕ) → lay-list-lts.Need-sub-lay-item (
-  nothing-reads.Asked,
-  nothing-reads.Learnt,
   lay-item-below t,
   lay-item.Post,
   byte-at-reads.Asked,
@@ -345,8 +273,6 @@ lay-list-sub-lay-item : (t : ℕ) → lay-list-lts.Need-sub-lay-item (
 lay-list-sub-lay-item t c = search needs
 
 lay-list-lay-item-requires : (t : ℕ) → lay-list-lts.Need-lay-item-requires (
-  nothing-reads.Asked,
-  nothing-reads.Learnt,
   lay-item-below t,
   lay-item.Post,
   byte-at-reads.Asked,
@@ -356,21 +282,7 @@ lay-list-lay-item-requires : (t : ℕ) → lay-list-lts.Need-lay-item-requires (
 ) (lay-list-at t) lay-list.Post
 lay-list-lay-item-requires t c κs = (omega arith, tt)
 
-lay-list-nothing-requires-2 : (t : ℕ) → lay-list-lts.Need-nothing-requires-2 (
-  nothing-reads.Asked,
-  nothing-reads.Learnt,
-  lay-item-below t,
-  lay-item.Post,
-  byte-at-reads.Asked,
-  byte-at-reads.Learnt,
-  lay-list-below t,
-  lay-list.Post,
-) (lay-list-at t) lay-list.Post
-lay-list-nothing-requires-2 t c κs = search needs
-
 lay-list-returns-2 : (t : ℕ) → lay-list-lts.Need-returns-2 (
-  nothing-reads.Asked,
-  nothing-reads.Learnt,
   lay-item-below t,
   lay-item.Post,
   byte-at-reads.Asked,
@@ -379,12 +291,10 @@ lay-list-returns-2 : (t : ℕ) → lay-list-lts.Need-returns-2 (
   lay-list.Post,
 ) (lay-list-at t) lay-list.Post
 lay-list-returns-2 t c =
-    let at-item = c .before .before .before in
-    list-empty _ _ _ _ _ _ (at-item .before .if1 .left) (at-item .lay-item .ensures) (not-true _ (c .before .if2 .taken)) (c .nothing2 .ensures)
+    let at-item = c .before .before in
+    list-empty _ _ _ _ _ _ _ _ (at-item .before .before .before .if1 .left) (at-item .lay-item .ensures) (not-true _ (c .if2 .taken)) (layingIn-none _ _ _ refl)
 
 lay-list-byte-at-requires : (t : ℕ) → lay-list-lts.Need-byte-at-requires (
-  nothing-reads.Asked,
-  nothing-reads.Learnt,
   lay-item-below t,
   lay-item.Post,
   byte-at-reads.Asked,
@@ -395,8 +305,6 @@ lay-list-byte-at-requires : (t : ℕ) → lay-list-lts.Need-byte-at-requires (
 lay-list-byte-at-requires t c κs = search needs
 
 lay-list-add-lay-list : (t : ℕ) → lay-list-lts.Need-add-lay-list (
-  nothing-reads.Asked,
-  nothing-reads.Learnt,
   lay-item-below t,
   lay-item.Post,
   byte-at-reads.Asked,
@@ -405,13 +313,12 @@ lay-list-add-lay-list : (t : ℕ) → lay-list-lts.Need-add-lay-list (
   lay-list.Post,
 ) (lay-list-at t) lay-list.Post
 lay-list-add-lay-list t c =
-    let at-item = c .before .before .before .before .before in
-    let at-start = at-item .before .before .before in
-    omega (arith, in-text (at-start .args .s .now) (at-item .lay-item .result .at) 43 (sym (c .before .before .byte-at .ensures) ∙ c .before .if3 .taken))
+    let at-if3 = c .before .before .before in
+    let at-item = at-if3 .before .before .before .before in
+    let at-start = at-item .before .before .before .before .before in
+    omega (arith, in-text (at-start .args .s .now) (at-item .lay-item .result .at) 43 (sym (at-if3 .before .byte-at .ensures) ∙ at-if3 .if3 .taken))
 
 lay-list-sub-lay-list : (t : ℕ) → lay-list-lts.Need-sub-lay-list (
-  nothing-reads.Asked,
-  nothing-reads.Learnt,
   lay-item-below t,
   lay-item.Post,
   byte-at-reads.Asked,
@@ -422,8 +329,6 @@ lay-list-sub-lay-list : (t : ℕ) → lay-list-lts.Need-sub-lay-list (
 lay-list-sub-lay-list t c = search needs
 
 lay-list-lay-list-requires : (t : ℕ) → lay-list-lts.Need-lay-list-requires (
-  nothing-reads.Asked,
-  nothing-reads.Learnt,
   lay-item-below t,
   lay-item.Post,
   byte-at-reads.Asked,
@@ -434,8 +339,6 @@ lay-list-lay-list-requires : (t : ℕ) → lay-list-lts.Need-lay-list-requires (
 lay-list-lay-list-requires t c κs = (omega arith, tt)
 
 lay-list-returns-3 : (t : ℕ) → lay-list-lts.Need-returns-3 (
-  nothing-reads.Asked,
-  nothing-reads.Learnt,
   lay-item-below t,
   lay-item.Post,
   byte-at-reads.Asked,
@@ -444,14 +347,13 @@ lay-list-returns-3 : (t : ℕ) → lay-list-lts.Need-returns-3 (
   lay-list.Post,
 ) (lay-list-at t) lay-list.Post
 lay-list-returns-3 t c =
-    let at-byte = c .before .before .before in
+    let at-if3 = c .before .before .before .before in
+    let at-byte = at-if3 .before in
     let at-item = at-byte .before .before .before in
-    list-comma _ _ _ _ _ _ (at-item .before .if1 .left) (at-item .lay-item .ensures) (not-false _ (at-byte .before .if2 .left))
-    (sym (at-byte .byte-at .ensures) ∙ c .before .before .if3 .taken) (c .lay-list .ensures)
+    list-comma _ _ _ _ _ _ _ _ (at-item .before .before .before .if1 .left) (at-item .lay-item .ensures) (not-false _ (at-byte .before .if2 .left))
+    (sym (at-byte .byte-at .ensures) ∙ at-if3 .if3 .taken) (c .lay-list .ensures)
 
 lay-list-returns-4 : (t : ℕ) → lay-list-lts.Need-returns-4 (
-  nothing-reads.Asked,
-  nothing-reads.Learnt,
   lay-item-below t,
   lay-item.Post,
   byte-at-reads.Asked,
@@ -461,12 +363,11 @@ lay-list-returns-4 : (t : ℕ) → lay-list-lts.Need-returns-4 (
 ) (lay-list-at t) lay-list.Post
 lay-list-returns-4 t c =
     let at-item = c .before .before .before .before in
-    list-one _ _ _ _ _ (at-item .before .if1 .left) (at-item .lay-item .ensures) (not-false _ (c .before .before .if2 .left)) (λ e. c .if3 .left (c .before .byte-at .ensures ∙ e))
+    list-one _ _ _ _ _ _ _ (at-item .before .before .before .if1 .left) (at-item .lay-item .ensures) (not-false _ (c .before .before .if2 .left))
+    (λ e. c .if3 .left (c .before .byte-at .ensures ∙ e))
 
 pub +lay-item+lay-list-spec : {M : Type 1} → statement M
 +lay-item+lay-list-spec = close μ-lay-item μ-lay-list (λ t. lay-item-lts.spec (
-  nothing-reads.Asked,
-  nothing-reads.Learnt,
   counted-reads.Asked,
   counted-reads.Learnt,
   byte-at-reads.Asked,
@@ -482,10 +383,8 @@ pub +lay-item+lay-list-spec : {M : Type 1} → statement M
 )
     (lay-item-at t)
     lay-item.Post
-    (lay-item-nothing-requires t)
     (lay-item-returns t)
     (lay-item-counted-requires t)
-    (lay-item-nothing-requires-2 t)
     (lay-item-returns-2 t)
     (lay-item-byte-at-requires t)
     (lay-item-add-lay-list t)
@@ -497,8 +396,6 @@ pub +lay-item+lay-list-spec : {M : Type 1} → statement M
     (lay-item-lay-leaf-requires t)
     (lay-item-returns-4 t))
     λ t. lay-list-lts.spec (
-      nothing-reads.Asked,
-      nothing-reads.Learnt,
       lay-item-below t,
       lay-item.Post,
       byte-at-reads.Asked,
@@ -508,11 +405,9 @@ pub +lay-item+lay-list-spec : {M : Type 1} → statement M
     )
     (lay-list-at t)
     lay-list.Post
-    (lay-list-nothing-requires t)
     (lay-list-returns t)
     (lay-list-sub-lay-item t)
     (lay-list-lay-item-requires t)
-    (lay-list-nothing-requires-2 t)
     (lay-list-returns-2 t)
     (lay-list-byte-at-requires t)
     (lay-list-add-lay-list t)

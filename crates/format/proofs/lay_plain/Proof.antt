@@ -1,5 +1,4 @@
 -- `format::lay_plain` meets its contract.
-use Rattle.format.specs.Format.{repeated}
 use Rattle.format.specs.RowLaws.{layPlain-other, layPlain-text}
 use borrow.Author.Needs.{needs}
 use Rattle.format.proofs.lay_plain.Statement.{statement}
@@ -12,7 +11,7 @@ push-field-requires : tie.Need-push-field-requires
 push-field-requires c κs = search needs
 
 returns : tie.Need-returns
-returns c = layPlain-text _ _ _ _ _ _ (c .before .before .if1 .taken) (c .before .product .ensures) (c .push-field .ensures)
+returns c = layPlain-text _ _ _ _ _ _ (c .before .before .before .before .if1 .taken) (c .before .product .ensures) (c .push-field .ensures)
 
 push-field-requires-2 : tie.Need-push-field-requires-2
 push-field-requires-2 c κs = search needs
@@ -21,7 +20,9 @@ repeated-requires : tie.Need-repeated-requires
 repeated-requires c κs = search needs
 
 returns-2 : tie.Need-returns-2
-returns-2 c = layPlain-other _ _ _ _ _ _ (c .before .before .if1 .left) (c .before .push-field2 .ensures) (c .repeated .ensures)
+returns-2 c =
+    let at-push = c .before .before .before in
+    layPlain-other _ _ _ _ _ _ (at-push .before .before .before .if1 .left) (at-push .push-field2 .ensures) (c .repeated .ensures)
 
 pub lay-plain-spec : {M : Type 1} → statement M
 lay-plain-spec =

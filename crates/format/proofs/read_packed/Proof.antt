@@ -1,4 +1,5 @@
 -- `format::read_packed` meets its contract.
+use Rattle.format.specs.Laid.{padded}
 use Rattle.format.specs.AnswerLaws.{answer-deep, answer-none, answer-part, answer-some, answer-wide}
 use borrow.Author.Tests.{not-true, not-false}
 use borrow.Author.Needs.{needs}
@@ -44,24 +45,23 @@ returns-4 c =
     let at-if1 = at-if2 .before .before in
     answer-wide _ _ (at-if1 .before .before .list .ensures) _ (not-false _ (at-if1 .if1 .left)) (at-if2 .if2 .left) (at-if3 .if3 .left) (c .before .if4 .taken) (c .refused4 .ensures)
 
-no-fields-requires : tie.Need-no-fields-requires
-no-fields-requires c κs = search needs
-
 lay-list-requires : tie.Need-lay-list-requires
 lay-list-requires c κs = search needs
 
-fields-of-requires : tie.Need-fields-of-requires
-fields-of-requires c κs = search needs
+index-requires : tie.Need-index-requires
+index-requires c κs = search needs
 
 returns-5 : tie.Need-returns-5
+unfolding padded
 returns-5 c =
-    let at-lay = c .before .before in
-    let at-if4 = at-lay .before .before in
+    let at-lay = c .before in
+    let at-if4 = at-lay .before .before .before in
     let at-if3 = at-if4 .before .before in
     let at-if2 = at-if3 .before .before in
     let at-if1 = at-if2 .before .before in
-    answer-some _ _ (at-if1 .before .before .list .ensures) _ _ _ (not-false _ (at-if1 .if1 .left)) (at-if2 .if2 .left) (at-if3 .if3 .left) (at-if4 .if4 .left)
-    (at-lay .before .no-fields .ensures) (at-lay .lay-list .ensures) (c .fields-of .ensures)
+    let list = at-if1 .before .before .list .ensures in
+    rw (c .index .ensures)
+    (answer-some _ _ list _ _ _ (not-false _ (at-if1 .if1 .left)) (at-if2 .if2 .left) (at-if3 .if3 .left) (at-if4 .if4 .left) (at-lay .lay-list .ensures))
 
 pub read-packed-spec : {M : Type 1} → statement M
 read-packed-spec =
@@ -77,7 +77,6 @@ read-packed-spec =
     returns-3
     refused-requires-4
     returns-4
-    no-fields-requires
     lay-list-requires
-    fields-of-requires
+    index-requires
     returns-5)
