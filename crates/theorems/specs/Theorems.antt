@@ -110,7 +110,7 @@ use Rattle.host.specs.Answer.{seenBytes, fieldAnswer}
 use Rattle.format_laws.specs.Asked.{ReadsAs, leftBlank, Ruled, Asked}
 use Rattle.format_laws.specs.Printed.{printAt, caseAt, isAmong, entriesText, ordersText, lastText}
 use Rattle.format_laws.specs.Printed as Printed
-use Rattle.format_laws.specs.Said.{FieldSaid}
+use Rattle.format_laws.specs.Said.{NoFormat, NoField, FieldSaid}
 use Rattle.format_laws.specs.SameLaws as FormatLaws
 use Rattle.format_laws.specs.PrintedLaws as PrintedLaws
 use Rattle.format_laws.specs.JudgeLaws as QuestionJudgeLaws
@@ -504,7 +504,7 @@ module _ (header : List ℕ) (h : 0 < headerOf header .reply .number) where
 
 -- C-15. "The planner wants to type in a set's printed FORMAT and read a line's fields, by number from 0.": `Question.answerOf text k line`, field k of a line lent alone;
 -- C gets it by `replyFor` (`uff_field`). What it can answer:
-pub question-table : (text : List ℕ) (k : ℕ) (line : List ℕ) → FieldSaid (Question.answerOf text k line)
+pub question-table : (text : List ℕ) (k : ℕ) (line : List ℕ) → FieldSaid text k line (Question.answerOf text k line)
 question-table = SaidLaws.question-said
 
 pub question-kept : (text : List ℕ) (k : ℕ) (line out : List ℕ) → 0 < numberIn (replyFor (fieldAnswer (Question.answerOf text k line)) (length out))
@@ -528,11 +528,25 @@ pub format-one : {t u : Format} {bytes : List ℕ} → Format.Text t bytes → F
 format-one = ReadingLaws.reading-one
 
 -- "Refusals: 26, text malformed or too long; then 27, deeper than three or over 80 columns; then the line's own; then 18."
-pub format-malformed : (bytes : List ℕ) → ((t : Format) → Format.Text t bytes → ⊥) → (k : ℕ) (line : List ℕ) → Question.answerOf bytes k line ≡ refused 26 0
+pub format-malformed : (bytes : List ℕ) → NoFormat bytes → (k : ℕ) (line : List ℕ) → Question.answerOf bytes k line ≡ refused 26 0
 format-malformed bytes n k line = QuestionLaws.text-first bytes k line .0 (ReadingLaws.malformed-reading bytes n)
 
 pub format-large : {t : Format} {bytes : List ℕ} → Format.Text t bytes → (Format.Fits t → ⊥) → (k : ℕ) (line : List ℕ) → Question.answerOf bytes k line ≡ refused 27 0
 format-large {bytes = bytes} x n k line = QuestionLaws.text-first bytes k line .1 (ReadingLaws.reading-large x n)
+
+pub format-no-field : (bytes : List ℕ) (k : ℕ) (line : List ℕ) → NoField bytes k line → Question.answerOf bytes k line ≡ refused 18 0
+format-no-field = SaidLaws.no-field-said
+
+-- and each for nothing else: 26 where the bytes are no FORMAT, 27 where they are one that does not fit, 18 where the line passes by its fields and these, X aside, are
+-- no more than k
+pub only-malformed : (bytes : List ℕ) (k : ℕ) (line : List ℕ) → Question.answerOf bytes k line .reply .number ≡ 26 → NoFormat bytes
+only-malformed = SaidLaws.said-malformed
+
+pub only-large : (bytes : List ℕ) (k : ℕ) (line : List ℕ) → Question.answerOf bytes k line .reply .number ≡ 27 → ReadingLaws.TooLarge bytes
+only-large = SaidLaws.said-large
+
+pub only-no-field : (bytes : List ℕ) (k : ℕ) (line : List ℕ) → Question.answerOf bytes k line .reply .number ≡ 18 → NoField bytes k line
+only-no-field = SaidLaws.said-no-field
 
 -- "For every record of document 01 and every line, reading by the printed FORMAT gives the same fields or the same refusal as the built-in reader, before 9, 11 and 14
 -- are looked at": of any fields of a row, by any text that reads as them; `format_laws` Printed has the printed texts, each of which reads as its record
