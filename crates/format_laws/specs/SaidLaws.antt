@@ -35,7 +35,7 @@ use Rattle.format_reader.specs.Unruled.{lookedAt, unruledNumber, unruledFault, 
 use Rattle.format_reader.specs.Question.{Seen, kindOf, counts, fieldShown, realShown, shownFrom, lineFirst, fieldIn, fieldOf, formFor, rowField, answerBy, answerOf}
 use Rattle.format_laws.specs.Said.{QuestionNumber, byte, long, integer-malformed, real-malformed, integer-blank, real-blank, Questioned, none, some}
 use Rattle.format_laws.specs.Said.{NoFormat, fieldCount, NoField, FieldSaid, shown, malformed, too-large, no-field, line}
-use Rattle.format_laws.specs.Said as Said
+use Rattle.format_laws.specs.Said as Answered
 
 -- A field's number: 0, or one of those.
 data Looked : ℕ → Type 0 where
@@ -84,7 +84,7 @@ some-number byte = omega arith
 some-number long = omega arith
 some-number integer-malformed = omega arith
 some-number real-malformed = omega arith
-some-number Said.stray = omega arith
+some-number Answered.stray = omega arith
 some-number integer-blank = omega arith
 some-number real-blank = omega arith
 
@@ -94,7 +94,7 @@ own-number byte = (omega arith, λ e. omega arith)
 own-number long = (omega arith, λ e. omega arith)
 own-number integer-malformed = (omega arith, λ e. omega arith)
 own-number real-malformed = (omega arith, λ e. omega arith)
-own-number Said.stray = (omega arith, λ e. omega arith)
+own-number Answered.stray = (omega arith, λ e. omega arith)
 own-number integer-blank = (omega arith, λ e. omega arith)
 own-number real-blank = (omega arith, λ e. omega arith)
 
@@ -111,7 +111,7 @@ of-fields (f ∷ fs) at l =
 
 of-stray : (c : ℕ) → Questioned (strayFault c)
 of-stray zero = none
-of-stray (suc c) = some 13 (suc c) Said.stray (omega arith)
+of-stray (suc c) = some 13 (suc c) Answered.stray (omega arith)
 
 of-first : {f : Refusal} (g : Refusal) → Questioned f → Questioned g → Questioned (orElse (f .number) (f .column) g)
 of-first g none q = q

@@ -99,6 +99,9 @@ use Rattle.line.specs.Line.{columns, filled}
 use Rattle.record_table.specs.Row.{Field, firstFields}
 use Rattle.record_table.specs.Records.{recordOf, dataRow, noRecord, traceEntries, orderLists}
 use Rattle.record.specs.Check.{taken}
+use Rattle.walk.specs.Due.{recordDue, rowDue, mayContinue}
+use Rattle.walk.specs.declared.Due.{Due}
+use Rattle.walk.specs.declared.Place.the-variants.{Typed}
 use Rattle.walk.specs.declared.State.{State}
 use Rattle.walk.specs.declared.Outcome.the-variants.{Next}
 use Rattle.walk.specs.declared.Outcome.the-variants as Outcome
@@ -108,15 +111,18 @@ use Rattle.format_reader.specs.Question.{Seen}
 use Rattle.format_reader.specs.Question as Question
 use Rattle.host.specs.Answer.{seenBytes, fieldAnswer}
 use Rattle.format_laws.specs.Asked.{ReadsAs, leftBlank, Ruled, Asked}
-use Rattle.format_laws.specs.Printed.{printAt, caseAt, isAmong, entriesText, ordersText, lastText}
+use Rattle.format_laws.specs.Printed.{printAt, caseAt, isAmong, entriesText, ordersText, lastText, printedFor}
 use Rattle.format_laws.specs.Printed as Printed
 use Rattle.format_laws.specs.Said.{NoFormat, NoField, FieldSaid}
 use Rattle.format_laws.specs.SameLaws as FormatLaws
 use Rattle.format_laws.specs.PrintedLaws as PrintedLaws
+use Rattle.format_laws.specs.DueLaws as PrintedDueLaws
 use Rattle.format_laws.specs.JudgeLaws as QuestionJudgeLaws
 use Rattle.format_laws.specs.SaidLaws as SaidLaws
 use Rattle.theorems.specs.QuestionLaws.{ItemsShown}
 use Rattle.theorems.specs.QuestionLaws as QuestionLaws
+use Rattle.theorems.specs.Reached.{Reached, DueLine, printedText}
+use Rattle.theorems.specs.ReachedLaws as ReachedLaws
 
 -- DEMAND 1. "Every call takes every string of bytes and every number, and ends.": what each answers is proved for all of them.
 -- "A bad file or a bad question gets a number from document 01's table, with the line where the table says so."
@@ -573,6 +579,16 @@ orders-read = PrintedLaws.orders-reads
 pub last-reads : (c n : ℕ) (line : List ℕ) → c < 8 → 1 ≤ n → n ≤ 6 → ReadsAs (lastText c n line) (taken (firstFields n (dataRow c)) line .fields)
 last-reads = PrintedLaws.last-reads
 
+-- for what is due in a file: a record by each of its prints; and every line by one FORMAT, `printedFor`, the record's or that of the list's full line cut to what it holds,
+-- whole where a 58's remainder is not blank
+pub print-reads : (d : Due) (line : List ℕ) (i : ℕ) → i < length Printed.records → printAt i .number ≡ recordDue d → recordDue d < noRecord
+    → ReadsAs (printAt i .text) (taken (rowDue d) line .fields)
+print-reads = PrintedDueLaws.print-due
+
+pub due-reads : {s : State} → Reached s → (d : Due) → s .place ≡ Typed d → mayContinue d ≡ true
+    → (line : List ℕ) → ReadsAs (printedFor d line) (taken (rowDue d) line .fields)
+due-reads = ReachedLaws.reached-reads
+
 -- the built-in reader is the judge's: in a state s where a row is due, on a line of bytes l before its LF, by a text that reads as the row's fields. Where the judge passes
 -- the line every field shows the list's item in its columns; where it refuses it, but for 9, 11 and 14, the question has the same number and column; where a field
 -- is shown it passes the line, or refuses it with 9, 11 or 14
@@ -585,3 +601,19 @@ module _ {s : State} {l text : List ℕ} (a : Asked s l text) where
 
   pub field-shown : (k : ℕ) → Question.answerOf text k (columns true l) .reply .number ≡ 0 → (f : Refusal) → lineStep s l ≡ Outcome.Refused f → Ruled (f .number)
   field-shown = QuestionJudgeLaws.shown-passes a
+
+-- so of every line of a file where a row is due, by its printed FORMAT
+module _ {s : State} {l : List ℕ} (a : DueLine s l) where
+  pub due-asked : Asked s l (printedText a)
+  due-asked = ReachedLaws.due-asked a
+
+  pub due-passes : (t : State) → lineStep s l ≡ Next t → ItemsShown due-asked
+  due-passes = judge-passes due-asked
+
+  pub due-refuses : (f : Refusal) → lineStep s l ≡ Outcome.Refused f → (Ruled (f .number) → ⊥)
+      → (k : ℕ) → Question.answerOf (printedText a) k (columns true l) ≡ refusedBy (atLine 0 f)
+  due-refuses = judge-refuses due-asked
+
+  pub due-shown : (k : ℕ) → Question.answerOf (printedText a) k (columns true l) .reply .number ≡ 0
+      → (f : Refusal) → lineStep s l ≡ Outcome.Refused f → Ruled (f .number)
+  due-shown = field-shown due-asked
