@@ -5,6 +5,7 @@ pub mod ShownLaws
 pub mod JudgeLaws
 pub mod Printed
 pub mod PrintedLaws
+pub mod DueLaws
 pub mod Said
 pub mod SaidLaws
 pub mod Examples

@@ -1,19 +1,23 @@
 -- The FORMATs that documents 000, 001, 002 and 004 print, as they print them, blanks and brackets too. Misprints, which read as nothing or as other
 -- columns, stand for what they misspell: 000's `(8110)` for 82's entries, its 1s for Is in 1815 (004 prints the Is), and 002's `(10Al,10A1)`.
--- 002's `(10A1,10A1)` for 151's line 4 and `(I10,20A1)` for 164's line 1 leave numbers out that 000 prints.
+-- 002's `(10A1,10A1)` for 151's line 4 and `(I10,20A1)` for 164's line 1 leave numbers out that 000 prints. 003 misprints 58's records 7 and
+-- 8, `T(311 10,3E13.5)` and `2(1X,2 20A1)`, for which 001's stand.
 use mathlib.Core.Bool.{Bool, false, _||_}
 use mathlib.Core.List as L
 use mathlib.Core.List.{List}
-use Prim.Native.Nat.{ℕ, _-_}
+use Prim.Native.Nat.{ℕ, _+_, _-_, _<_, min}
 use Prim.Native.String.{String, [], _∷_}
 use Prim.Native.Char.{code}
-use lib.Dec.{eqb}
-use lib.ListN.{getD}
+use lib.Dec.{ltb, eqb}
+use lib.ListN.{length, getD}
 use Rattle.laws.specs.Choice.{pick}
 use Rattle.text.specs.Blank.{allBlank}
 use Rattle.record_table.specs.Row.{firstFields}
-use Rattle.record_table.specs.Records.{dataRow}
+use Rattle.record_table.specs.Records.{dataRow, noRecord}
+use Rattle.record_table.specs.TypedSets.{kind58, kind82}
 use Rattle.record.specs.Check.{remainderIn}
+use Rattle.walk.specs.Due.{recordDue, listRow}
+use Rattle.walk.specs.declared.Due.{Due}
 
 -- the bytes of a text
 abbrev pub bytesOf : String → List ℕ
@@ -71,6 +75,14 @@ cases =
 abbrev pub caseAt : ℕ → Print
 caseAt i = getD cases i (print 0 "")
 
+-- of a record, its first print
+unfoldable pub textIn : List Print → ℕ → List ℕ
+textIn L.[] k = none
+textIn (L._∷_ p ps) k = pick (eqb k (p .number)) (p .text) (textIn ps k)
+
+abbrev pub recordText : ℕ → List ℕ
+recordText k = textIn records k
+
 -- whether a record is printed
 unfoldable pub isAmong : List Print → ℕ → Bool
 isAmong L.[] k = false
@@ -116,3 +128,17 @@ dataText c n = getD (getD dataTexts c none) (n - 1) none
 -- ".. C-13's remainder counting whole unless blank": of a data line on which n numbers are due, by its 80 columns
 abbrev pub lastText : ℕ → ℕ → List ℕ → List ℕ
 lastText c n line = pick (allBlank (remainderIn (firstFields n (dataRow c)) line)) (dataText c n) (dataText c 6)
+
+-- of a line of numbers that is due, by its 80 columns: that of the full line of a 58's data, an 82's entries or a 1815's lists, cut to what the line holds
+abbrev pub listText : Due → List ℕ → List ℕ
+listText d line =
+    pick (eqb (d .kind) kind58) (lastText (d .case) (min (d .left) 6) line)
+    (pick (eqb (d .kind) kind82) (entriesText (min (d .left) 8)) (ordersText (min (d .left) 5)))
+
+-- of the line that is due: its record's, or that. Records 20 to 23 of 1815, which the request leaves out, are any text to the judge, and have 80A1 here
+unfoldable pub printedFor : Due → List ℕ → List ℕ
+printedFor d line = pick (ltb (recordDue d) noRecord) (recordText (recordDue d)) (listText d line)
+
+-- what is due in a file: where numbers are left, a full line holds some
+abbrev pub Holding : Due → Type 0
+Holding d = 0 < d .left + d .second → 0 < length (listRow d .fields)

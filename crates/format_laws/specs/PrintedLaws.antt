@@ -25,7 +25,7 @@ use Rattle.format_laws.specs.Asked.{formatField, ReadsAs, leftBlank}
 use Rattle.format_laws.specs.SameLaws.{by-format}
 use Rattle.format_laws.specs.Printed.{records, printAt, cases, caseAt, isAmong, entriesTexts, entriesText, ordersTexts, ordersText, dataTexts, dataText, lastText}
 
-abbrev asFields : List Field → Reading
+abbrev pub asFields : List Field → Reading
 asFields fs = fields (map formatField fs)
 
 -- every record of the table is printed

@@ -37,4 +37,6 @@ pub mod WriterLaws
 pub mod KeptLaws
 pub mod ArrivalLaws
 pub mod QuestionLaws
+pub mod Reached
+pub mod ReachedLaws
 pub mod Theorems

@@ -46,12 +46,12 @@ unfolding answerOf
 text-first text k line = (λ e. rw e refl, λ e. rw e refl)
 
 -- a refusal shows nothing
-quiet : {s : Said Seen} → FieldSaid s → 0 < s .reply .number → fieldBytes (s .shown) ≡ []
+quiet : {text : List ℕ} {k : ℕ} {lent : List ℕ} {s : Said Seen} → FieldSaid text k lent s → 0 < s .reply .number → fieldBytes (s .shown) ≡ []
 unfolding fieldBytes
 quiet (FieldSaid.shown kind x a b) h = absurd (omega arith)
-quiet FieldSaid.malformed h = refl
-quiet FieldSaid.too-large h = refl
-quiet FieldSaid.no-field h = refl
+quiet (FieldSaid.malformed n) h = refl
+quiet (FieldSaid.too-large n) h = refl
+quiet (FieldSaid.no-field n) h = refl
 quiet (FieldSaid.line n c p a) h = refl
 
 pub field-kept : (text : List ℕ) (k : ℕ) (lent out : List ℕ) → 0 < numberIn (replyFor (fieldAnswer (answerOf text k lent)) (length out))

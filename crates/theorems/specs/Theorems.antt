@@ -99,6 +99,9 @@ use Rattle.line.specs.Line.{columns, filled}
 use Rattle.record_table.specs.Row.{Field, firstFields}
 use Rattle.record_table.specs.Records.{recordOf, dataRow, noRecord, traceEntries, orderLists}
 use Rattle.record.specs.Check.{taken}
+use Rattle.walk.specs.Due.{recordDue, rowDue, mayContinue}
+use Rattle.walk.specs.declared.Due.{Due}
+use Rattle.walk.specs.declared.Place.the-variants.{Typed}
 use Rattle.walk.specs.declared.State.{State}
 use Rattle.walk.specs.declared.Outcome.the-variants.{Next}
 use Rattle.walk.specs.declared.Outcome.the-variants as Outcome
@@ -108,15 +111,18 @@ use Rattle.format_reader.specs.Question.{Seen}
 use Rattle.format_reader.specs.Question as Question
 use Rattle.host.specs.Answer.{seenBytes, fieldAnswer}
 use Rattle.format_laws.specs.Asked.{ReadsAs, leftBlank, Ruled, Asked}
-use Rattle.format_laws.specs.Printed.{printAt, caseAt, isAmong, entriesText, ordersText, lastText}
+use Rattle.format_laws.specs.Printed.{printAt, caseAt, isAmong, entriesText, ordersText, lastText, printedFor}
 use Rattle.format_laws.specs.Printed as Printed
-use Rattle.format_laws.specs.Said.{FieldSaid}
+use Rattle.format_laws.specs.Said.{NoFormat, NoField, FieldSaid}
 use Rattle.format_laws.specs.SameLaws as FormatLaws
 use Rattle.format_laws.specs.PrintedLaws as PrintedLaws
+use Rattle.format_laws.specs.DueLaws as PrintedDueLaws
 use Rattle.format_laws.specs.JudgeLaws as QuestionJudgeLaws
 use Rattle.format_laws.specs.SaidLaws as SaidLaws
 use Rattle.theorems.specs.QuestionLaws.{ItemsShown}
 use Rattle.theorems.specs.QuestionLaws as QuestionLaws
+use Rattle.theorems.specs.Reached.{Reached, DueLine, printedText}
+use Rattle.theorems.specs.ReachedLaws as ReachedLaws
 
 -- DEMAND 1. "Every call takes every string of bytes and every number, and ends.": what each answers is proved for all of them.
 -- "A bad file or a bad question gets a number from document 01's table, with the line where the table says so."
@@ -504,7 +510,7 @@ module _ (header : List ℕ) (h : 0 < headerOf header .reply .number) where
 
 -- C-15. "The planner wants to type in a set's printed FORMAT and read a line's fields, by number from 0.": `Question.answerOf text k line`, field k of a line lent alone;
 -- C gets it by `replyFor` (`uff_field`). What it can answer:
-pub question-table : (text : List ℕ) (k : ℕ) (line : List ℕ) → FieldSaid (Question.answerOf text k line)
+pub question-table : (text : List ℕ) (k : ℕ) (line : List ℕ) → FieldSaid text k line (Question.answerOf text k line)
 question-table = SaidLaws.question-said
 
 pub question-kept : (text : List ℕ) (k : ℕ) (line out : List ℕ) → 0 < numberIn (replyFor (fieldAnswer (Question.answerOf text k line)) (length out))
@@ -528,11 +534,25 @@ pub format-one : {t u : Format} {bytes : List ℕ} → Format.Text t bytes → F
 format-one = ReadingLaws.reading-one
 
 -- "Refusals: 26, text malformed or too long; then 27, deeper than three or over 80 columns; then the line's own; then 18."
-pub format-malformed : (bytes : List ℕ) → ((t : Format) → Format.Text t bytes → ⊥) → (k : ℕ) (line : List ℕ) → Question.answerOf bytes k line ≡ refused 26 0
+pub format-malformed : (bytes : List ℕ) → NoFormat bytes → (k : ℕ) (line : List ℕ) → Question.answerOf bytes k line ≡ refused 26 0
 format-malformed bytes n k line = QuestionLaws.text-first bytes k line .0 (ReadingLaws.malformed-reading bytes n)
 
 pub format-large : {t : Format} {bytes : List ℕ} → Format.Text t bytes → (Format.Fits t → ⊥) → (k : ℕ) (line : List ℕ) → Question.answerOf bytes k line ≡ refused 27 0
 format-large {bytes = bytes} x n k line = QuestionLaws.text-first bytes k line .1 (ReadingLaws.reading-large x n)
+
+pub format-no-field : (bytes : List ℕ) (k : ℕ) (line : List ℕ) → NoField bytes k line → Question.answerOf bytes k line ≡ refused 18 0
+format-no-field = SaidLaws.no-field-said
+
+-- and each for nothing else: 26 where the bytes are no FORMAT, 27 where they are one that does not fit, 18 where the line passes by its fields and these, X aside, are
+-- no more than k
+pub only-malformed : (bytes : List ℕ) (k : ℕ) (line : List ℕ) → Question.answerOf bytes k line .reply .number ≡ 26 → NoFormat bytes
+only-malformed = SaidLaws.said-malformed
+
+pub only-large : (bytes : List ℕ) (k : ℕ) (line : List ℕ) → Question.answerOf bytes k line .reply .number ≡ 27 → ReadingLaws.TooLarge bytes
+only-large = SaidLaws.said-large
+
+pub only-no-field : (bytes : List ℕ) (k : ℕ) (line : List ℕ) → Question.answerOf bytes k line .reply .number ≡ 18 → NoField bytes k line
+only-no-field = SaidLaws.said-no-field
 
 -- "For every record of document 01 and every line, reading by the printed FORMAT gives the same fields or the same refusal as the built-in reader, before 9, 11 and 14
 -- are looked at": of any fields of a row, by any text that reads as them; `format_laws` Printed has the printed texts, each of which reads as its record
@@ -559,6 +579,16 @@ orders-read = PrintedLaws.orders-reads
 pub last-reads : (c n : ℕ) (line : List ℕ) → c < 8 → 1 ≤ n → n ≤ 6 → ReadsAs (lastText c n line) (taken (firstFields n (dataRow c)) line .fields)
 last-reads = PrintedLaws.last-reads
 
+-- for what is due in a file: a record by each of its prints; and every line by one FORMAT, `printedFor`, the record's or that of the list's full line cut to what it holds,
+-- whole where a 58's remainder is not blank
+pub print-reads : (d : Due) (line : List ℕ) (i : ℕ) → i < length Printed.records → printAt i .number ≡ recordDue d → recordDue d < noRecord
+    → ReadsAs (printAt i .text) (taken (rowDue d) line .fields)
+print-reads = PrintedDueLaws.print-due
+
+pub due-reads : {s : State} → Reached s → (d : Due) → s .place ≡ Typed d → mayContinue d ≡ true
+    → (line : List ℕ) → ReadsAs (printedFor d line) (taken (rowDue d) line .fields)
+due-reads = ReachedLaws.reached-reads
+
 -- the built-in reader is the judge's: in a state s where a row is due, on a line of bytes l before its LF, by a text that reads as the row's fields. Where the judge passes
 -- the line every field shows the list's item in its columns; where it refuses it, but for 9, 11 and 14, the question has the same number and column; where a field
 -- is shown it passes the line, or refuses it with 9, 11 or 14
@@ -571,3 +601,19 @@ module _ {s : State} {l text : List ℕ} (a : Asked s l text) where
 
   pub field-shown : (k : ℕ) → Question.answerOf text k (columns true l) .reply .number ≡ 0 → (f : Refusal) → lineStep s l ≡ Outcome.Refused f → Ruled (f .number)
   field-shown = QuestionJudgeLaws.shown-passes a
+
+-- so of every line of a file where a row is due, by its printed FORMAT
+module _ {s : State} {l : List ℕ} (a : DueLine s l) where
+  pub due-asked : Asked s l (printedText a)
+  due-asked = ReachedLaws.due-asked a
+
+  pub due-passes : (t : State) → lineStep s l ≡ Next t → ItemsShown due-asked
+  due-passes = judge-passes due-asked
+
+  pub due-refuses : (f : Refusal) → lineStep s l ≡ Outcome.Refused f → (Ruled (f .number) → ⊥)
+      → (k : ℕ) → Question.answerOf (printedText a) k (columns true l) ≡ refusedBy (atLine 0 f)
+  due-refuses = judge-refuses due-asked
+
+  pub due-shown : (k : ℕ) → Question.answerOf (printedText a) k (columns true l) .reply .number ≡ 0
+      → (f : Refusal) → lineStep s l ≡ Outcome.Refused f → Ruled (f .number)
+  due-shown = field-shown due-asked
