@@ -13,9 +13,8 @@
  * record of the streaming calls is told apart below.) No call allocates, keeps a pointer or has state
  * of its own; calls on separate buffers may run at the same time.
  *
- * 16 KB of stack are enough for every call but uff_field, for which 128 KB are: it lays out the items of
- * a FORMAT one inside the other. Both are measured, the first by the archive's instructions for any
- * input too (tests/host/stack).
+ * 16 KB of stack are enough for every call, measured by running (tests/host/stack), uff_field on the
+ * deepest FORMATs, and for every other call also by the archive's instructions for any input.
  *
  * A call takes time in proportion to the bytes that it is given. Each question judges the whole file
  * again before it answers, uff_number and uff_value for one number too: ask for all values of a set at

@@ -1,7 +1,7 @@
 /*
- * Runs every call on a stack of 16 KB of its own, uff_field on one of 128 KB, above a page that may not be touched, and finds by
- * a pattern laid into it beforehand how much of it was used. The files given as arguments are asked, and the first one's lines 9
- * to 19 are the writer's header. Prints the most that a call used, its C caller included, and the most that uff_field did.
+ * Runs every call on a stack of 16 KB of its own, above a page that may not be touched, and finds by a pattern laid into it
+ * beforehand how much of it was used. The files given as arguments are asked, and the first one's lines 9 to 19 are the
+ * writer's header. Prints the most that a call used, its C caller included, and the most that uff_field did on the deepest FORMATs.
  */
 #define _GNU_SOURCE
 #include <stdio.h>
@@ -14,7 +14,6 @@
 #include "uff.h"
 
 #define STACK (16 * 1024)
-#define FIELD_STACK (128 * 1024)
 #define PATTERN 0xa5
 
 static uint8_t file[1 << 16], plain[1 << 16];
@@ -112,7 +111,7 @@ static size_t field_used(uint8_t *stack)
     for (size_t k = 0; k < sizeof deep / sizeof *deep; k++) {
         size_t end = strlen(deep[k].end), now;
         memcpy(repeat(deep[k].text) + sizeof format - end, deep[k].end, end);
-        now = used(stack, FIELD_STACK, field);
+        now = used(stack, STACK, field);
         most = now > most ? now : most;
         if (UFF_NUMBER(reply) != deep[k].number) {
             fprintf(stderr, "FORMAT %zu: refused %u\n", k, UFF_NUMBER(reply));
@@ -125,7 +124,7 @@ static size_t field_used(uint8_t *stack)
 int main(int count, char **words)
 {
     size_t page = (size_t)sysconf(_SC_PAGESIZE), most = 0;
-    uint8_t *below = mmap(NULL, page + FIELD_STACK, PROT_READ | PROT_WRITE, MAP_PRIVATE | MAP_ANONYMOUS, -1, 0);
+    uint8_t *below = mmap(NULL, page + STACK, PROT_READ | PROT_WRITE, MAP_PRIVATE | MAP_ANONYMOUS, -1, 0);
     if (below == MAP_FAILED || mprotect(below, page, PROT_NONE) != 0)
         fail("no stack");
     for (int i = 1; i < count; i++) {
