@@ -15,7 +15,7 @@ use Rattle.laws.specs.TableLaws.{agree-below}
 use Rattle.format.specs.Reading.{readingOf}
 use Rattle.format.specs.Computed.{computed-reading}
 use Rattle.layout.specs.LayoutLaws.{layoutOf-past}
-use Rattle.record_table.specs.Row.{firstFields}
+use Rattle.record_table.specs.Row.{Field, Row, firstFields}
 use Rattle.record_table.specs.Records.{recordOf, dataRow, noRecord, traceEntries, orderLists}
 use Rattle.record_table.specs.Records as Records
 use Rattle.record_table.specs.TypedSets.{kind58, kind82, kind1815}
@@ -80,31 +80,41 @@ module _ (d : Due) (line : List ℕ) where
   unfolding rowDue
   due-record h = rw (lt-ltb (recordDue d) noRecord h, taken-record (recordDue d) line) (record-text (recordDue d) h)
 
-  due-list : 1 ≤ d .left → 0 < length (listRow d .fields) → ReadsAs (listText d line) (taken (firstFields (d .left) (listRow d)) line .fields)
-  due-list n w = by (eqb (d .kind) kind58) (eqb (d .kind) kind82) refl refl
-    where
-      lists : (eqb (d .kind) kind58 ≡ false) → (eqb (d .kind) kind82 ≡ false) → (t : Bool) → eqb (d .kind) kind1815 ≡ t
-          → ReadsAs (ordersText (min (d .left) 5)) (taken (firstFields (d .left) (listRow d)) line .fields)
-      lists a b true e = rw (listRow-1815 d (eqb-true (d .kind) kind1815 e)) (orders-due (d .left) line n)
-      lists a b false e =
-          let none = listRow-other d (eqb-false (d .kind) kind58 a) (eqb-false (d .kind) kind82 b) (eqb-false (d .kind) kind1815 e) in
-          absurd (no-record (rw none at w))
+  -- what is taken of a line of numbers, by its full line
+  abbrev listed : Row → List Field
+  listed full = taken (firstFields (d .left) full) line .fields
 
-      by : (s t : Bool) → eqb (d .kind) kind58 ≡ s → eqb (d .kind) kind82 ≡ t
-          → ReadsAs (pick s (lastText (d .case) (min (d .left) 6) line) (pick t (entriesText (min (d .left) 8)) (ordersText (min (d .left) 5))))
-          (taken (firstFields (d .left) (listRow d)) line .fields)
-      by true t a b =
-          let row = listRow-58 d (eqb-true (d .kind) kind58 a) in
-          rw row (data-due (d .case) (d .left) line (data-case (d .case) (rw row at w)) n)
-      by false true a b = rw (listRow-82 d (eqb-true (d .kind) kind82 b)) (entries-due (d .left) line n)
-      by false false a b = lists a b (eqb (d .kind) kind1815) refl
+  list-58 : 1 ≤ d .left → 0 < length (listRow d .fields) → eqb (d .kind) kind58 ≡ true → ReadsAs (listText d line) (listed (listRow d))
+  list-58 n w a =
+      let row = listRow-58 d (eqb-true (d .kind) kind58 a) in
+      rw (a, row) (data-due (d .case) (d .left) line (data-case (d .case) (rw row at w)) n)
+
+  list-82 : 1 ≤ d .left → eqb (d .kind) kind58 ≡ false → eqb (d .kind) kind82 ≡ true → ReadsAs (listText d line) (listed (listRow d))
+  list-82 n a b = rw (a, b, listRow-82 d (eqb-true (d .kind) kind82 b)) (entries-due (d .left) line n)
+
+  list-1815 : 1 ≤ d .left → eqb (d .kind) kind58 ≡ false → eqb (d .kind) kind82 ≡ false → eqb (d .kind) kind1815 ≡ true → ReadsAs (listText d line) (listed (listRow d))
+  list-1815 n a b c = rw (a, b, listRow-1815 d (eqb-true (d .kind) kind1815 c)) (orders-due (d .left) line n)
+
+  -- no other set has numbers after its records
+  list-none : 0 < length (listRow d .fields) → eqb (d .kind) kind58 ≡ false → eqb (d .kind) kind82 ≡ false → eqb (d .kind) kind1815 ≡ false → ⊥
+  list-none w a b c =
+      let none = listRow-other d (eqb-false (d .kind) kind58 a) (eqb-false (d .kind) kind82 b) (eqb-false (d .kind) kind1815 c) in
+      no-record (rw none at w)
+
+  due-list : 1 ≤ d .left → 0 < length (listRow d .fields) → ReadsAs (listText d line) (listed (listRow d))
+  due-list n w = by (eqb (d .kind) kind58) (eqb (d .kind) kind82) (eqb (d .kind) kind1815) refl refl refl
+    where
+      by : (s t u : Bool) → eqb (d .kind) kind58 ≡ s → eqb (d .kind) kind82 ≡ t → eqb (d .kind) kind1815 ≡ u → ReadsAs (listText d line) (listed (listRow d))
+      by true t u a b c = list-58 n w a
+      by false true u a b c = list-82 n a b
+      by false false true a b c = list-1815 n a b c
+      by false false false a b c = absurd (list-none w a b c)
 
   some-left : noRecord ≤ recordDue d → mayContinue d ≡ true → 0 < d .left
   unfolding mayContinue
   some-left h m = ltb-true 0 (d .left) (rw (le-ltb (recordDue d) noRecord h) at m)
 
-  due-listed : noRecord ≤ recordDue d → ReadsAs (listText d line) (taken (firstFields (d .left) (listRow d)) line .fields)
-      → ReadsAs (listText d line) (taken (rowDue d) line .fields)
+  due-listed : noRecord ≤ recordDue d → ReadsAs (listText d line) (listed (listRow d)) → ReadsAs (listText d line) (taken (rowDue d) line .fields)
   unfolding rowDue
   due-listed h r = rw (le-ltb (recordDue d) noRecord h) r
 
