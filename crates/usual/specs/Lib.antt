@@ -1,6 +1,2 @@
-pub mod Cells
-pub mod CellsLaws
-pub mod FieldLaws
-pub mod RowLaws
 pub mod Taken
 pub mod TakenLaws

@@ -21,7 +21,7 @@ use Rattle.walk.specs.Step.{state, stepOf}
 use Rattle.usual.specs.declared.Shape.{Shape}
 use Rattle.usual.specs.declared.Run.{Run}
 use Rattle.usual.specs.declared.Ahead.{Ahead}
-use Rattle.usual.specs.Cells.{Tables, Laid, tableCells}
+use Rattle.usual_columns.specs.Cells.{Tables, Laid, tableCells}
 
 -- the columns of the line that begins at a byte
 abbrev pub columnsAt : List ℕ → ℕ → List ℕ

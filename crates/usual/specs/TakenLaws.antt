@@ -41,10 +41,10 @@ use Rattle.walk.specs.Step.{state, typedStep, stepOf}
 use Rattle.usual.specs.declared.Shape.{Shape}
 use Rattle.usual.specs.declared.Run.{Run}
 use Rattle.usual.specs.declared.Ahead.{Ahead}
-use Rattle.usual.specs.Cells.{blank, any, rowCells, lineCells, tableCells, Wide, Fits, Tables, tables, Laid, Grown, Passed}
-use Rattle.usual.specs.CellsLaws.{grown-on, fits-split, fits-length, fits-passed}
-use Rattle.usual.specs.FieldLaws.{blanks-allowed, blanks-fit}
-use Rattle.usual.specs.RowLaws.{wide-at, row-length, row-allowed, row-passes, row-delimiter}
+use Rattle.usual_columns.specs.Cells.{blank, any, rowCells, lineCells, tableCells, Wide, Fits, Tables, tables, Passed}
+use Rattle.usual_columns.specs.CellsLaws.{fits-split, fits-length, fits-passed}
+use Rattle.usual_columns.specs.FieldLaws.{blanks-allowed, blanks-fit}
+use Rattle.usual_columns.specs.RowLaws.{wide-at, row-length, row-allowed, row-passes, row-delimiter}
 use Rattle.usual.specs.Taken.{LineTaken, Taken, dataState, Ends, Shaped, Ready, run, Ran, ahead, NoneAhead, RanAhead}
 
 -- the widths of every case are such that a field may have them
@@ -157,24 +157,6 @@ ready-size h t ready =
     ⊎-elim (λ (e : (h .mark ≡ 10) × (h .size ≡ h .columns + 1)). (omega arith, omega (arith, ready .shaped .columns-within)))
     (λ (e : (h .mark ≡ 13) × (h .size ≡ h .columns + 2)). (omega arith, omega (arith, ready .shaped .columns-within)))
     (ready .shaped .ends)
-
--- the tables of a shape, from those of its row, blanks and any bytes
-pub table-laid : (b n past : ℕ) (ws : List ℕ) (t u v : Tables) → Wide ws → total ws ≤ n → n ≤ 80 → past ≡ total ws
-    → Grown 0 (rowCells b ws) (tables (replicate 80 48) (replicate 80 9) (replicate 80 48)) t → Grown past (replicate (n - past) blank) t u → Grown n (replicate (80 - n) any) u v
-    → Laid (tableCells b ws n) v
-unfolding tableCells lineCells
-table-laid b n past ws t u v h m few e g i j =
-    let t₀ = tables (replicate 80 48) (replicate 80 9) (replicate 80 48) in
-    let none : Laid [] t₀ = record {
-      los-are = record { few = omega arith; is = refl };
-      spans-are = record { few = omega arith; is = refl };
-      alts-are = record { few = omega arith; is = refl };
-    } in
-    let i′ : Grown (total ws) (replicate (n - total ws) blank) t u = rw e at i in
-    let line = grown-on 0 (rowCells b ws) (replicate (n - total ws) blank) t₀ t u (total ws) (rw (row-length b h) (omega arith)) g i′ in
-    let whole : n ≡ 0 + length (rowCells b ws ++ replicate (n - total ws) blank)
-    = rw (length-append (rowCells b ws) (replicate (n - total ws) blank), row-length b h, length-replicate (n - total ws) blank) (omega arith) in
-    grown-on 0 (rowCells b ws ++ replicate (n - total ws) blank) (replicate (80 - n) any) t₀ u v n whole line j [] refl none
 
 -- the widths that the code has of a case
 pub six-widths : (c : ℕ) (l : List ℕ) → c < 8 → l ≡ tabulate (cellOf c) 0 6 → take (fieldsOf c) l ≡ layoutOf c .widths

@@ -4,7 +4,7 @@ use Prim.Native.Nat.{ℕ, _+_, _-_, _≤_, _<_}
 use lib.ListN.{length}
 use Rattle.usual.specs.TakenLaws.{ready-size, Parts, parts-of, run-next}
 use Rattle.usual.specs.Taken.{Taken, dataState, Ready}
-use Rattle.usual.specs.Cells.{Tables, tables}
+use Rattle.usual_columns.specs.Cells.{Tables, tables}
 use Rattle.usual.specs.declared.Shape.{Shape}
 use borrow.Author.Needs.{needs}
 use Rattle.usual.proofs.passed_lines.Statement.{statement}

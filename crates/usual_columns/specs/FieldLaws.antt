@@ -16,8 +16,8 @@ use Rattle.real.specs.Real.{realOf, numberOf}
 use Rattle.real.specs.RealLaws.{realOf-complete}
 use Rattle.real.specs.declared.Number.{Number}
 use Rattle.real.specs.declared.Real.the-variants.{Value}
-use Rattle.usual.specs.Cells.{Cell, Takes, blank, minus, digit, point, lettered, sign, fieldCells, Fits}
-use Rattle.usual.specs.CellsLaws.{fits-split, fits-length}
+use Rattle.usual_columns.specs.Cells.{Cell, Takes, blank, minus, digit, point, lettered, sign, fieldCells, Fits}
+use Rattle.usual_columns.specs.CellsLaws.{fits-split, fits-length}
 
 -- a text of three columns at least, the third of which is no blank
 pub data Third : List ℕ → Type 0 where

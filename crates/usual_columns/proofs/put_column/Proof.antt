@@ -1,8 +1,8 @@
--- `usual::put_column` meets its contract.
-use Rattle.usual.specs.CellsLaws.{grown-set}
+-- `usual_columns::put_column` meets its contract.
+use Rattle.usual_columns.specs.CellsLaws.{grown-set}
 use borrow.Author.Needs.{needs}
-use Rattle.usual.proofs.put_column.Statement.{statement}
-use Rattle.usual.proofs.put_column.Tie as tie
+use Rattle.usual_columns.proofs.put_column.Statement.{statement}
+use Rattle.usual_columns.proofs.put_column.Tie as tie
 
 element-write-lo : tie.Need-element-write-lo
 element-write-lo c = search needs

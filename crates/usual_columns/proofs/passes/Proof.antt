@@ -1,13 +1,13 @@
--- `usual::passes` meets its contract.
+-- `usual_columns::passes` meets its contract.
 use mathlib.Core.List.{List}
 use mathlib.Core.Bool.{Bool, true}
 use mathlib.Core.Path.{_≡_}
 use Prim.Native.Nat.{ℕ, _-_, _≤_}
-use Rattle.usual.specs.CellsLaws.{passed-none, passed-more, passed-all}
-use Rattle.usual.specs.Cells.{Tables, tables, Passed}
+use Rattle.usual_columns.specs.CellsLaws.{passed-none, passed-more, passed-all}
+use Rattle.usual_columns.specs.Cells.{Tables, tables, Passed}
 use borrow.Author.Needs.{needs}
-use Rattle.usual.proofs.passes.Statement.{statement}
-use Rattle.usual.proofs.passes.Tie as tie
+use Rattle.usual_columns.proofs.passes.Statement.{statement}
+use Rattle.usual_columns.proofs.passes.Tie as tie
 
 -- where all bytes were taken so far, the first i are
 record Going (s : List ℕ) (at : ℕ) (t : Tables) (ok : Bool) (i : ℕ) : Type 0 where

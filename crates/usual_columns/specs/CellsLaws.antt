@@ -11,7 +11,7 @@ use lib.Dec.{leb, eqb}
 use lib.ListN.{length, getD, take, drop, set, replicate, length-append, length-map, length-replicate, length-drop, List·getD-map, List·getD-append, replicate-append-replicate}
 use lib.Seq.{set-append-seam, getD-take, getD-drop, length-take-le}
 use Rattle.laws.specs.ChoiceLaws.{and-left, and-right}
-use Rattle.usual.specs.Cells.{Cell, cell, digit, Takes, Fits, none, more, Tables, tables, Begins, Laid, Grown, Passed}
+use Rattle.usual_columns.specs.Cells.{Cell, cell, digit, Takes, Fits, none, more, Tables, tables, Begins, Laid, Grown, Passed}
 
 map-append : (f : Cell → ℕ) (a b : List Cell) → map f (a ++ b) ≡ map f a ++ map f b
 map-append f [] b = refl

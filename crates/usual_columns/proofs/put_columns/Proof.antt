@@ -1,11 +1,11 @@
--- `usual::put_columns` meets its contract.
+-- `usual_columns::put_columns` meets its contract.
 use Prim.Native.Nat.{ℕ, _-_, _≤_}
 use lib.ListN.{replicate}
-use Rattle.usual.specs.CellsLaws.{grown-begin, grown-next, grown-all}
-use Rattle.usual.specs.Cells.{Cell, cell, Tables, tables, Grown}
+use Rattle.usual_columns.specs.CellsLaws.{grown-begin, grown-next, grown-all}
+use Rattle.usual_columns.specs.Cells.{Cell, cell, Tables, tables, Grown}
 use borrow.Author.Needs.{needs}
-use Rattle.usual.proofs.put_columns.Statement.{statement}
-use Rattle.usual.proofs.put_columns.Tie as tie
+use Rattle.usual_columns.proofs.put_columns.Statement.{statement}
+use Rattle.usual_columns.proofs.put_columns.Tie as tie
 
 -- the columns before i take it
 record Going (t₀ : Tables) (at past : ℕ) (c : Cell) (t : Tables) (i : ℕ) : Type 0 where

@@ -1,8 +1,8 @@
--- `usual::put_start` meets its contract.
-use Rattle.usual.specs.CellsLaws.{grown-start}
+-- `usual_columns::put_start` meets its contract.
+use Rattle.usual_columns.specs.CellsLaws.{grown-start}
 use borrow.Author.Needs.{needs}
-use Rattle.usual.proofs.put_start.Statement.{statement}
-use Rattle.usual.proofs.put_start.Tie as tie
+use Rattle.usual_columns.proofs.put_start.Statement.{statement}
+use Rattle.usual_columns.proofs.put_start.Tie as tie
 
 put-column-requires : tie.Need-put-column-requires
 put-column-requires c κs = search needs

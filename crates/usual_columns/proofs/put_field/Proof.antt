@@ -1,9 +1,9 @@
--- `usual::put_field` meets its contract.
+-- `usual_columns::put_field` meets its contract.
 use mathlib.Core.Path.{refl}
-use Rattle.usual.specs.RowLaws.{field-grown}
+use Rattle.usual_columns.specs.RowLaws.{field-grown}
 use borrow.Author.Needs.{needs}
-use Rattle.usual.proofs.put_field.Statement.{statement}
-use Rattle.usual.proofs.put_field.Tie as tie
+use Rattle.usual_columns.proofs.put_field.Statement.{statement}
+use Rattle.usual_columns.proofs.put_field.Tie as tie
 
 add-exponent : tie.Need-add-exponent
 add-exponent c = search needs

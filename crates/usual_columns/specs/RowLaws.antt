@@ -22,9 +22,9 @@ use Rattle.field.specs.Field.{fieldNumber}
 use Rattle.record_table.specs.Records.{E}
 use Rattle.record.specs.Check.{fieldsFault, stray, fieldsRefusal}
 use Rattle.record.specs.CheckLaws.{firstByte-blank, fieldsRefusal-passed}
-use Rattle.usual.specs.Cells.{Cell, digit, lettered, sign, startCells, exponentCells, fieldCells, rowCells, Wide, Fits, Tables, Grown}
-use Rattle.usual.specs.CellsLaws.{grown-none, grown-on, grown-digits, fits-split, fits-length}
-use Rattle.usual.specs.FieldLaws.{Third, third, field-holds, field-allowed, field-third}
+use Rattle.usual_columns.specs.Cells.{Cell, blank, digit, lettered, sign, any, startCells, exponentCells, fieldCells, rowCells, lineCells, tableCells, Wide, Fits, Tables, tables, Laid, Grown}
+use Rattle.usual_columns.specs.CellsLaws.{grown-none, grown-on, grown-digits, fits-split, fits-length}
+use Rattle.usual_columns.specs.FieldLaws.{Third, third, field-holds, field-allowed, field-third}
 
 -- a field has as many columns as it is wide
 pub field-length : (b w : ℕ) → 9 ≤ w → length (fieldCells b w) ≡ w
@@ -146,3 +146,21 @@ unfolding rowCells
 row-delimiter b w ws line bl e f =
     let s = fits-split (fieldCells b w) (rowCells b ws) f in
     ap isDelimiter (e ∙ ap (λ (m : List ℕ). m ++ bl) (s .is)) ∙ third-delimiter (third-append bl (third-append (s .second) (field-third b w (s .fits-first))))
+
+-- the tables of a line, from those of its row, blanks and any bytes
+pub table-laid : (b n past : ℕ) (ws : List ℕ) (t u v : Tables) → Wide ws → total ws ≤ n → n ≤ 80 → past ≡ total ws
+    → Grown 0 (rowCells b ws) (tables (replicate 80 48) (replicate 80 9) (replicate 80 48)) t → Grown past (replicate (n - past) blank) t u → Grown n (replicate (80 - n) any) u v
+    → Laid (tableCells b ws n) v
+unfolding tableCells lineCells
+table-laid b n past ws t u v h m few e g i j =
+    let t₀ = tables (replicate 80 48) (replicate 80 9) (replicate 80 48) in
+    let none : Laid [] t₀ = record {
+      los-are = record { few = omega arith; is = refl };
+      spans-are = record { few = omega arith; is = refl };
+      alts-are = record { few = omega arith; is = refl };
+    } in
+    let i′ : Grown (total ws) (replicate (n - total ws) blank) t u = rw e at i in
+    let line = grown-on 0 (rowCells b ws) (replicate (n - total ws) blank) t₀ t u (total ws) (rw (row-length b h) (omega arith)) g i′ in
+    let whole : n ≡ 0 + length (rowCells b ws ++ replicate (n - total ws) blank)
+    = rw (length-append (rowCells b ws) (replicate (n - total ws) blank), row-length b h, length-replicate (n - total ws) blank) (omega arith) in
+    grown-on 0 (rowCells b ws ++ replicate (n - total ws) blank) (replicate (80 - n) any) t₀ u v n whole line j [] refl none

@@ -1,4 +1,4 @@
--- `usual::put_row` meets its contract.
+-- `usual_columns::put_row` meets its contract.
 use mathlib.Core.List.{List}
 use mathlib.Core.Path.{_≡_, refl, _∙_}
 use Prim.Native.Nat.{ℕ, _-_, _≤_}
@@ -6,11 +6,11 @@ use native.Mathlib.Omega.{arith}
 use lib.ListN.{length, take}
 use Rattle.layout.specs.Columns.{fieldStart}
 use Rattle.layout.specs.ColumnsLaws.{fieldStart-total}
-use Rattle.usual.specs.RowLaws.{row-grown-none, row-grown-next, row-grown-all, row-room, row-on}
-use Rattle.usual.specs.Cells.{Tables, tables, Grown, rowCells}
+use Rattle.usual_columns.specs.RowLaws.{row-grown-none, row-grown-next, row-grown-all, row-room, row-on}
+use Rattle.usual_columns.specs.Cells.{Tables, tables, Grown, rowCells}
 use borrow.Author.Needs.{needs}
-use Rattle.usual.proofs.put_row.Statement.{statement}
-use Rattle.usual.proofs.put_row.Tie as tie
+use Rattle.usual_columns.proofs.put_row.Statement.{statement}
+use Rattle.usual_columns.proofs.put_row.Tie as tie
 
 -- the fields before field k stand
 record Going (t₀ : Tables) (widths : List ℕ) (letter : ℕ) (t : Tables) (at k : ℕ) : Type 0 where

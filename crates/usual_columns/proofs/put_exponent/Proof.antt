@@ -1,8 +1,8 @@
--- `usual::put_exponent` meets its contract.
-use Rattle.usual.specs.CellsLaws.{grown-exponent}
+-- `usual_columns::put_exponent` meets its contract.
+use Rattle.usual_columns.specs.CellsLaws.{grown-exponent}
 use borrow.Author.Needs.{needs}
-use Rattle.usual.proofs.put_exponent.Statement.{statement}
-use Rattle.usual.proofs.put_exponent.Tie as tie
+use Rattle.usual_columns.proofs.put_exponent.Statement.{statement}
+use Rattle.usual_columns.proofs.put_exponent.Tie as tie
 
 put-column-requires : tie.Need-put-column-requires
 put-column-requires c κs = search needs

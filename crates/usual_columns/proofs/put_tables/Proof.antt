@@ -1,8 +1,8 @@
--- `usual::put_tables` meets its contract.
-use Rattle.usual.specs.TakenLaws.{table-laid}
+-- `usual_columns::put_tables` meets its contract.
+use Rattle.usual_columns.specs.RowLaws.{table-laid}
 use borrow.Author.Needs.{needs}
-use Rattle.usual.proofs.put_tables.Statement.{statement}
-use Rattle.usual.proofs.put_tables.Tie as tie
+use Rattle.usual_columns.proofs.put_tables.Statement.{statement}
+use Rattle.usual_columns.proofs.put_tables.Tie as tie
 
 put-row-requires : tie.Need-put-row-requires
 put-row-requires c κs = search needs

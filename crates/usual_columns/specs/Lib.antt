@@ -1,0 +1,4 @@
+pub mod Cells
+pub mod CellsLaws
+pub mod FieldLaws
+pub mod RowLaws

@@ -1,0 +1,142 @@
+// The columns of lines in their usual spelling: tables of what each column takes, and the test of a line against them.
+ghost use mathlib.Core.Path.{_≡_};
+ghost use mathlib.Core.Bool.{true};
+ghost use mathlib.Core.List.{[], _∷_};
+ghost use Prim.Native.Nat.{_+_, _-_, _≤_, _<_};
+ghost use lib.ListN.{length, replicate};
+ghost use Rattle.layout.specs.Columns.{total};
+ghost use Rattle.usual_columns.specs.Cells.{cell, tables, Grown, Laid, Passed, startCells, exponentCells, fieldCells, rowCells, tableCells, Wide};
+use laws::index;
+use std::num::wrapping_sub_u8;
+
+// Puts what one column takes: the bytes from `least` to as far as `reach` past it, and `other`.
+fn put_column(
+    lo: &mut [u8; 80],
+    span: &mut [u8; 80],
+    alt: &mut [u8; 80],
+    at: usize,
+    least: u8,
+    reach: u8,
+    other: u8,
+)
+    requires { ⌜ at < 80 ⌝ }
+    ensures { λ _. ⌜ Grown at (cell least reach other ∷ []) (tables (now (lo .entry)) (now (span .entry)) (now (alt .entry))) (tables (now (lo .exit)) (now (span .exit)) (now (alt .exit))) ⌝ }
+{
+    lo[at] = least;
+    span[at] = reach;
+    alt[at] = other;
+}
+
+// Puts the same into the columns from `at` to before `past`.
+fn put_columns(
+    lo: &mut [u8; 80],
+    span: &mut [u8; 80],
+    alt: &mut [u8; 80],
+    at: usize,
+    past: usize,
+    least: u8,
+    reach: u8,
+    other: u8,
+)
+    requires { ⌜ (at ≤ past) × (past ≤ 80) ⌝ }
+    ensures { λ _. ⌜ Grown at (replicate (past - at) (cell least reach other)) (tables (now (lo .entry)) (now (span .entry)) (now (alt .entry))) (tables (now (lo .exit)) (now (span .exit)) (now (alt .exit))) ⌝ }
+{
+    let mut i = at;
+    while i < past {
+        put_column(lo, span, alt, i, least, reach, other);
+        i += 1;
+    }
+}
+
+// Puts a field's first four columns over digits: a blank, a blank or a minus, a digit, the point.
+fn put_start(lo: &mut [u8; 80], span: &mut [u8; 80], alt: &mut [u8; 80], at: usize)
+    requires { ⌜ at + 4 ≤ 80 ⌝ }
+    ensures { λ _. ⌜ Grown at startCells (tables (now (lo .entry)) (now (span .entry)) (now (alt .entry))) (tables (now (lo .exit)) (now (span .exit)) (now (alt .exit))) ⌝ }
+{
+    put_column(lo, span, alt, at, 32, 0, 32);
+    put_column(lo, span, alt, at + 1, 32, 0, 45);
+    put_column(lo, span, alt, at + 3, 46, 0, 46);
+}
+
+// Puts a field's last four columns over digits: the letter, a sign, two digits.
+fn put_exponent(lo: &mut [u8; 80], span: &mut [u8; 80], alt: &mut [u8; 80], at: usize, letter: u8)
+    requires { ⌜ at + 4 ≤ 80 ⌝ }
+    ensures { λ _. ⌜ Grown at (exponentCells letter) (tables (now (lo .entry)) (now (span .entry)) (now (alt .entry))) (tables (now (lo .exit)) (now (span .exit)) (now (alt .exit))) ⌝ }
+{
+    put_column(lo, span, alt, at, letter, 0, letter);
+    put_column(lo, span, alt, at + 1, 43, 0, 45);
+}
+
+// Puts a field of the usual spelling over digits.
+fn put_field(
+    lo: &mut [u8; 80],
+    span: &mut [u8; 80],
+    alt: &mut [u8; 80],
+    at: usize,
+    width: usize,
+    letter: u8,
+)
+    requires { ⌜ (at + width ≤ 80) × (9 ≤ width) ⌝ }
+    ensures { λ _. ⌜ Grown at (fieldCells letter width) (tables (now (lo .entry)) (now (span .entry)) (now (alt .entry))) (tables (now (lo .exit)) (now (span .exit)) (now (alt .exit))) ⌝ }
+{
+    let exponent = at + width - 4;
+    put_start(lo, span, alt, at);
+    put_exponent(lo, span, alt, exponent, letter);
+}
+
+// Puts the fields of a row of these widths over digits; answers the column past them.
+fn put_row(
+    lo: &mut [u8; 80],
+    span: &mut [u8; 80],
+    alt: &mut [u8; 80],
+    widths: &[u8],
+    letter: u8,
+) -> usize
+    requires { ⌜ Wide (now widths) × (total (now widths) ≤ 80) ⌝ }
+    ensures { λ r. ⌜ (r ≡ total (now (widths .entry))) × Grown 0 (rowCells letter (now (widths .entry))) (tables (now (lo .entry)) (now (span .entry)) (now (alt .entry))) (tables (now (lo .exit)) (now (span .exit)) (now (alt .exit))) ⌝ }
+{
+    let mut at = 0;
+    let mut k = 0;
+    while k < widths.len() {
+        let width = index(widths[k]);
+        put_field(lo, span, alt, at, width, letter);
+        at += width;
+        k += 1;
+    }
+    at
+}
+
+// Puts the tables of a line of such a row: its fields, blanks up to column `columns`, and any byte past it.
+pub fn put_tables(
+    lo: &mut [u8; 80],
+    span: &mut [u8; 80],
+    alt: &mut [u8; 80],
+    widths: &[u8],
+    letter: u8,
+    columns: usize,
+)
+    requires { ⌜ Wide (now widths) × (total (now widths) ≤ columns) × (columns ≤ 80) ⌝ }
+    ensures { λ _. ⌜ Laid (tableCells letter (now (widths .entry)) columns) (tables (now (lo .exit)) (now (span .exit)) (now (alt .exit))) ⌝ }
+{
+    *lo = [48u8; 80];
+    *span = [9u8; 80];
+    *alt = [48u8; 80];
+    let past = put_row(lo, span, alt, widths, letter);
+    put_columns(lo, span, alt, past, columns, 32, 0, 32);
+    put_columns(lo, span, alt, columns, 80, 0, 255, 0);
+}
+
+// Whether each of the 80 bytes from `at` on is one that its column takes.
+pub fn passes(s: &[u8], at: usize, lo: &[u8; 80], span: &[u8; 80], alt: &[u8; 80]) -> bool
+    requires { ⌜ at + 80 ≤ length (now s) ⌝ }
+    ensures { λ r. ⌜ (r ≡ true → Passed (tables (now (lo .entry)) (now (span .entry)) (now (alt .entry))) (now (s .entry)) at 80) ⌝ }
+{
+    let mut ok = true;
+    let mut i = 0;
+    while i < 80 {
+        let b = s[at + i];
+        ok = ok & ((wrapping_sub_u8(b, lo[i]) <= span[i]) | (b == alt[i]));
+        i += 1;
+    }
+    ok
+}
