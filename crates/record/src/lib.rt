@@ -180,7 +180,7 @@ fn check_factors(line: &[u8; 80]) -> Refusal
 }
 
 // The refusal of a record's fields together; only 58's line 7 and 164's factors have one.
-fn check_condition(line: &[u8; 80], row: usize) -> Refusal
+pub fn check_condition(line: &[u8; 80], row: usize) -> Refusal
     ensures { λ r. ⌜ r ≡ conditionFault (recordOf row) (now (line .entry)) ⌝ }
 {
     if row == DATA_FORM {

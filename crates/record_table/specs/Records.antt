@@ -97,9 +97,18 @@ records =
     ∷ plain (E 15 ∷ E 15 ∷ E 15 ∷ E 15 ∷ E 15 ∷ [])
     ∷ []
 
--- 58's line 7, 82's entries, 164's factors and 1815's lists, by number
+-- a text that may not be blank, 58's lines 6, 7 and 8 to 11, 82's entries, 164's factors and 1815's lists, by number
+abbrev pub identificationForm : ℕ
+identificationForm = 1
+
+abbrev pub functionForm : ℕ
+functionForm = 2
+
 abbrev pub dataForm : ℕ
 dataForm = 3
+
+abbrev pub axisForm : ℕ
+axisForm = 4
 
 abbrev pub traceEntries : ℕ
 traceEntries = 6

@@ -38,8 +38,15 @@ const T: u8 = codes::IDENTIFICATION;
 
 const X: u8 = codes::SKIP;
 
-// 58's line 7, 82's entries, 164's factors and 1815's lists, by number; specs/Records.antt has all records in order.
+// A text that may not be blank, 58's lines 6, 7 and 8 to 11, 82's entries, 164's factors and 1815's lists, by number; specs/Records.antt has all
+// records in order.
+pub const IDENTIFICATION_FORM: usize = 1;
+
+pub const FUNCTION_FORM: usize = 2;
+
 pub const DATA_FORM: usize = 3;
+
+pub const AXIS_FORM: usize = 4;
 
 pub const TRACE_ENTRIES: usize = 6;
 

@@ -24,7 +24,7 @@ pub data Third : List ℕ → Type 0 where
   third : (a b : ℕ) {c : ℕ} {l : List ℕ} → (c ≡ 32 → ⊥) → Third (a ∷ b ∷ c ∷ l)
 
 -- what a column of each kind takes
-takes-blank : {b : ℕ} → Takes blank b → b ≡ 32
+pub takes-blank : {b : ℕ} → Takes blank b → b ≡ 32
 takes-blank (inl (r, h, e)) = omega arith
 takes-blank (inr e) = e
 

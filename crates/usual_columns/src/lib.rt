@@ -1,12 +1,25 @@
-// The columns of lines in their usual spelling: tables of what each column takes, and the test of a line against them.
+// The columns of lines in their usual spelling: tables of what each column takes, the test of a line against them, and 58's records by it.
 ghost use mathlib.Core.Path.{_≡_};
 ghost use mathlib.Core.Bool.{true};
 ghost use mathlib.Core.List.{[], _∷_};
 ghost use Prim.Native.Nat.{_+_, _-_, _≤_, _<_};
-ghost use lib.ListN.{length, replicate};
+ghost use lib.ListN.{length, take, drop, replicate};
 ghost use Rattle.layout.specs.Columns.{total};
+ghost use Rattle.line.specs.Line.{passed};
+ghost use Rattle.codes.specs.Form.{formOf};
+ghost use Rattle.field.specs.Field.{mayBlank, fieldNumber};
+ghost use Rattle.record_table.specs.Records.{functionForm, dataForm, axisForm, recordOf};
+ghost use Rattle.record.specs.Check.{fieldsRefusal, rowRefusal};
 ghost use Rattle.usual_columns.specs.Cells.{cell, tables, Grown, Laid, Passed, startCells, exponentCells, fieldCells, rowCells, tableCells, Wide};
+use codes::COUNT;
+use codes::DATA_TYPE;
+use codes::INTEGER;
 use laws::index;
+use line::Refusal;
+use record_table::AXIS_FORM;
+use record_table::DATA_FORM;
+use record_table::FUNCTION_FORM;
+use record_table::IDENTIFICATION_FORM;
 use std::num::wrapping_sub_u8;
 
 // Puts what one column takes: the bytes from `least` to as far as `reach` past it, and `other`.
@@ -139,4 +152,84 @@ pub fn passes(s: &[u8], at: usize, lo: &[u8; 80], span: &[u8; 80], alt: &[u8; 80
         i += 1;
     }
     ok
+}
+
+// Whether the integer of this form in the ten columns from `at` on passes.
+fn asks(line: &[u8; 80], form: u8, at: usize) -> bool
+    requires { ⌜ at + 10 ≤ 80 ⌝ }
+    ensures { λ r. ⌜ (r ≡ true → fieldNumber (formOf form) (mayBlank (formOf form) (now (line .entry))) (take 10 (drop at (now (line .entry)))) ≡ 0) ⌝ }
+{
+    record::number_at(line, form, at, 10) == 0
+}
+
+// Whether 58's line 6 is in its usual spelling, and its integers of ten columns pass.
+fn is_usual_function(line: &[u8; 80]) -> bool
+    ensures { λ r. ⌜ (r ≡ true → fieldsRefusal (recordOf functionForm .fields) (now (line .entry)) ≡ passed) ⌝ }
+{
+    let lo = b"    0              0                                  0                        0";
+    let span =
+        b"\0\0\0\0\t^^^^^^^^^^\0\0\0\0\t^^^^^^^^^^\0^^^^^^^^^^^^^^^^^^^^\0\0\0\x06\0^^^^^^^^^^^^^^^^^^^^\0\0\0\x06";
+    let alt = b"   10              0                                 -0                       -0";
+    if passes(line, 0, lo, span, alt) {
+        let first = asks(line, INTEGER, 5) & asks(line, INTEGER, 20);
+        return first & (asks(line, INTEGER, 41) & asks(line, INTEGER, 66));
+    }
+    false
+}
+
+// Whether 58's line 7 is in its usual spelling, and its count passes.
+fn is_usual_data_form(line: &[u8; 80]) -> bool
+    ensures { λ r. ⌜ (r ≡ true → fieldsRefusal (recordOf dataForm .fields) (now (line .entry)) ≡ passed) ⌝ }
+{
+    let lo = b"         4                   0  0.00000E+00  0.00000E+00  0.00000E+00           ";
+    let span =
+        b"\0\0\0\0\0\0\0\0\0\x02^^^^^^^^^^\0\0\0\0\0\0\0\0\0\x01\0\0\t\0\t\t\t\t\t\0\0\t\t\0\0\t\0\t\t\t\t\t\0\0\t\t\0\0\t\0\t\t\t\t\t\0\0\t\t\0\0\0\0\0\0\0\0\0\0\0";
+    let alt = b"         2                   0 -0.00000E-00 -0.00000E-00 -0.00000E-00           ";
+    if passes(line, 0, lo, span, alt) {
+        return asks(line, COUNT, 10);
+    }
+    false
+}
+
+// Whether one of 58's lines 8 to 11 is in its usual spelling, and its data type passes.
+fn is_usual_axis(line: &[u8; 80]) -> bool
+    ensures { λ r. ⌜ (r ≡ true → fieldsRefusal (recordOf axisForm .fields) (now (line .entry)) ≡ passed) ⌝ }
+{
+    let lo = b"              0    0    0                                                       ";
+    let span =
+        b"^^^^^^^^^^\0\0\0\0\t\0\0\0\0\t\0\0\0\0\t\0^^^^^^^^^^^^^^^^^^^^\0^^^^^^^^^^^^^^^^^^^^\0\0\0\0\0\0\0\0\0\0\0\0\0";
+    let alt = b"              0    0    0                                                       ";
+    if passes(line, 0, lo, span, alt) {
+        return asks(line, DATA_TYPE, 0);
+    }
+    false
+}
+
+// Whether a line is in the usual spelling of its record, which passes it; none is that of another set than 58.
+fn is_usual(line: &[u8; 80], row: usize) -> bool
+    ensures { λ r. ⌜ (r ≡ true → fieldsRefusal (recordOf row .fields) (now (line .entry)) ≡ passed) ⌝ }
+{
+    if row == IDENTIFICATION_FORM {
+        return !text::is_blank(line);
+    }
+    if row == FUNCTION_FORM {
+        return is_usual_function(line);
+    }
+    if row == DATA_FORM {
+        return is_usual_data_form(line);
+    }
+    if row == AXIS_FORM {
+        return is_usual_axis(line);
+    }
+    false
+}
+
+// The first refusal of a line by a record, as `record::check_record` has it; lines in their usual spelling are tested by their columns.
+pub fn check_record(line: &[u8; 80], row: usize) -> Refusal
+    ensures { λ r. ⌜ r ≡ rowRefusal (recordOf row) (now (line .entry)) ⌝ }
+{
+    if is_usual(line, row) {
+        return record::check_condition(line, row);
+    }
+    record::check_record(line, row)
 }

@@ -361,7 +361,7 @@ fn check_due(d: Due, number: usize, line: &[u8; 80]) -> Refusal
     ensures { λ r. ⌜ r ≡ rowRefusal (rowDue d) (now (line .entry)) ⌝ }
 {
     if number < NO_RECORD {
-        return record::check_record(line, number);
+        return usual_columns::check_record(line, number);
     }
     if d.kind == KIND_58 {
         return record::check_data(line, d.case, d.left);
