@@ -126,7 +126,7 @@ uint64_t uff_judge(const uint8_t *file, size_t file_len);
  * file.
  *
  * Padding is what stands in the last data line of a 58 past the numbers that are counted: a number in
- * every field up to the full line. No other call shows it, and the rewriter drops it.
+ * every field up to the full line. No other call that takes a file shows it, and the rewriter drops it.
  */
 uint64_t uff_list(const uint8_t *file, size_t file_len, uint32_t *rows, size_t rows_len);
 
