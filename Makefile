@@ -87,7 +87,8 @@ install: $(INSTALLED) $(SHARED)
 	$(if $(wildcard cmd/completion/_uff),install -D -m 644 cmd/completion/_uff '$(TO)/share/zsh/site-functions/_uff')
 
 # All of it in one file, to be unpacked at any place of an x86-64 Linux: the command needs no library of that machine, and pkg-config goes
-# from where uff.pc stands. The same sources, compiler and SOURCE_DATE_EPOCH give the same bytes.
+# from where uff.pc stands. It has files and no folders, so that folders and links to folders that stand there stay as they are. The same
+# sources, compiler and SOURCE_DATE_EPOCH give the same bytes.
 SOURCE_DATE_EPOCH ?= $(shell git log -1 --format=%ct 2>/dev/null || echo 0)
 PACKED = $(notdir $(DIST:.tar.gz=))
 
@@ -99,7 +100,8 @@ target/uff-static: $(COMMAND_NEEDS)
 $(DIST): target/uff-static $(SHARED) uff.pc.in cmd/uff.1 docs/FORMAT.md samples/host.c $(wildcard cmd/completion/*)
 	rm -rf target/dist
 	umask 022 && $(MAKE) --no-print-directory install INSTALLED=target/uff-static DESTDIR=target/dist PREFIX=/$(PACKED) LIBDIR=/$(PACKED)/lib STANDS='$$$${pcfiledir}/../..'
-	tar -C target/dist --sort=name --owner=0 --group=0 --numeric-owner --mtime=@$(SOURCE_DATE_EPOCH) -I 'gzip -9n' -cf '$(CURDIR)/$@.new' $(PACKED)
+	cd target/dist && find $(PACKED) ! -type d | LC_ALL=C sort | \
+		tar --owner=0 --group=0 --numeric-owner --mtime=@$(SOURCE_DATE_EPOCH) -I 'gzip -9n' -T - -cf '$(CURDIR)/$@.new'
 	mv $@.new $@
 
 # The speeds of the calls beside plain Rust, C's strtod and, where there is gfortran, its formatted READ; with BEFORE=ARCHIVE also beside

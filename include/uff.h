@@ -2,8 +2,7 @@
  * Universal Files for C99 and C++11, or later: a judge, a lister, a reader, a writer, a rewriter, a
  * judge of files that are still arriving, and a reader of a line by a printed FORMAT. What a file must
  * look like is in docs/FORMAT.md, which is installed as share/doc/uff/FORMAT.md. Every call is proved
- * for all inputs; no call has a precondition
- * but those of C itself:
+ * for all inputs; no call has a precondition but those of C itself:
  *
  * - A slice is a pointer and a count of elements, and lies in memory that the caller may use. A null
  *   pointer with count 0 is an empty slice.
@@ -127,7 +126,7 @@ uint64_t uff_judge(const uint8_t *file, size_t file_len);
  * file.
  *
  * Padding is what stands in the last data line of a 58 past the numbers that are counted: a number in
- * every field up to the full line. No other call shows it, and the rewriter drops it.
+ * every field up to the full line. No other call that takes a file shows it, and the rewriter drops it.
  */
 uint64_t uff_list(const uint8_t *file, size_t file_len, uint32_t *rows, size_t rows_len);
 

@@ -42,7 +42,7 @@ _uff() {
     for ((i = 2; i < COMP_CWORD; i++)); do
         case $ended${COMP_WORDS[i]} in
             --) ended=x ;;
-            -t) i=$((i + 1)) ;;
+            -t | -[jvw]*t) i=$((i + 1)) ;;
             -?*) ;;
             *) names=$((names + 1)) ;;
         esac
