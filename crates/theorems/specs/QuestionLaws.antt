@@ -19,18 +19,19 @@ use Rattle.reader.specs.Reader.{Said, said, refused}
 use Rattle.format_reader.specs.Question.{Seen, answerOf}
 use Rattle.host.specs.Packed.{word, numberIn}
 use Rattle.host.specs.Answer.{seenBytes, fieldBytes, fieldAnswer, replyFor, bytesAfter}
-use Rattle.format_laws.specs.Asked.{Shows, Asked}
+use Rattle.format_laws.specs.Asked.{FieldShows, Asked}
 use Rattle.format_laws.specs.JudgeLaws.{passed-row, passed-shows}
 use Rattle.format_laws.specs.Said.{FieldSaid}
 use Rattle.format_laws.specs.SaidLaws.{question-said}
 use Rattle.theorems.specs.RowTestsLaws.{rowDue-sound}
 use Rattle.theorems.specs.KeptLaws.{answer-kept}
 
--- the items that the row due has on a line, each shown by its field
+-- the items that the row due has on a line, each shown by its field in its own columns
 pub record ItemsShown {s : State} {l text : List ℕ} (a : Asked s l text) : Type 0 where
   pub items : List Item
   pub written : Written (rowDue (a .due)) items (filled (columns true l))
-  pub shows : (k : ℕ) → k < length items → Shows (filled (columns true l)) (getD items k Item.blank) (answerOf text k (columns true l))
+  pub shows : (k : ℕ) → k < length items
+      → FieldShows (rowDue (a .due) .fields) 0 k (filled (columns true l)) (getD items k Item.blank) (answerOf text k (columns true l))
 
 pub items-shown : {s : State} {l text : List ℕ} (a : Asked s l text) (t : State) → lineStep s l ≡ Next t → ItemsShown a
 items-shown {s} {l} a t e = record {

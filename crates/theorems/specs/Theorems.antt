@@ -590,7 +590,7 @@ pub due-reads : {s : State} → Reached s → (d : Due) → s .place ≡ Typed d
 due-reads = ReachedLaws.reached-reads
 
 -- the built-in reader is the judge's: in a state s where a row is due, on a line of bytes l before its LF, by a text that reads as the row's fields. Where the judge passes
--- the line every field shows the list's item in its columns; where it refuses it, but for 9, 11 and 14, the question has the same number and column; where a field
+-- the line field k shows the list's item k in its own columns; where it refuses it, but for 9, 11 and 14, the question has the same number and column; where a field
 -- is shown it passes the line, or refuses it with 9, 11 or 14
 module _ {s : State} {l text : List ℕ} (a : Asked s l text) where
   pub judge-passes : (t : State) → lineStep s l ≡ Next t → ItemsShown a
