@@ -38,17 +38,11 @@ unfoldable pub leftBlank : List Field → List ℕ → Bool
 leftBlank [] line = false
 leftBlank (f ∷ fs) line = mayBlank (f .form) line || leftBlank fs line
 
--- 9, 11 and 14
-pub data Ruled : ℕ → Type 0 where
-  nine : Ruled 9
-  eleven : Ruled 11
-  fourteen : Ruled 14
-
--- field k, from 0, of these fields, of which the first begins at the column `at`, has the columns from `first` to before `past`: X columns "have no number"
-pub data InField : List Field → (at k first past : ℕ) → Type 0 where
-  here : {f : Field} {fs : List Field} {at : ℕ} → (f .form ≡ skip → ⊥) → InField (f ∷ fs) at 0 at (at + f .width)
-  later : {f : Field} {fs : List Field} {at k a e : ℕ} → (f .form ≡ skip → ⊥) → InField fs (at + f .width) k a e → InField (f ∷ fs) at (suc k) a e
-  skipped : {f : Field} {fs : List Field} {at k a e : ℕ} → f .form ≡ skip → InField fs (at + f .width) k a e → InField (f ∷ fs) at k a e
+-- field k, from 0, of these fields, of which the first begins at the column `at`: it is this one, and begins at `first`. X columns "have no number"
+pub data InField : List Field → (at k : ℕ) → Field → (first : ℕ) → Type 0 where
+  here : {f : Field} {fs : List Field} {at : ℕ} → (f .form ≡ skip → ⊥) → InField (f ∷ fs) at 0 f at
+  later : {f g : Field} {fs : List Field} {at k a : ℕ} → (f .form ≡ skip → ⊥) → InField fs (at + f .width) k g a → InField (f ∷ fs) at (suc k) g a
+  skipped : {f g : Field} {fs : List Field} {at k a : ℕ} → f .form ≡ skip → InField fs (at + f .width) k g a → InField (f ∷ fs) at k g a
 
 -- the item in the columns from a to before e of a line's 80, as it is shown: "a text or integer being shown as the first and past byte of its columns, a
 -- real as the reader shows it"
@@ -60,10 +54,10 @@ pub data Shows (line : List ℕ) (a e : ℕ) : Item → Said Seen → Type 0 whe
 
 -- field k shows an item in its own columns
 pub record FieldShows (fs : List Field) (at k : ℕ) (line : List ℕ) (i : Item) (s : Said Seen) : Type 0 where
+  pub field : Field
   pub first : ℕ
-  pub past : ℕ
-  pub own : InField fs at k first past
-  pub shows : Shows line first past i s
+  pub own : InField fs at k field first
+  pub shows : Shows line first (first + field .width) i s
 
 -- a line of a file, by the bytes before its LF, where a row is due in a typed set, and a text that reads as the fields of this row that are taken: the
 -- row's own ("a last line of numbers is read by the FORMAT of what it holds"), of a 58 those of the full line where the remainder is not blank. No

@@ -24,7 +24,8 @@ use Rattle.judge.specs.Judge.{atLine, lineOutcome, lineStep}
 use Rattle.reader.specs.Reader.{Said, refusedBy}
 use Rattle.format_reader.specs.Unruled.{unruledRefusal}
 use Rattle.format_reader.specs.Question.{Seen, shownFrom, lineFirst, fieldIn, fieldOf, answerOf}
-use Rattle.format_laws.specs.Asked.{Ruled, nine, eleven, fourteen, FieldShows, Asked}
+use Rattle.format_laws.specs.Asked.{FieldShows, Asked}
+use Rattle.format_laws.specs.Fault.{Ruled, nine, eleven, fourteen}
 use Rattle.format_laws.specs.SameLaws.{by-format}
 use Rattle.format_laws.specs.RuledLaws.{Tied, tied-row}
 use Rattle.format_laws.specs.ShownLaws.{row-shown}
@@ -47,7 +48,7 @@ tied-own : (n c : ℕ) (f g : Refusal) → Tied f g → Tied (orElse n c f) (orE
 tied-own zero c f g t = t
 tied-own (suc n) c f g t = inr refl
 
-first-first : (n c : ℕ) (g : Refusal) (x : Said Seen) → lineFirst (refusal n c) (lineFirst g x) ≡ lineFirst (orElse n c g) x
+pub first-first : (n c : ℕ) (g : Refusal) (x : Said Seen) → lineFirst (refusal n c) (lineFirst g x) ≡ lineFirst (orElse n c g) x
 first-first zero c g x = refl
 first-first (suc n) c g x = rw (lt-ltb 0 (suc n) (omega arith)) refl
 

@@ -1,3 +1,5 @@
+pub mod Fault
+pub mod FaultLaws
 pub mod Asked
 pub mod SameLaws
 pub mod RuledLaws

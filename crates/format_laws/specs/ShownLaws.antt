@@ -48,16 +48,16 @@ module _ (line : List ℕ) where
 
     -- skipped columns in front
     over-skipped : {i : Item} {k : ℕ} {s : Said Seen} → f .form ≡ skip → FieldShows fs (at + w) k line i s → FieldShows (f ∷ fs) at k line i s
-    over-skipped e x = record { first = x .first; past = x .past; own = skipped e (x .own); shows = x .shows }
+    over-skipped e x = record { field = x .field; first = x .first; own = skipped e (x .own); shows = x .shows }
 
     -- an item in front of others, and its answer in front of theirs
     counted : (i : Item) (is : List Item) (x : Said Seen) (s : ℕ → Said Seen) → (f .form ≡ skip → ⊥) → Shows line at (at + w) i x → AllShow fs (at + w) is s
         → AllShow (f ∷ fs) at (i ∷ is) (λ k. pick (ltb k 1) x (s (k - 1)))
-    counted i is x s n first rest zero h = record { first = at; past = at + w; own = here n; shows = first }
+    counted i is x s n first rest zero h = record { field = f; first = at; own = here n; shows = first }
     counted i is x s n first rest (suc k) h =
         let e : suc k - 1 ≡ k = omega arith in
         let r = rest k (omega arith) in
-        rw (le-ltb (suc k) 1 (omega arith), e) (record { first = r .first; past = r .past; own = later n (r .own); shows = r .shows })
+        rw (le-ltb (suc k) 1 (omega arith), e) (record { field = r .field; first = r .first; own = later n (r .own); shows = r .shows })
 
     text-shown : Shows line at (at + w) (Item.text (trimmed cols)) (said 0 1 (Question.columns at (at + w) ∷ []))
     text-shown = let t : TextIn (trimmed cols) (columnsOf at (at + w) line) = rw (past-width at w) (trimmed-sound cols) in a-text t

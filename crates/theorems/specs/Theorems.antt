@@ -59,7 +59,7 @@ use Rattle.stream_laws.specs.Streaming.{burstAnswer, joined, Bursts}
 use Rattle.stream_laws.specs.Calls.{Calls}
 use Rattle.theorems.specs.Table.{InTable, Replied, CallsInTable, BurstInTable}
 use Rattle.theorems.specs.Stands.{SetAt, At58}
-use Rattle.theorems.specs.Answers.{Answered, NoSuch, AsJudged, InTurn, Filled, FilledBy, valueSaid, allSaid, ownBytes}
+use Rattle.theorems.specs.Answers.{Answered, NoSuch, AsJudged, InTurn, Filled, FilledBy, KindBytes, valueSaid, allSaid, ownBytes}
 use Rattle.theorems.specs.Rounded.{OnceOr21}
 use Rattle.theorems.specs.Columns.{Columns, DataByte, Belongs}
 use Rattle.theorems.specs.Same.{SameAnswers}
@@ -110,10 +110,11 @@ use Rattle.reader.specs.Reader.{refusedBy}
 use Rattle.format_reader.specs.Question.{Seen}
 use Rattle.format_reader.specs.Question as Question
 use Rattle.host.specs.Answer.{seenBytes, fieldAnswer}
-use Rattle.format_laws.specs.Asked.{ReadsAs, leftBlank, Ruled, Asked}
+use Rattle.format_laws.specs.Asked.{ReadsAs, leftBlank, Asked}
+use Rattle.format_laws.specs.Fault.{Ruled}
 use Rattle.format_laws.specs.Printed.{printAt, caseAt, isAmong, entriesText, ordersText, lastText, printedFor}
 use Rattle.format_laws.specs.Printed as Printed
-use Rattle.format_laws.specs.Said.{NoFormat, NoField, FieldSaid}
+use Rattle.format_laws.specs.Said.{NoFormat, LineRefused, NoField, FieldSaid}
 use Rattle.format_laws.specs.SameLaws as FormatLaws
 use Rattle.format_laws.specs.PrintedLaws as PrintedLaws
 use Rattle.format_laws.specs.DueLaws as PrintedDueLaws
@@ -509,9 +510,20 @@ module _ (header : List ℕ) (h : 0 < headerOf header .reply .number) where
   header-twelfth = HeaderRefusedLaws.past-refused header h
 
 -- C-15. "The planner wants to type in a set's printed FORMAT and read a line's fields, by number from 0.": `Question.answerOf text k line`, field k of a line lent alone;
--- C gets it by `replyFor` (`uff_field`). What it can answer:
+-- C gets it by `replyFor` (`uff_field`). What it can answer, and why: field k in its own columns, by a FORMAT that fits, of a line with which nothing is wrong by its
+-- fields; 26, 27 and 18; and the line's own refusal, for what is wrong with it (`format_laws` Fault)
 pub question-table : (text : List ℕ) (k : ℕ) (line : List ℕ) → FieldSaid text k line (Question.answerOf text k line)
 question-table = SaidLaws.question-said
+
+-- the bytes that C is given of a field: its kind is the place, 1 a text, 2 an integer, 3 a real
+pub question-answers : (text : List ℕ) (k : ℕ) (line : List ℕ) (kind : ℕ) (x : Seen) → Question.answerOf text k line ≡ said 0 kind (x ∷ [])
+    → (out : List ℕ) → length (seenBytes x) ≤ length out
+    → FilledBy (seenBytes x) kind (replyFor (fieldAnswer (Question.answerOf text k line)) (length out)) out (bytesAfter (fieldAnswer (Question.answerOf text k line)) out)
+question-answers = QuestionLaws.field-answers
+
+pub question-bytes : (text : List ℕ) (k : ℕ) (line : List ℕ) (kind : ℕ) (x : Seen) → Question.answerOf text k line ≡ said 0 kind (x ∷ [])
+    → KindBytes kind (length (seenBytes x))
+question-bytes = QuestionLaws.field-bytes
 
 pub question-kept : (text : List ℕ) (k : ℕ) (line out : List ℕ) → 0 < numberIn (replyFor (fieldAnswer (Question.answerOf text k line)) (length out))
     → bytesAfter (fieldAnswer (Question.answerOf text k line)) out ≡ out
@@ -540,11 +552,14 @@ format-malformed bytes n k line = QuestionLaws.text-first bytes k line .0 (Readi
 pub format-large : {t : Format} {bytes : List ℕ} → Format.Text t bytes → (Format.Fits t → ⊥) → (k : ℕ) (line : List ℕ) → Question.answerOf bytes k line ≡ refused 27 0
 format-large {bytes = bytes} x n k line = QuestionLaws.text-first bytes k line .1 (ReadingLaws.reading-large x n)
 
+pub format-line : (bytes : List ℕ) (k : ℕ) (line : List ℕ) {f : Refusal} → LineRefused bytes line f → Question.answerOf bytes k line ≡ refusedBy (atLine 0 f)
+format-line bytes k line = SaidLaws.line-said bytes k line
+
 pub format-no-field : (bytes : List ℕ) (k : ℕ) (line : List ℕ) → NoField bytes k line → Question.answerOf bytes k line ≡ refused 18 0
 format-no-field = SaidLaws.no-field-said
 
--- and each for nothing else: 26 where the bytes are no FORMAT, 27 where they are one that does not fit, 18 where the line passes by its fields and these, X aside, are
--- no more than k
+-- and each for nothing else: 26 where the bytes are no FORMAT, 27 where they are one that does not fit, 18 where nothing is wrong with the line by its fields and these,
+-- X aside, are no more than k; the line's own as `question-table` has it
 pub only-malformed : (bytes : List ℕ) (k : ℕ) (line : List ℕ) → Question.answerOf bytes k line .reply .number ≡ 26 → NoFormat bytes
 only-malformed = SaidLaws.said-malformed
 
@@ -602,7 +617,7 @@ module _ {s : State} {l text : List ℕ} (a : Asked s l text) where
   pub field-shown : (k : ℕ) → Question.answerOf text k (columns true l) .reply .number ≡ 0 → (f : Refusal) → lineStep s l ≡ Outcome.Refused f → Ruled (f .number)
   field-shown = QuestionJudgeLaws.shown-passes a
 
--- so of every line of a file where a row is due, by its printed FORMAT
+-- so of every line of a file where a row is due, with no number field that may be blank left blank, by its printed FORMAT
 module _ {s : State} {l : List ℕ} (a : DueLine s l) where
   pub due-asked : Asked s l (printedText a)
   due-asked = ReachedLaws.due-asked a
