@@ -30,6 +30,9 @@ unruled a b c nine = a refl
 unruled a b c eleven = b refl
 unruled a b c fourteen = c refl
 
+same-ruled : {m n : ℕ} → m ≡ n → Ruled n → Ruled m
+same-ruled e r = rw e r
+
 module _ (line : List ℕ) where
   -- One field.
 
@@ -37,7 +40,7 @@ module _ (line : List ℕ) where
   LookedAs = Looked line (WellSpelled line) (Misspelled line)
 
   left-out : {n : ℕ} {f : Form} {cols : List ℕ} → Ruled n → FieldFault line n f cols → LookedAs f cols 0
-  left-out r w = right (λ m v. let e = FieldFaultLaws.one-way line v w in rw e r)
+  left-out r w = right (λ m v. same-ruled (FieldFaultLaws.one-way line v w) r)
 
   found : {n : ℕ} {f : Form} {cols : List ℕ} → FieldFault line n f cols → (n ≡ 9 → ⊥) → (n ≡ 11 → ⊥) → (n ≡ 14 → ⊥) → LookedAs f cols n
   found w a b c = wrong (fault-some line w) (record { fault = w; looked-at = unruled a b c })
