@@ -8,6 +8,7 @@ pub mod JudgeLaws
 pub mod Printed
 pub mod PrintedLaws
 pub mod DueLaws
+pub mod DataLaws
 pub mod Said
 pub mod SaidLaws
 pub mod Examples

@@ -26,7 +26,7 @@ use Rattle.record.specs.Check.{remainderIn}
 use Rattle.judge.specs.declared.Reply.{Reply}
 use Rattle.judge.specs.Judge.{judged, reply, replyAt, atLine}
 use Rattle.parts.specs.Parts.{Part, partsOf, datasetOf, pastOf, lineOf, lastLine}
-use Rattle.parts.specs.Function.{countOf, dataStart, firstByte, pastByte}
+use Rattle.parts.specs.Function.{partCase, countOf, dataStart, firstByte, pastByte}
 use Rattle.parts.specs.Padding.{paddingIn, paddingOf}
 use Rattle.reader.specs.Reader.{Shown, said, refused, shownOf, storedNumber, valueKind, valueOf, valueWith}
 use Rattle.values.specs.Values.{allValues, allReply, allPlaces}
@@ -122,6 +122,8 @@ use Rattle.format_laws.specs.JudgeLaws as QuestionJudgeLaws
 use Rattle.format_laws.specs.SaidLaws as SaidLaws
 use Rattle.theorems.specs.QuestionLaws.{ItemsShown}
 use Rattle.theorems.specs.QuestionLaws as QuestionLaws
+use Rattle.theorems.specs.AsReader.{dataColumns, dataField, AsReader}
+use Rattle.theorems.specs.AsReaderLaws as AsReaderLaws
 use Rattle.theorems.specs.Reached.{Reached, DueLine, printedText}
 use Rattle.theorems.specs.ReachedLaws as ReachedLaws
 
@@ -632,3 +634,9 @@ module _ {s : State} {l : List ℕ} (a : DueLine s l) where
   pub due-shown : (k : ℕ) → Question.answerOf (printedText a) k (columns true l) .reply .number ≡ 0
       → (f : Refusal) → lineStep s l ≡ Outcome.Refused f → Ruled (f .number)
   due-shown = field-shown due-asked
+
+-- "a real as the reader shows it": of a 58 of the list, stored number j by a FORMAT of its data line's fields, or of the first n of them, where it is shown
+pub data-as-reader : {sets : List Set} {bytes : List ℕ} (p : Proper sets bytes) {k : ℕ} {s : Set} {q : Part} (a : At58 sets bytes k s q) (j : ℕ) → j < storedCount s
+    → (text : List ℕ) (n : ℕ) → ReadsAs text (take n (dataRow (partCase q) .fields)) → dataField q j < n
+    → Question.answerOf text (dataField q j) (dataColumns q j) .reply .number ≡ 0 → AsReader bytes (suc k) j q (Question.answerOf text (dataField q j) (dataColumns q j))
+data-as-reader = AsReaderLaws.as-reader
