@@ -22,12 +22,16 @@ use Rattle.walk.specs.declared.Due.{Due}
 use Rattle.walk.specs.declared.Place.the-variants.{Typed}
 use Rattle.walk.specs.declared.State.{State}
 use Rattle.reader.specs.Reader.{Said, said, shown}
-use Rattle.format_reader.specs.Question.{Seen, kindOf}
+use Rattle.format_reader.specs.Question.{Seen, kindOf, rowField}
 use Rattle.format_reader.specs.Question as Question
 
 -- a row's field as a FORMAT has it: its kind and its width
 abbrev pub formatField : Field → Format.Field
 formatField f = record { kind = kindOf (f .form); width = f .width }
+
+-- a row's fields as the question has them by a FORMAT of them
+abbrev pub asFormat : List Field → List Field
+asFormat fs = map rowField (map formatField fs)
 
 -- the text reads as these fields of a row
 abbrev pub ReadsAs : List ℕ → List Field → Type 0

@@ -1,7 +1,7 @@
 -- The question refuses a line for what is wrong with it, and for nothing else.
-use mathlib.Core.Path.{_≡_, refl}
+use mathlib.Core.Path.{_≡_, refl, sym, _∙_}
 use mathlib.Core.Logic.{⊎-elim}
-use mathlib.Core.Bool.{true}
+use mathlib.Core.Bool.{true, false}
 use mathlib.Core.List.{List, [], _∷_}
 use Prim.Native.Nat.{ℕ, zero, suc, _+_, _≤_, _<_}
 use native.Mathlib.Omega.{arith}
@@ -23,6 +23,8 @@ use Rattle.record_laws.specs.FieldFaultLaws as FieldFaultLaws
 use Rattle.record_laws.specs.LookedLaws.{first-same, Looked, right, wrong, FieldsFrom, looked-first, FieldsLooked, fields-all, same-field}
 use Rattle.record_laws.specs.StrayLaws.{stray-first, stray-none}
 use Rattle.format_reader.specs.Unruled.{lookedAt, unruledNumber, unruledFault, unruledRefusal}
+use Rattle.format_laws.specs.Asked.{asFormat, leftBlank}
+use Rattle.format_laws.specs.SameLaws.{same-refusal}
 use Rattle.format_laws.specs.Fault.{Ruled, nine, eleven, fourteen, Misspelled, WellSpelled, WellSpelledBefore, SpellingFault, LentFault}
 
 unruled : {n : ℕ} → (n ≡ 9 → ⊥) → (n ≡ 11 → ⊥) → (n ≡ 14 → ⊥) → Ruled n → ⊥
@@ -163,3 +165,17 @@ module _ (fs : List Field) (lent : List ℕ) where
 
   pub lent-clear : lentRefusal .number ≡ 0 → (f : Refusal) → LentFault fs lent f → ⊥
   lent-clear z f w = let u = lent-only w in let e : lentRefusal ≡ f = u .0 in omega (arith, u .1, rw e at z)
+
+-- what is wrong with a line by the fields of a FORMAT is what is wrong with it by those of the row that it reads as
+module _ (fs : List Field) (lent : List ℕ) (b : leftBlank fs (filled lent) ≡ false) where
+  same-lent : lentRefusal (asFormat fs) lent ≡ lentRefusal fs lent
+  same-lent = rw (same-refusal (filled lent) fs b) refl
+
+  pub same-faults : (f : Refusal) → (LentFault (asFormat fs) lent f → LentFault fs lent f) × (LentFault fs lent f → LentFault (asFormat fs) lent f)
+  same-faults f = (λ w. of (asFormat fs) fs (sym same-lent) w, λ w. of fs (asFormat fs) same-lent w)
+    where
+      of : (gs hs : List Field) → lentRefusal hs lent ≡ lentRefusal gs lent → LentFault gs lent f → LentFault hs lent f
+      of gs hs e w =
+          let u = lent-only gs lent w in
+          let q : lentRefusal hs lent ≡ f = e ∙ u .0 in
+          rw q at (lent-fault hs lent (rw q (u .1)))

@@ -1,7 +1,7 @@
-pub mod Fault
-pub mod FaultLaws
 pub mod Asked
 pub mod SameLaws
+pub mod Fault
+pub mod FaultLaws
 pub mod RuledLaws
 pub mod ShownLaws
 pub mod JudgeLaws

@@ -110,8 +110,9 @@ use Rattle.reader.specs.Reader.{refusedBy}
 use Rattle.format_reader.specs.Question.{Seen}
 use Rattle.format_reader.specs.Question as Question
 use Rattle.host.specs.Answer.{seenBytes, fieldAnswer}
-use Rattle.format_laws.specs.Asked.{ReadsAs, leftBlank, Asked}
-use Rattle.format_laws.specs.Fault.{Ruled}
+use Rattle.format_laws.specs.Asked.{asFormat, ReadsAs, leftBlank, Asked}
+use Rattle.format_laws.specs.Fault.{Ruled, LentFault}
+use Rattle.format_laws.specs.FaultLaws as FormatFaultLaws
 use Rattle.format_laws.specs.Printed.{printAt, caseAt, isAmong, entriesText, ordersText, lastText, printedFor}
 use Rattle.format_laws.specs.Printed as Printed
 use Rattle.format_laws.specs.Said.{NoFormat, LineRefused, NoField, FieldSaid}
@@ -576,6 +577,11 @@ only-no-field = SaidLaws.said-no-field
 pub format-same : (text : List ℕ) (fs : List Field) → ReadsAs text fs → (k : ℕ) (line : List ℕ) → leftBlank fs (filled line) ≡ false
     → Question.answerOf text k line ≡ Question.fieldOf fs k line
 format-same = FormatLaws.by-format
+
+-- and what is wrong with a line by the FORMAT's fields is what is wrong with it by the row's, 9, 11 and 14 not looked at
+pub format-faults : (fs : List Field) (line : List ℕ) → leftBlank fs (filled line) ≡ false → (f : Refusal)
+    → (LentFault (asFormat fs) line f → LentFault fs line f) × (LentFault fs line f → LentFault (asFormat fs) line f)
+format-faults = FormatFaultLaws.same-faults
 
 pub record-printed : (k : ℕ) → k < noRecord → isAmong Printed.records k ≡ true
 record-printed = PrintedLaws.is-printed
