@@ -335,6 +335,7 @@ fn lines() -> Vec<Case> {
         case("2147483648", "I10", "2147483648", 0, integer(0, 10)),
         case("-2147483649", "I12", " -2147483649", 0, integer(0, 12)),
         case("twelve nines", "I12", "999999999999", 0, integer(0, 12)),
+        case("a blank field, after an integer beyond 32 bits", "2I10", "9999999999", 0, at(24, 11)),
         case("a sign and 79 digits", "I80", &format!("-{}", "9".repeat(79)), 0, integer(0, 80)),
         case("a function type off its list", "I5", "   29", 0, integer(0, 5)),
     ]);
@@ -569,6 +570,8 @@ pub fn wrong_programs() -> Vec<Wrong> {
         wrong("past is the last byte", "I5", five, 0, integer(0, 5), integer(0, 4)),
         wrong("past is no further than the line", "I5,10A1", five, 1, text(5, 15), text(5, 5)),
         wrong("an out-of-range integer is refused", "I12", "999999999999", 0, integer(0, 12), at(11, 1)),
+        wrong("an out-of-range integer ends the look at a line: 13", "I12", "999999999999 x", 0, at(13, 14), integer(0, 12)),
+        wrong("an out-of-range integer ends the look at a line: 10", "2I10", "9999999999         x", 0, at(10, 11), integer(0, 10)),
         wrong("a blank text is refused", "A5", "", 0, text(0, 5), at(9, 1)),
         wrong("a blank integer is malformed", "I5", "", 0, at(24, 1), at(10, 1)),
         wrong("a blank real is malformed", "E13.5", "", 0, at(25, 1), at(12, 1)),

@@ -24,10 +24,11 @@ use Rattle.judge.specs.Judge.{atLine, lineOutcome, lineStep}
 use Rattle.reader.specs.Reader.{Said, refusedBy}
 use Rattle.format_reader.specs.Unruled.{unruledRefusal}
 use Rattle.format_reader.specs.Question.{Seen, shownFrom, lineFirst, fieldIn, fieldOf, answerOf}
-use Rattle.format_laws.specs.Asked.{Ruled, nine, eleven, fourteen, Shows, Asked}
+use Rattle.format_laws.specs.Asked.{FieldShows, Asked}
+use Rattle.format_laws.specs.Fault.{Ruled, nine, eleven, fourteen}
 use Rattle.format_laws.specs.SameLaws.{by-format}
 use Rattle.format_laws.specs.RuledLaws.{Tied, tied-row}
-use Rattle.format_laws.specs.ShownLaws.{items-shown, taken-first-items}
+use Rattle.format_laws.specs.ShownLaws.{row-shown}
 
 ruled-some : {n : ℕ} → Ruled n → 0 < n
 ruled-some nine = omega arith
@@ -47,7 +48,7 @@ tied-own : (n c : ℕ) (f g : Refusal) → Tied f g → Tied (orElse n c f) (orE
 tied-own zero c f g t = t
 tied-own (suc n) c f g t = inr refl
 
-first-first : (n c : ℕ) (g : Refusal) (x : Said Seen) → lineFirst (refusal n c) (lineFirst g x) ≡ lineFirst (orElse n c g) x
+pub first-first : (n c : ℕ) (g : Refusal) (x : Said Seen) → lineFirst (refusal n c) (lineFirst g x) ≡ lineFirst (orElse n c g) x
 first-first zero c g x = refl
 first-first (suc n) c g x = rw (lt-ltb 0 (suc n) (omega arith)) refl
 
@@ -151,10 +152,8 @@ module _ {s : State} {l text : List ℕ} (a : Asked s l text) where
     fields-pass = orElse-passed (fieldsRefusal fs (filled cs) .number) (fieldsRefusal fs (filled cs) .column) _ passed-row .0
 
     pub passed-shows : (k : ℕ) → k < length (itemsOf (row .fields) 0 (filled cs))
-        → Shows (filled cs) (getD (itemsOf (row .fields) 0 (filled cs)) k Item.blank) (answerOf text k cs)
+        → FieldShows (row .fields) 0 k (filled cs) (getD (itemsOf (row .fields) 0 (filled cs)) k Item.blank) (answerOf text k cs)
     unfolding fieldsRefusal
     passed-shows k h =
-        let first = taken-first-items (filled cs) row k h in
-        let n = orElse-passed _ _ _ fields-pass .0 in
-        let x = items-shown (filled cs) fs 0 n (a .present) k (first .within) in
-        rw (← first .same, answer k, le-ltb 0 (ofQuestion .number) (omega (arith, asked-none))) x
+        rw (answer k, le-ltb 0 (ofQuestion .number) (omega (arith, asked-none)))
+        (row-shown (filled cs) row k h (orElse-passed _ _ _ fields-pass .0) (a .present))

@@ -69,7 +69,8 @@ cases =
     print 0 "6E13.5" ▸ print 1 "6E13.5" ▸ print 2 "6E13.5" ▸ print 3 "6E13.5"
     ▸ print 4 "4E20.12" ▸ print 5 "2(E13.5,E20.12)" ▸ print 6 "4E20.12" ▸ print 7 "E13.5,2E20.12"
     ▸ print 4 "4E20. 12" ▸ print 5 "2(E13.5,E20. 12)" ▸ print 6 "4E20. 12" ▸ print 7 "E13.5,2E20. 12"
-    ▸ print 0 "(6E13.5)" ▸ print 4 "(4E20.12)" ▸ print 5 "(2(E13.5,E20.12))" ▸ print 7 "(E13.5,2E20.12)"
+    ▸ print 0 "(6E13.5)" ▸ print 1 "(6E13.5)" ▸ print 2 "(6E13.5)" ▸ print 3 "(6E13.5)"
+    ▸ print 4 "(4E20.12)" ▸ print 5 "(2(E13.5,E20.12))" ▸ print 6 "(4E20.12)" ▸ print 7 "(E13.5,2E20.12)"
     ▸ none
 
 abbrev pub caseAt : ℕ → Print

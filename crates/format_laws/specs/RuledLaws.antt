@@ -15,7 +15,7 @@ use Rattle.field.specs.Field.{mayBlank, fieldNumber}
 use Rattle.record_table.specs.Row.{Field, Row, breach}
 use Rattle.record.specs.Check.{orElse, otherwise, fieldsFault, stray, strayFault, fieldsRefusal, itemsOf, breachFault, conditionFault, taken, takenRefusal, rowRefusal}
 use Rattle.format_reader.specs.Unruled.{lookedAt, unruledNumber, unruledFault, unruledRefusal}
-use Rattle.format_laws.specs.Asked.{Ruled, nine, eleven, fourteen}
+use Rattle.format_laws.specs.Fault.{Ruled, nine, eleven, fourteen}
 
 -- the first refusal is the second, or one that the second does not look at
 abbrev pub Tied : Refusal → Refusal → Type 0

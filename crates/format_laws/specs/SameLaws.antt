@@ -1,8 +1,8 @@
 -- Reading by a FORMAT that reads as a row's fields is reading by the row's fields, before 9, 11 and 14 are looked at.
 use mathlib.Core.Path.{_≡_, refl, sym, _∙_}
 use mathlib.Core.Bool.{Bool, true, false, _||_}
-use mathlib.Core.List.{List, [], _∷_, map}
-use Prim.Native.Nat.{ℕ, _+_, _-_}
+use mathlib.Core.List.{List, [], _∷_}
+use Prim.Native.Nat.{ℕ, _+_}
 use lib.ListN.{take, drop}
 use Rattle.laws.specs.Choice.{pick}
 use Rattle.laws.specs.ChoiceLaws.{false-not-true}
@@ -18,8 +18,8 @@ use Rattle.field.specs.Field.{mayBlank, integerNumber, fieldNumber}
 use Rattle.record_table.specs.Row.{Field}
 use Rattle.record.specs.Check.{strayIn, stray}
 use Rattle.format_reader.specs.Unruled.{lookedAt, unruledNumber, unruledFault, unruledRefusal}
-use Rattle.format_reader.specs.Question.{kindOf, shownFrom, fieldIn, fieldOf, formFor, rowField, answerOf}
-use Rattle.format_laws.specs.Asked.{formatField, ReadsAs, leftBlank}
+use Rattle.format_reader.specs.Question.{kindOf, shownFrom, fieldIn, fieldOf, formFor, answerOf}
+use Rattle.format_laws.specs.Asked.{asFormat, ReadsAs, leftBlank}
 
 pub or-left : (a b : Bool) → a || b ≡ false → a ≡ false
 or-left true b h = h
@@ -75,28 +75,25 @@ same-kind (integer r o) = refl
 
 -- All fields.
 
-abbrev alike : List Field → List Field
-alike fs = map rowField (map formatField fs)
-
 module _ (line : List ℕ) where
-  same-fault : (fs : List Field) (at : ℕ) → leftBlank fs line ≡ false → unruledFault (alike fs) at line ≡ unruledFault fs at line
+  same-fault : (fs : List Field) (at : ℕ) → leftBlank fs line ≡ false → unruledFault (asFormat fs) at line ≡ unruledFault fs at line
   unfolding unruledFault leftBlank
   same-fault [] at b = refl
   same-fault (f ∷ fs) at b =
       let m = or-left (mayBlank (f .form) line) _ b in
       rw (same-number (f .form) line (take (f .width) (drop at line)) m, same-fault fs (at + f .width) (or-right (mayBlank (f .form) line) _ b)) refl
 
-  same-strays : (fs : List Field) (at : ℕ) → stray (alike fs) at line ≡ stray fs at line
+  same-strays : (fs : List Field) (at : ℕ) → stray (asFormat fs) at line ≡ stray fs at line
   unfolding stray
   same-strays [] at = refl
   same-strays (f ∷ fs) at = rw (same-stray (f .form) (at + 1) (take (f .width) (drop at line)), same-strays fs (at + f .width)) refl
 
-  same-shown : (fs : List Field) (at k : ℕ) → shownFrom (alike fs) at k line ≡ shownFrom fs at k line
+  same-shown : (fs : List Field) (at k : ℕ) → shownFrom (asFormat fs) at k line ≡ shownFrom fs at k line
   unfolding shownFrom
   same-shown [] at k = refl
   same-shown (f ∷ fs) at k = rw (same-kind (f .form), same-shown fs (at + f .width)) refl
 
-  same-refusal : (fs : List Field) → leftBlank fs line ≡ false → unruledRefusal (alike fs) line ≡ unruledRefusal fs line
+  pub same-refusal : (fs : List Field) → leftBlank fs line ≡ false → unruledRefusal (asFormat fs) line ≡ unruledRefusal fs line
   unfolding unruledRefusal
   same-refusal fs b = rw (same-fault fs 0 b, same-strays fs 0) refl
 

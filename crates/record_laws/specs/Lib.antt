@@ -6,6 +6,7 @@ pub mod FieldsInLaws
 pub mod LineReadingLaws
 pub mod RowGroupLaws
 pub mod Fault
+pub mod LookedLaws
 pub mod FieldFaultLaws
 pub mod StrayLaws
 pub mod BreaksLaws

@@ -81,7 +81,13 @@ pub record Filled (text : List ℕ) (r : Reply) (before after : List ℕ) : Type
   pub answer : r ≡ reply 0 (length text)
   pub laid : after ≡ text ++ drop (length text) before
 
--- the same of a stored number or a value that C asks for, whose word has this place
+-- the same of a stored number, a value or a field that C asks for, whose word has this place
 pub record FilledBy (text : List ℕ) (place w : ℕ) (before after : List ℕ) : Type 0 where
   pub answer : w ≡ word (reply 0 place)
   pub laid : after ≡ text ++ drop (length text) before
+
+-- a field's kind, which is its place, and its bytes: a text or an integer has 8, a real 20
+pub data KindBytes : (kind bytes : ℕ) → Type 0 where
+  text : KindBytes 1 8
+  integer : KindBytes 2 8
+  real : KindBytes 3 20

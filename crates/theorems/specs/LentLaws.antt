@@ -16,16 +16,16 @@ use Rattle.theorems.specs.Answers.{FilledBy}
 
 -- an answer with its bytes, by the room that is lent
 module _ (s : Said ℕ) where
-  filled : (place : ℕ) (text out : List ℕ) → s ≡ said 0 place text → length text ≤ length out → FilledBy text place (replyFor s (length out)) out (bytesAfter s out)
+  pub filled : (place : ℕ) (text out : List ℕ) → s ≡ said 0 place text → length text ≤ length out → FilledBy text place (replyFor s (length out)) out (bytesAfter s out)
   unfolding replyFor bytesAfter
   filled place text out e h = let room = le-ltb (length out) (length text) h in record { answer = rw (e, room) refl; laid = rw (e, room) refl }
 
-  short : (place room : ℕ) (text : List ℕ) → s ≡ said 0 place text → room < length text → replyFor s room ≡ word (reply 20 0)
+  pub short : (place room : ℕ) (text : List ℕ) → s ≡ said 0 place text → room < length text → replyFor s room ≡ word (reply 20 0)
   unfolding replyFor
   short place room text e h = rw (e, lt-ltb room (length text) h) refl
 
 -- how many bytes there are
-twenty : (x : Shown) → length (numberBytes x) ≡ 20
+pub twenty : (x : Shown) → length (numberBytes x) ≡ 20
 unfolding numberBytes bytesOf
 twenty x = refl
 

@@ -37,6 +37,8 @@ pub mod WriterLaws
 pub mod KeptLaws
 pub mod ArrivalLaws
 pub mod QuestionLaws
+pub mod AsReader
+pub mod AsReaderLaws
 pub mod Reached
 pub mod ReachedLaws
 pub mod Theorems

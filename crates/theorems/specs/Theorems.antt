@@ -26,7 +26,7 @@ use Rattle.record.specs.Check.{remainderIn}
 use Rattle.judge.specs.declared.Reply.{Reply}
 use Rattle.judge.specs.Judge.{judged, reply, replyAt, atLine}
 use Rattle.parts.specs.Parts.{Part, partsOf, datasetOf, pastOf, lineOf, lastLine}
-use Rattle.parts.specs.Function.{countOf, dataStart, firstByte, pastByte}
+use Rattle.parts.specs.Function.{partCase, countOf, dataStart, firstByte, pastByte}
 use Rattle.parts.specs.Padding.{paddingIn, paddingOf}
 use Rattle.reader.specs.Reader.{Shown, said, refused, shownOf, storedNumber, valueKind, valueOf, valueWith}
 use Rattle.values.specs.Values.{allValues, allReply, allPlaces}
@@ -59,7 +59,7 @@ use Rattle.stream_laws.specs.Streaming.{burstAnswer, joined, Bursts}
 use Rattle.stream_laws.specs.Calls.{Calls}
 use Rattle.theorems.specs.Table.{InTable, Replied, CallsInTable, BurstInTable}
 use Rattle.theorems.specs.Stands.{SetAt, At58}
-use Rattle.theorems.specs.Answers.{Answered, NoSuch, AsJudged, InTurn, Filled, FilledBy, valueSaid, allSaid, ownBytes}
+use Rattle.theorems.specs.Answers.{Answered, NoSuch, AsJudged, InTurn, Filled, FilledBy, KindBytes, valueSaid, allSaid, ownBytes}
 use Rattle.theorems.specs.Rounded.{OnceOr21}
 use Rattle.theorems.specs.Columns.{Columns, DataByte, Belongs}
 use Rattle.theorems.specs.Same.{SameAnswers}
@@ -110,10 +110,12 @@ use Rattle.reader.specs.Reader.{refusedBy}
 use Rattle.format_reader.specs.Question.{Seen}
 use Rattle.format_reader.specs.Question as Question
 use Rattle.host.specs.Answer.{seenBytes, fieldAnswer}
-use Rattle.format_laws.specs.Asked.{ReadsAs, leftBlank, Ruled, Asked}
+use Rattle.format_laws.specs.Asked.{asFormat, ReadsAs, leftBlank, Asked}
+use Rattle.format_laws.specs.Fault.{Ruled, LentFault}
+use Rattle.format_laws.specs.FaultLaws as FormatFaultLaws
 use Rattle.format_laws.specs.Printed.{printAt, caseAt, isAmong, entriesText, ordersText, lastText, printedFor}
 use Rattle.format_laws.specs.Printed as Printed
-use Rattle.format_laws.specs.Said.{NoFormat, NoField, FieldSaid}
+use Rattle.format_laws.specs.Said.{NoFormat, LineRefused, NoField, FieldSaid}
 use Rattle.format_laws.specs.SameLaws as FormatLaws
 use Rattle.format_laws.specs.PrintedLaws as PrintedLaws
 use Rattle.format_laws.specs.DueLaws as PrintedDueLaws
@@ -121,6 +123,8 @@ use Rattle.format_laws.specs.JudgeLaws as QuestionJudgeLaws
 use Rattle.format_laws.specs.SaidLaws as SaidLaws
 use Rattle.theorems.specs.QuestionLaws.{ItemsShown}
 use Rattle.theorems.specs.QuestionLaws as QuestionLaws
+use Rattle.theorems.specs.AsReader.{dataColumns, dataField, AsReader}
+use Rattle.theorems.specs.AsReaderLaws as AsReaderLaws
 use Rattle.theorems.specs.Reached.{Reached, DueLine, printedText}
 use Rattle.theorems.specs.ReachedLaws as ReachedLaws
 
@@ -509,9 +513,20 @@ module _ (header : List ℕ) (h : 0 < headerOf header .reply .number) where
   header-twelfth = HeaderRefusedLaws.past-refused header h
 
 -- C-15. "The planner wants to type in a set's printed FORMAT and read a line's fields, by number from 0.": `Question.answerOf text k line`, field k of a line lent alone;
--- C gets it by `replyFor` (`uff_field`). What it can answer:
+-- C gets it by `replyFor` (`uff_field`). What it can answer, and why: field k in its own columns, by a FORMAT that fits, of a line with which nothing is wrong by its
+-- fields; 26, 27 and 18; and the line's own refusal, for what is wrong with it (`format_laws` Fault)
 pub question-table : (text : List ℕ) (k : ℕ) (line : List ℕ) → FieldSaid text k line (Question.answerOf text k line)
 question-table = SaidLaws.question-said
+
+-- the bytes that C is given of a field: its kind is the place, 1 a text, 2 an integer, 3 a real
+pub question-answers : (text : List ℕ) (k : ℕ) (line : List ℕ) (kind : ℕ) (x : Seen) → Question.answerOf text k line ≡ said 0 kind (x ∷ [])
+    → (out : List ℕ) → length (seenBytes x) ≤ length out
+    → FilledBy (seenBytes x) kind (replyFor (fieldAnswer (Question.answerOf text k line)) (length out)) out (bytesAfter (fieldAnswer (Question.answerOf text k line)) out)
+question-answers = QuestionLaws.field-answers
+
+pub question-bytes : (text : List ℕ) (k : ℕ) (line : List ℕ) (kind : ℕ) (x : Seen) → Question.answerOf text k line ≡ said 0 kind (x ∷ [])
+    → KindBytes kind (length (seenBytes x))
+question-bytes = QuestionLaws.field-bytes
 
 pub question-kept : (text : List ℕ) (k : ℕ) (line out : List ℕ) → 0 < numberIn (replyFor (fieldAnswer (Question.answerOf text k line)) (length out))
     → bytesAfter (fieldAnswer (Question.answerOf text k line)) out ≡ out
@@ -540,11 +555,14 @@ format-malformed bytes n k line = QuestionLaws.text-first bytes k line .0 (Readi
 pub format-large : {t : Format} {bytes : List ℕ} → Format.Text t bytes → (Format.Fits t → ⊥) → (k : ℕ) (line : List ℕ) → Question.answerOf bytes k line ≡ refused 27 0
 format-large {bytes = bytes} x n k line = QuestionLaws.text-first bytes k line .1 (ReadingLaws.reading-large x n)
 
+pub format-line : (bytes : List ℕ) (k : ℕ) (line : List ℕ) {f : Refusal} → LineRefused bytes line f → Question.answerOf bytes k line ≡ refusedBy (atLine 0 f)
+format-line bytes k line = SaidLaws.line-said bytes k line
+
 pub format-no-field : (bytes : List ℕ) (k : ℕ) (line : List ℕ) → NoField bytes k line → Question.answerOf bytes k line ≡ refused 18 0
 format-no-field = SaidLaws.no-field-said
 
--- and each for nothing else: 26 where the bytes are no FORMAT, 27 where they are one that does not fit, 18 where the line passes by its fields and these, X aside, are
--- no more than k
+-- and each for nothing else: 26 where the bytes are no FORMAT, 27 where they are one that does not fit, 18 where nothing is wrong with the line by its fields and these,
+-- X aside, are no more than k; the line's own as `question-table` has it
 pub only-malformed : (bytes : List ℕ) (k : ℕ) (line : List ℕ) → Question.answerOf bytes k line .reply .number ≡ 26 → NoFormat bytes
 only-malformed = SaidLaws.said-malformed
 
@@ -559,6 +577,11 @@ only-no-field = SaidLaws.said-no-field
 pub format-same : (text : List ℕ) (fs : List Field) → ReadsAs text fs → (k : ℕ) (line : List ℕ) → leftBlank fs (filled line) ≡ false
     → Question.answerOf text k line ≡ Question.fieldOf fs k line
 format-same = FormatLaws.by-format
+
+-- and what is wrong with a line by the FORMAT's fields is what is wrong with it by the row's, 9, 11 and 14 not looked at
+pub format-faults : (fs : List Field) (line : List ℕ) → leftBlank fs (filled line) ≡ false → (f : Refusal)
+    → (LentFault (asFormat fs) line f → LentFault fs line f) × (LentFault fs line f → LentFault (asFormat fs) line f)
+format-faults = FormatFaultLaws.same-faults
 
 pub record-printed : (k : ℕ) → k < noRecord → isAmong Printed.records k ≡ true
 record-printed = PrintedLaws.is-printed
@@ -590,7 +613,7 @@ pub due-reads : {s : State} → Reached s → (d : Due) → s .place ≡ Typed d
 due-reads = ReachedLaws.reached-reads
 
 -- the built-in reader is the judge's: in a state s where a row is due, on a line of bytes l before its LF, by a text that reads as the row's fields. Where the judge passes
--- the line every field shows the list's item in its columns; where it refuses it, but for 9, 11 and 14, the question has the same number and column; where a field
+-- the line field k shows the list's item k in its own columns; where it refuses it, but for 9, 11 and 14, the question has the same number and column; where a field
 -- is shown it passes the line, or refuses it with 9, 11 or 14
 module _ {s : State} {l text : List ℕ} (a : Asked s l text) where
   pub judge-passes : (t : State) → lineStep s l ≡ Next t → ItemsShown a
@@ -602,7 +625,7 @@ module _ {s : State} {l text : List ℕ} (a : Asked s l text) where
   pub field-shown : (k : ℕ) → Question.answerOf text k (columns true l) .reply .number ≡ 0 → (f : Refusal) → lineStep s l ≡ Outcome.Refused f → Ruled (f .number)
   field-shown = QuestionJudgeLaws.shown-passes a
 
--- so of every line of a file where a row is due, by its printed FORMAT
+-- so of every line of a file where a row is due, with no number field that may be blank left blank, by its printed FORMAT
 module _ {s : State} {l : List ℕ} (a : DueLine s l) where
   pub due-asked : Asked s l (printedText a)
   due-asked = ReachedLaws.due-asked a
@@ -617,3 +640,9 @@ module _ {s : State} {l : List ℕ} (a : DueLine s l) where
   pub due-shown : (k : ℕ) → Question.answerOf (printedText a) k (columns true l) .reply .number ≡ 0
       → (f : Refusal) → lineStep s l ≡ Outcome.Refused f → Ruled (f .number)
   due-shown = field-shown due-asked
+
+-- "a real as the reader shows it": of a 58 of the list, stored number j by a FORMAT of its data line's fields, or of the first n of them, where it is shown
+pub data-as-reader : {sets : List Set} {bytes : List ℕ} (p : Proper sets bytes) {k : ℕ} {s : Set} {q : Part} (a : At58 sets bytes k s q) (j : ℕ) → j < storedCount s
+    → (text : List ℕ) (n : ℕ) → ReadsAs text (take n (dataRow (partCase q) .fields)) → dataField q j < n
+    → Question.answerOf text (dataField q j) (dataColumns q j) .reply .number ≡ 0 → AsReader bytes (suc k) j q (Question.answerOf text (dataField q j) (dataColumns q j))
+data-as-reader = AsReaderLaws.as-reader

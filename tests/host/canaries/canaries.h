@@ -107,8 +107,12 @@ void free_most(void);
 /* judge.c: the largest column of a file, tried once. */
 void try_last_column(void);
 
-/* write.c: a column of a header that the reply has no room for, tried once. */
+/* The largest column that a reply has. */
+#define LAST_COLUMN 33554431
+
+/* write.c and field.c: a column of a header, and of a line lent alone, that the reply has no room for, tried once. */
 void try_far_column(void);
+void try_far_line(void);
 
 /* stream.c: more bytes than a file has, tried once. */
 void try_long_stream(void);

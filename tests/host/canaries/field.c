@@ -1,6 +1,7 @@
 /* The reader by FORMAT. */
 #include "canaries.h"
 
+#include <stdlib.h>
 #include <string.h>
 
 /* A question: FORMAT, line, field, and the room lent. */
@@ -85,4 +86,19 @@ void try_field(void)
     refuses("a blank real", (struct question){"6E13.5", example[20], 0, 20}, 25, 1, 14);
     refuses("a malformed real", (struct question){"4E20.12", example[19], 0, 20}, 12, 1, 1);
     refuses("a byte outside the fields", (struct question){"I6", "    -1 x", 0, 20}, 13, 1, 8);
+}
+
+void try_far_line(void)
+{
+    static const uint8_t format[] = "I5";
+    uint8_t *bytes = need(malloc(LAST_COLUMN + 1));
+    memset(bytes, ' ', LAST_COLUMN + 1);
+    bytes[LAST_COLUMN] = '\t';
+    name = "a bad byte in column 33,554,432 of a line";
+    check_refusal(uff_field(format, 2, bytes, LAST_COLUMN + 1, 0, NULL, 0), 2, 1, LAST_COLUMN);
+    name = "a bad byte in column 33,554,431 of a line";
+    check_refusal(uff_field(format, 2, bytes + 1, LAST_COLUMN, 0, NULL, 0), 2, 1, LAST_COLUMN);
+    name = "a bad byte in column 33,554,430 of a line";
+    check_refusal(uff_field(format, 2, bytes + 2, LAST_COLUMN - 1, 0, NULL, 0), 2, 1, LAST_COLUMN - 1);
+    free(bytes);
 }

@@ -69,6 +69,7 @@ int main(int count, char **words)
     free_most();
     try_last_column();
     try_far_column();
+    try_far_line();
     try_long_stream();
     printf("%u cases\n", cases);
     return 0;

@@ -4,9 +4,6 @@
 #include <stdlib.h>
 #include <string.h>
 
-/* The largest column that a reply has. */
-#define LAST_COLUMN 33554431
-
 /* Writes the header with these numbers; the set due is the example's second, bytes 164 to 672. */
 static void write_set(const char *what, struct text header, const int64_t *coefficients, size_t coefficient_count,
                       size_t scale_count, size_t room, uint64_t number, uint64_t place, uint64_t column)
