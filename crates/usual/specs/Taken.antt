@@ -59,7 +59,7 @@ pub record Shaped (h : Shape) : Type 0 where
 -- the tables are those of the lines' shape
 pub record Ready (h : Shape) (t : Tables) : Type 0 where
   pub shaped : Shaped h
-  pub laid : Laid (tableCells (h .letter) (layoutOf (h .case) .widths) (h .columns)) t
+  pub laid : Laid (tableCells (h .letter) 9 (layoutOf (h .case) .widths) (h .columns)) t
 
 abbrev pub run : ℕ → ℕ → ℕ → Run
 run k at left = record { lines = k; at = at; left = left }

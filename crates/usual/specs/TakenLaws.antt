@@ -5,23 +5,20 @@ use mathlib.Core.Logic.{inl, inr, ⊎-elim}
 use mathlib.Core.List.{List, [], _∷_, _++_, map, append-assoc}
 use Prim.Native.Nat.{ℕ, suc, _+_, _-_, _≤_, _<_}
 use native.Mathlib.Omega.{arith}
-use borrow.Author.Tests.{leb-true, eqb-true, ne-eqb, lt-ltb}
-use lib.Dec.{leb, eqb}
+use borrow.Author.Tests.{eqb-true, ne-eqb, lt-ltb}
+use lib.Dec.{eqb}
 use lib.ListN.{length, getD, take, drop, replicate, length-append, length-replicate, length-drop, take-append-drop}
 use lib.Seq.{take-at, drop-cons, take-take, take-all, getD-drop}
 use Rattle.laws.specs.Cut.{lineLen}
-use Rattle.laws.specs.ChoiceLaws.{and-left, and-right, false-not-true}
-use Rattle.laws.specs.RangesLaws.{in-range}
+use Rattle.laws.specs.ChoiceLaws.{false-not-true}
 use Rattle.laws.specs.Table.{tabulate}
-use Rattle.laws.specs.TableLaws.{agree-below}
 use Rattle.text.specs.Blank.{Blanks}
 use Rattle.text.specs.BlankLaws.{blanks-append, blanks-replicate}
 use Rattle.line.specs.Line.{passed, Allowed, columns, lineFault, filled}
 use Rattle.line.specs.LineLaws.{allowed-append, columns-allowed, columns-crlf, lineFault-complete, filled-short}
 use Rattle.layout.specs.Columns.{fieldStart, fieldPast, total}
 use Rattle.layout.specs.ColumnsLaws.{fieldPast-before}
-use Rattle.layout.specs.Layout.{layouts, layoutOf, fieldsOf, valuesOf, cellOf}
-use Rattle.layout.specs.LayoutLaws.{fieldsOf-some, widths-six}
+use Rattle.layout.specs.Layout.{layoutOf, fieldsOf, cellOf}
 use Rattle.delimiter.specs.Kind.{isDelimiter}
 use Rattle.real.specs.Spelling.{Letter}
 use Rattle.real.specs.ByteLaws.{isLetter-sound}
@@ -43,39 +40,15 @@ use Rattle.usual.specs.declared.Run.{Run}
 use Rattle.usual.specs.declared.Ahead.{Ahead}
 use Rattle.usual_columns.specs.Cells.{blank, any, rowCells, lineCells, tableCells, Wide, Fits, Tables, tables, Passed}
 use Rattle.usual_columns.specs.CellsLaws.{fits-split, fits-length, fits-passed}
-use Rattle.usual_columns.specs.FieldLaws.{blanks-allowed, blanks-fit}
+use Rattle.usual_columns.specs.FieldLaws.{blanks-allowed, blanks-fit, lineLen-allowed}
 use Rattle.usual_columns.specs.RowLaws.{wide-at, row-length, row-allowed, row-passes, row-delimiter}
+use Rattle.usual_columns.specs.WidthsLaws.{layout-wide, layout-some, six-widths}
 use Rattle.usual.specs.Taken.{LineTaken, Taken, dataState, Ends, Shaped, Ready, run, Ran, ahead, NoneAhead, RanAhead}
-
--- the widths of every case are such that a field may have them
-abbrev allWide : List ℕ → Bool
-allWide [] = true
-allWide (w ∷ ws) = (leb 9 w && leb w 25) && allWide ws
-
-wide-sound : (ws : List ℕ) → allWide ws ≡ true → Wide ws
-wide-sound [] h = Wide.none
-wide-sound (w ∷ ws) h =
-    let t = and-left (leb 9 w && leb w 25) (allWide ws) h in
-    Wide.more (leb-true 9 w (and-left (leb 9 w) (leb w 25) t)) (leb-true w 25 (and-right (leb 9 w) (leb w 25) t))
-    (wide-sound ws (and-right (leb 9 w && leb w 25) (allWide ws) h))
-
-pub layout-wide : (c : ℕ) → c < 8 → Wide (layoutOf c .widths)
-unfolding layoutOf layouts
-layout-wide c h = wide-sound (layoutOf c .widths) (in-range (λ (i : ℕ). allWide (layoutOf i .widths)) true 0 8 c refl (omega arith) h)
-
-pub layout-some : (c : ℕ) → c < 8 → 0 < length (layoutOf c .widths)
-unfolding fieldsOf
-layout-some c h = fieldsOf-some c h
 
 -- where the first line of bytes ends, and its columns: of bytes that may stand in columns, then LF or CR LF
 record Ended (cs l : List ℕ) (n : ℕ) : Type 0 where
   length-is : lineLen l ≡ n
   columns-are : columns true (take (lineLen l) l) ≡ cs
-
-lineLen-allowed : {cs : List ℕ} (r : List ℕ) → Allowed cs → lineLen (cs ++ r) ≡ length cs + lineLen r
-unfolding lineLen
-lineLen-allowed r Allowed.none = omega arith
-lineLen-allowed r (Allowed.more {b} {bs} low high a) = rw (ne-eqb b 10 (λ (e : b ≡ 10). omega arith), lineLen-allowed r a) (omega arith)
 
 ended-lf : {cs : List ℕ} (l r : List ℕ) → Allowed cs → l ≡ cs ++ (10 ∷ r) → Ended cs l (length cs)
 unfolding lineLen
@@ -93,34 +66,34 @@ ended-crlf {cs} l r a e =
 
 -- a line of a row's fields and blanks, by its widths
 module _ (b : ℕ) (x : Letter b) (ws : List ℕ) (h : Wide ws) (n : ℕ) where
-  pub line-length : total ws ≤ n → length (lineCells b ws n) ≡ n
+  pub line-length : total ws ≤ n → length (lineCells b 9 ws n) ≡ n
   unfolding lineCells
-  line-length m = length-append (rowCells b ws) (replicate (n - total ws) blank) ∙ rw (row-length b h, length-replicate (n - total ws) blank) (omega arith)
+  line-length m = length-append (rowCells b 9 ws) (replicate (n - total ws) blank) ∙ rw (row-length b 9 h, length-replicate (n - total ws) blank) (omega arith)
 
-  line-allowed : {cs : List ℕ} → Fits (lineCells b ws n) cs → Allowed cs
+  line-allowed : {cs : List ℕ} → Fits (lineCells b 9 ws n) cs → Allowed cs
   unfolding lineCells
   line-allowed f =
-      let s = fits-split (rowCells b ws) (replicate (n - total ws) blank) f in
-      rw (s .is) (allowed-append (row-allowed b x h (s .fits-first)) (blanks-allowed (n - total ws) (s .fits-second)))
+      let s = fits-split (rowCells b 9 ws) (replicate (n - total ws) blank) f in
+      rw (s .is) (allowed-append (row-allowed b 9 x (omega arith) h (s .fits-first)) (blanks-allowed (n - total ws) (s .fits-second)))
 
   -- filled to 80 columns it is passed by its row, and no delimiter
   record Accepted (line : List ℕ) : Type 0 where
     refusal : fieldsRefusal (map E ws) line ≡ passed
     other : isDelimiter line ≡ false
 
-  line-accepted : {cs : List ℕ} → 0 < length ws → length cs ≤ 80 → Fits (lineCells b ws n) cs → Accepted (filled cs)
+  line-accepted : {cs : List ℕ} → 0 < length ws → length cs ≤ 80 → Fits (lineCells b 9 ws n) cs → Accepted (filled cs)
   unfolding lineCells
   line-accepted {cs} some most f =
-      let s = fits-split (rowCells b ws) (replicate (n - total ws) blank) f in
+      let s = fits-split (rowCells b 9 ws) (replicate (n - total ws) blank) f in
       let rest = s .second ++ replicate (80 - length cs) 32 in
       let is : filled cs ≡ s .first ++ rest
       = filled-short cs most ∙ ap (λ (m : List ℕ). m ++ replicate (80 - length cs) 32) (s .is) ∙ append-assoc (s .first) (s .second) (replicate (80 - length cs) 32) in
       let blanks : Blanks rest = blanks-append (blanks-fit (n - total ws) (s .fits-second)) (blanks-replicate (80 - length cs)) in
-      record { refusal = row-passes b x (filled cs) h is (s .fits-first) blanks; other = no-delimiter ws rest some is (s .fits-first) }
+      record { refusal = row-passes b 9 x (omega arith) (filled cs) h is (s .fits-first) blanks; other = no-delimiter ws rest some is (s .fits-first) }
     where
-      no-delimiter : (vs bl : List ℕ) {line r : List ℕ} → 0 < length vs → line ≡ r ++ bl → Fits (rowCells b vs) r → isDelimiter line ≡ false
+      no-delimiter : (vs bl : List ℕ) {line r : List ℕ} → 0 < length vs → line ≡ r ++ bl → Fits (rowCells b 9 vs) r → isDelimiter line ≡ false
       no-delimiter [] bl p e f = absurd (omega arith)
-      no-delimiter (w ∷ vs) bl {line = line} p e f = row-delimiter b w vs line bl e f
+      no-delimiter (w ∷ vs) bl {line = line} p e f = row-delimiter b 9 w vs line bl e f
 
 -- the step of a full data line that is not the last
 module _ (c l z k : ℕ) (more : fieldsOf c < l) where
@@ -158,21 +131,16 @@ ready-size h t ready =
     (λ (e : (h .mark ≡ 13) × (h .size ≡ h .columns + 2)). (omega arith, omega (arith, ready .shaped .columns-within)))
     (ready .shaped .ends)
 
--- the widths that the code has of a case
-pub six-widths : (c : ℕ) (l : List ℕ) → c < 8 → l ≡ tabulate (cellOf c) 0 6 → take (fieldsOf c) l ≡ layoutOf c .widths
-unfolding cellOf layoutOf layouts fieldsOf valuesOf
-six-widths c l h e = rw e (agree-below (λ (i : ℕ). take (fieldsOf i) (tabulate (cellOf i) 0 6)) (λ (i : ℕ). layoutOf i .widths) 8 c refl h)
-
-pub fields-six : (c : ℕ) → fieldsOf c ≤ 6
-unfolding fieldsOf
-fields-six c = widths-six c
-
+-- the widths that the code has of a shape's case, and the columns of its tables
 module _ (h : Shape) (shaped : Shaped h) (l : List ℕ) (e : l ≡ tabulate (cellOf (h .case)) 0 6) where
   pub shape-widths : take (h .fields) l ≡ layoutOf (h .case) .widths
   shape-widths = rw (shaped .fields-are) (six-widths (h .case) l (shaped .known) e)
 
-  pub shape-fits : Wide (take (h .fields) l) × (total (take (h .fields) l) ≤ h .columns) × (h .columns ≤ 80)
-  shape-fits = rw shape-widths (layout-wide (h .case) (shaped .known), shaped .row-within, shaped .columns-within)
+  pub shape-fits : Wide (take (h .fields) l) × (total (take (h .fields) l) ≤ 80) × (h .columns ≤ 80)
+  shape-fits = rw shape-widths (layout-wide (h .case) (shaped .known), omega (arith, shaped .row-within, shaped .columns-within), shaped .columns-within)
+
+  pub shape-columns : (n : ℕ) → n ≡ total (take (h .fields) l) + (h .columns - total (take (h .fields) l)) → n ≡ h .columns
+  shape-columns n q = let within = shaped .row-within in q ∙ rw shape-widths (omega arith)
 
 -- the first field of a case stands before the end of its row
 pub first-width : (c w past : ℕ) → c < 8 → w ≡ getD (layoutOf c .widths) 0 0 → past ≡ fieldStart (layoutOf c .widths) 6 → (9 ≤ w) × (w ≤ past)
@@ -191,30 +159,30 @@ module _ (h : Shape) (t : Tables) (ready : Ready h t) (b : List ℕ) (a : ℕ) (
   letter : Letter (h .letter)
   letter = isLetter-sound (h .letter) (ready .shaped .letter-is)
 
-  cells-length : length (lineCells (h .letter) ws (h .columns)) ≡ h .columns
+  cells-length : length (lineCells (h .letter) 9 ws (h .columns)) ≡ h .columns
   cells-length = line-length (h .letter) letter ws wide (h .columns) (ready .shaped .row-within)
 
-  table-length : length (tableCells (h .letter) ws (h .columns)) ≡ 80
+  table-length : length (tableCells (h .letter) 9 ws (h .columns)) ≡ 80
   unfolding tableCells
   table-length =
-      length-append (lineCells (h .letter) ws (h .columns)) (replicate (80 - h .columns) any)
+      length-append (lineCells (h .letter) 9 ws (h .columns)) (replicate (80 - h .columns) any)
       ∙ rw (cells-length, length-replicate (80 - h .columns) any) (omega (arith, ready .shaped .columns-within))
 
   -- its columns
   record Line : Type 0 where
     cs : List ℕ
-    fits : Fits (lineCells (h .letter) ws (h .columns)) cs
+    fits : Fits (lineCells (h .letter) 9 ws (h .columns)) cs
     first : take (h .columns) (drop a b) ≡ cs
 
-  all-fit : Fits (tableCells (h .letter) ws (h .columns)) (take 80 (drop a b))
+  all-fit : Fits (tableCells (h .letter) 9 ws (h .columns)) (take 80 (drop a b))
   all-fit =
       rw table-length at
-      (fits-passed (tableCells (h .letter) ws (h .columns)) t b a (ready .laid) (rw table-length (omega arith)) (rw table-length p))
+      (fits-passed (tableCells (h .letter) 9 ws (h .columns)) t b a (ready .laid) (rw table-length (omega arith)) (rw table-length p))
 
   line : Line
   unfolding tableCells
   line =
-      let s = fits-split (lineCells (h .letter) ws (h .columns)) (replicate (80 - h .columns) any) all-fit in
+      let s = fits-split (lineCells (h .letter) 9 ws (h .columns)) (replicate (80 - h .columns) any) all-fit in
       let n : length (s .first) ≡ h .columns = fits-length (s .fits-first) ∙ cells-length in
       record {
         cs = s .first;

@@ -102,6 +102,7 @@ fn tabled_run(s: &[u8], at: usize, left: usize, shape: Shape) -> Run
         &mut alt,
         &widths[..fields],
         shape.letter,
+        9,
         shape.columns,
     );
     passed_lines(s, at, left, shape, &lo, &span, &alt)

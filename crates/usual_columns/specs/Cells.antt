@@ -20,7 +20,7 @@ cell l s a = record { lo = l; span = s; alt = a }
 abbrev pub Takes : Cell → ℕ → Type 0
 Takes c b = ((r : ℕ) × (r ≤ c .span) × ((r + c .lo) % 256 ≡ b)) ⊎ (b ≡ c .alt)
 
--- a blank; a blank or a minus; a digit; the point; the letter given; a sign; any byte
+-- a blank; a blank or a minus; a digit; a digit up to the one given; the point; the letter given; a sign; any byte
 abbrev pub blank : Cell
 blank = cell 32 0 32
 
@@ -29,6 +29,9 @@ minus = cell 32 0 45
 
 abbrev pub digit : Cell
 digit = cell 48 9 48
+
+abbrev pub digitTo : ℕ → Cell
+digitTo m = cell 48 m 48
 
 abbrev pub point : Cell
 point = cell 46 0 46
@@ -42,28 +45,29 @@ sign = cell 43 0 45
 abbrev pub any : Cell
 any = cell 0 255 0
 
--- a real field of a width from 9 on: a blank, a blank or a minus, a digit, the point, digits, the letter, a sign, two digits
+-- a real field of a width from 9 on: a blank, a blank or a minus, a digit, the point, digits, the letter b, a sign, two digits, of which the
+-- first is at most m
 abbrev pub startCells : List Cell
 startCells = blank ∷ minus ∷ digit ∷ point ∷ []
 
-abbrev pub exponentCells : ℕ → List Cell
-exponentCells b = lettered b ∷ sign ∷ digit ∷ digit ∷ []
+abbrev pub exponentCells : ℕ → ℕ → List Cell
+exponentCells b m = lettered b ∷ sign ∷ digitTo m ∷ digit ∷ []
 
-unfoldable pub fieldCells : ℕ → ℕ → List Cell
-fieldCells b w = startCells ++ (replicate (w - 8) digit ++ exponentCells b)
+unfoldable pub fieldCells : ℕ → ℕ → ℕ → List Cell
+fieldCells b m w = startCells ++ (replicate (w - 8) digit ++ exponentCells b m)
 
 -- the fields of a row, by their widths
-unfoldable pub rowCells : ℕ → List ℕ → List Cell
-rowCells b [] = []
-rowCells b (w ∷ ws) = fieldCells b w ++ rowCells b ws
+unfoldable pub rowCells : ℕ → ℕ → List ℕ → List Cell
+rowCells b m [] = []
+rowCells b m (w ∷ ws) = fieldCells b m w ++ rowCells b m ws
 
 -- a line of n columns: the row's fields, and blanks
-unfoldable pub lineCells : ℕ → List ℕ → ℕ → List Cell
-lineCells b ws n = rowCells b ws ++ replicate (n - total ws) blank
+unfoldable pub lineCells : ℕ → ℕ → List ℕ → ℕ → List Cell
+lineCells b m ws n = rowCells b m ws ++ replicate (n - total ws) blank
 
 -- the same in tables of 80 columns
-unfoldable pub tableCells : ℕ → List ℕ → ℕ → List Cell
-tableCells b ws n = lineCells b ws n ++ replicate (80 - n) any
+unfoldable pub tableCells : ℕ → ℕ → List ℕ → ℕ → List Cell
+tableCells b m ws n = lineCells b m ws n ++ replicate (80 - n) any
 
 -- the widths that a field of the usual spelling may have: its digits are at most 18
 pub data Wide : List ℕ → Type 0 where

@@ -88,14 +88,14 @@ grown-four at a b c d t u v w x g h i j =
     let three : Grown at (a ∷ b ∷ c ∷ []) t w = grown-on at (a ∷ b ∷ []) (c ∷ []) t v w (at + 2) refl two i in
     grown-on at (a ∷ b ∷ c ∷ []) (d ∷ []) t w x (at + 3) refl three j
 
--- a field's first columns, of which the third is a digit, and its last ones, of which the last two are
+-- a field's first columns, of which the third is a digit, and its last ones, of which the last is
 pub grown-start : (at : ℕ) (a b d : Cell) (t u v x : Tables) → at + 4 ≤ 80 → Grown at (a ∷ []) t u → Grown (at + 1) (b ∷ []) u v → Grown (at + 3) (d ∷ []) v x
     → Grown at (a ∷ b ∷ digit ∷ d ∷ []) t x
 grown-start at a b d t u v x h g i j = grown-four at a b digit d t u v v x g i (grown-digits v (at + 2) 1 (omega arith)) j
 
-pub grown-exponent : (at : ℕ) (a b : Cell) (t u v : Tables) → at + 4 ≤ 80 → Grown at (a ∷ []) t u → Grown (at + 1) (b ∷ []) u v → Grown at (a ∷ b ∷ digit ∷ digit ∷ []) t v
-grown-exponent at a b t u v h g i =
-    grown-four at a b digit digit t u v v v g i (grown-digits v (at + 2) 1 (omega arith)) (grown-digits v (at + 3) 1 (omega arith))
+pub grown-exponent : (at : ℕ) (a b c : Cell) (t u v x : Tables) → at + 4 ≤ 80 → Grown at (a ∷ []) t u → Grown (at + 1) (b ∷ []) u v → Grown (at + 2) (c ∷ []) v x
+    → Grown at (a ∷ b ∷ c ∷ digit ∷ []) t x
+grown-exponent at a b c t u v x h g i j = grown-four at a b c digit t u v x x g i j (grown-digits x (at + 3) 1 (omega arith))
 
 -- a loop over columns that take the same: none, one more, all
 module _ (at : ℕ) (c : Cell) where

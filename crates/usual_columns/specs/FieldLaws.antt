@@ -5,8 +5,10 @@ use mathlib.Core.Logic.{_⊎_, inl, inr, ⊎-elim}
 use mathlib.Core.List.{List, [], _∷_, _++_}
 use Prim.Native.Nat.{ℕ, zero, suc, _+_, _-_, _*_, _≤_, _<_}
 use native.Mathlib.Omega.{arith}
+use borrow.Author.Tests.{ne-eqb}
 use lib.IntN.{ℤ}
 use lib.ListN.{length, replicate, length-replicate}
+use Rattle.laws.specs.Cut.{lineLen}
 use Rattle.text.specs.Blank.{none, one, Blanks}
 use Rattle.text.specs.Parts.{Digits, Sign}
 use Rattle.line.specs.Line.{Allowed}
@@ -16,7 +18,7 @@ use Rattle.real.specs.Real.{realOf, numberOf}
 use Rattle.real.specs.RealLaws.{realOf-complete}
 use Rattle.real.specs.declared.Number.{Number}
 use Rattle.real.specs.declared.Real.the-variants.{Value}
-use Rattle.usual_columns.specs.Cells.{Cell, Takes, blank, minus, digit, point, lettered, sign, fieldCells, Fits}
+use Rattle.usual_columns.specs.Cells.{Cell, Takes, blank, minus, digit, digitTo, point, lettered, sign, exponentCells, fieldCells, Fits}
 use Rattle.usual_columns.specs.CellsLaws.{fits-split, fits-length}
 
 -- a text of three columns at least, the third of which is no blank
@@ -28,15 +30,20 @@ pub takes-blank : {b : ℕ} → Takes blank b → b ≡ 32
 takes-blank (inl (r, h, e)) = omega arith
 takes-blank (inr e) = e
 
-takes-minus : {b : ℕ} → Takes minus b → (b ≡ 32) ⊎ (b ≡ 45)
+pub takes-minus : {b : ℕ} → Takes minus b → (b ≡ 32) ⊎ (b ≡ 45)
 takes-minus (inl (r, h, e)) = inl (omega arith)
 takes-minus (inr e) = inr e
 
-takes-digit : {b : ℕ} → Takes digit b → (48 ≤ b) × (b ≤ 57)
+pub takes-digit : {b : ℕ} → Takes digit b → (48 ≤ b) × (b ≤ 57)
 takes-digit (inl (r, h, e)) = (omega arith, omega arith)
 takes-digit (inr e) = (omega arith, omega arith)
 
-takes-point : {b : ℕ} → Takes point b → b ≡ 46
+-- a digit up to a lower one is a digit
+takes-lower : {m b : ℕ} → m ≤ 9 → Takes (digitTo m) b → Takes digit b
+takes-lower l (inl (r, h, e)) = inl (r, omega arith, e)
+takes-lower l (inr e) = inr e
+
+pub takes-point : {b : ℕ} → Takes point b → b ≡ 46
 takes-point (inl (r, h, e)) = omega arith
 takes-point (inr e) = e
 
@@ -52,11 +59,11 @@ letter-high Letter.e = omega arith
 letter-high Letter.D = omega arith
 letter-high Letter.d = omega arith
 
-takes-letter : {l b : ℕ} → Letter l → Takes (lettered l) b → b ≡ l
+pub takes-letter : {l b : ℕ} → Letter l → Takes (lettered l) b → b ≡ l
 takes-letter {l} {b} x (inl (r, h, e)) = omega (arith, letter-low x)
 takes-letter x (inr e) = e
 
-takes-sign : {b : ℕ} → Takes sign b → (b ≡ 43) ⊎ (b ≡ 45)
+pub takes-sign : {b : ℕ} → Takes sign b → (b ≡ 43) ⊎ (b ≡ 45)
 takes-sign (inl (r, h, e)) = inl (omega arith)
 takes-sign (inr e) = inr e
 
@@ -104,21 +111,21 @@ back : {l s : ℕ} {ex : List ℕ} (b : ℕ) → Letter b → Takes (lettered b)
 back {l} {s} {ex} b x t g d n = rw (takes-letter x t) (ExponentSpelling.lettered ex x (g .sign) (d .digits) (rw n TwoOrThree.two))
 
 -- a field's columns: its first four, the digits after the point, its last four
-module _ (b w : ℕ) (x : Letter b) where
-  pub field-holds : {l : List ℕ} → w ≤ 25 → Fits (fieldCells b w) l → Holds l
+module _ (b m w : ℕ) (x : Letter b) (low : m ≤ 9) where
+  pub field-holds : {l : List ℕ} → w ≤ 25 → Fits (fieldCells b m w) l → Holds l
   unfolding fieldCells
   field-holds high (Fits.more {b = b0} t0 (Fits.more {b = b1} t1 (Fits.more {b = b2} t2 (Fits.more {b = b3} t3 f)))) =
-      let s = fits-split (replicate (w - 8) digit) (lettered b ∷ sign ∷ digit ∷ digit ∷ []) f in
+      let s = fits-split (replicate (w - 8) digit) (exponentCells b m) f in
       rw (s .is) (ending (s .first) (s .fits-first) (s .fits-second))
     where
-      ending : {y : List ℕ} (m : List ℕ) → Fits (replicate (w - 8) digit) m → Fits (lettered b ∷ sign ∷ replicate 2 digit) y
-          → Holds (b0 ∷ b1 ∷ b2 ∷ b3 ∷ (m ++ y))
-      ending m fm (Fits.more tl (Fits.more ts fd)) =
-          let n : length m ≡ w - 8 = fits-length fm ∙ length-replicate (w - 8) digit in
+      ending : {y : List ℕ} (p : List ℕ) → Fits (replicate (w - 8) digit) p → Fits (exponentCells b m) y → Holds (b0 ∷ b1 ∷ b2 ∷ b3 ∷ (p ++ y))
+      ending p fp (Fits.more tl (Fits.more ts (Fits.more td fd))) =
+          let n : length p ≡ w - 8 = fits-length fp ∙ length-replicate (w - 8) digit in
           let first = takes-digit t2 in
-          let whole = Digits.more (first .0) (first .1) (spelled-digits (w - 8) (0 * 10 + (b2 - 48)) fm .digits) in
-          front b0 b1 b2 b3 m _ (takes-blank t0) (takes-minus t1) (takes-point t3) whole (omega arith)
-          (back b x tl (signed-by ts) (spelled-digits 2 0 fd) (fits-length fd))
+          let whole = Digits.more (first .0) (first .1) (spelled-digits (w - 8) (0 * 10 + (b2 - 48)) fp .digits) in
+          let two : Fits (replicate 2 digit) _ = Fits.more (takes-lower low td) fd in
+          front b0 b1 b2 b3 p _ (takes-blank t0) (takes-minus t1) (takes-point t3) whole (omega arith)
+          (back b x tl (signed-by ts) (spelled-digits 2 0 two) (fits-length two))
 
 -- a column takes only bytes that may stand in one
 abbrev Printable : Cell → Type 0
@@ -156,17 +163,25 @@ pub blanks-fit : (n : ℕ) {l : List ℕ} → Fits (replicate n blank) l → Bla
 blanks-fit zero Fits.none = none
 blanks-fit (suc n) (Fits.more t f) = rw (takes-blank t) (one (blanks-fit n f))
 
-pub field-allowed : (b w : ℕ) {l : List ℕ} → Letter b → Fits (fieldCells b w) l → Allowed l
+-- and are on one line
+pub lineLen-allowed : {cs : List ℕ} (r : List ℕ) → Allowed cs → lineLen (cs ++ r) ≡ length cs + lineLen r
+unfolding lineLen
+lineLen-allowed r Allowed.none = omega arith
+lineLen-allowed r (Allowed.more {b} {bs} low high a) = rw (ne-eqb b 10 (λ (e : b ≡ 10). omega arith), lineLen-allowed r a) (omega arith)
+
+pub field-allowed : (b m w : ℕ) {l : List ℕ} → Letter b → m ≤ 9 → Fits (fieldCells b m w) l → Allowed l
 unfolding fieldCells
-field-allowed b w x (Fits.more t0 (Fits.more t1 (Fits.more t2 (Fits.more t3 f)))) =
-    let s = fits-split (replicate (w - 8) digit) (lettered b ∷ sign ∷ digit ∷ digit ∷ []) f in
+field-allowed b m w x low (Fits.more t0 (Fits.more t1 (Fits.more t2 (Fits.more t3 f)))) =
+    let s = fits-split (replicate (w - 8) digit) (exponentCells b m) f in
     allowed-on blank print-blank t0 (allowed-on minus print-minus t1 (allowed-on digit print-digit t2 (allowed-on point print-point t3
     (rw (s .is) (allowed-append (allowed-same (w - 8) digit print-digit (s .fits-first)) (ending (s .fits-second)))))))
   where
-    ending : {y : List ℕ} → Fits (lettered b ∷ sign ∷ replicate 2 digit) y → Allowed y
-    ending (Fits.more tl (Fits.more ts fd)) = allowed-on (lettered b) (print-letter x) tl (allowed-on sign print-sign ts (allowed-same 2 digit print-digit fd))
+    ending : {y : List ℕ} → Fits (exponentCells b m) y → Allowed y
+    ending (Fits.more tl (Fits.more ts (Fits.more td fd))) =
+        allowed-on (lettered b) (print-letter x) tl
+        (allowed-on sign print-sign ts (allowed-on digit print-digit (takes-lower low td) (allowed-same 1 digit print-digit fd)))
 
 -- its third column is no blank
-pub field-third : (b w : ℕ) {l : List ℕ} → Fits (fieldCells b w) l → Third l
+pub field-third : (b m w : ℕ) {l : List ℕ} → Fits (fieldCells b m w) l → Third l
 unfolding fieldCells
-field-third b w (Fits.more {b = b0} t0 (Fits.more {b = b1} t1 (Fits.more {b = b2} t2 f))) = third b0 b1 (λ (e : b2 ≡ 32). let h = takes-digit t2 in omega arith)
+field-third b m w (Fits.more {b = b0} t0 (Fits.more {b = b1} t1 (Fits.more {b = b2} t2 f))) = third b0 b1 (λ (e : b2 ≡ 32). let h = takes-digit t2 in omega arith)

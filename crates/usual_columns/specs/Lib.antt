@@ -4,3 +4,4 @@ pub mod FieldLaws
 pub mod Parts
 pub mod PartsLaws
 pub mod RowLaws
+pub mod WidthsLaws

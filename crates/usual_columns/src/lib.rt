@@ -71,13 +71,21 @@ fn put_start(lo: &mut [u8; 80], span: &mut [u8; 80], alt: &mut [u8; 80], at: usi
     put_column(lo, span, alt, at + 3, 46, 0, 46);
 }
 
-// Puts a field's last four columns over digits: the letter, a sign, two digits.
-fn put_exponent(lo: &mut [u8; 80], span: &mut [u8; 80], alt: &mut [u8; 80], at: usize, letter: u8)
+// Puts a field's last four columns over digits: the letter, a sign, two digits, of which the first is at most `most`.
+fn put_exponent(
+    lo: &mut [u8; 80],
+    span: &mut [u8; 80],
+    alt: &mut [u8; 80],
+    at: usize,
+    letter: u8,
+    most: u8,
+)
     requires { ⌜ at + 4 ≤ 80 ⌝ }
-    ensures { λ _. ⌜ Grown at (exponentCells letter) (tables (now (lo .entry)) (now (span .entry)) (now (alt .entry))) (tables (now (lo .exit)) (now (span .exit)) (now (alt .exit))) ⌝ }
+    ensures { λ _. ⌜ Grown at (exponentCells letter most) (tables (now (lo .entry)) (now (span .entry)) (now (alt .entry))) (tables (now (lo .exit)) (now (span .exit)) (now (alt .exit))) ⌝ }
 {
     put_column(lo, span, alt, at, letter, 0, letter);
     put_column(lo, span, alt, at + 1, 43, 0, 45);
+    put_column(lo, span, alt, at + 2, 48, most, 48);
 }
 
 // Puts a field of the usual spelling over digits.
@@ -88,13 +96,14 @@ fn put_field(
     at: usize,
     width: usize,
     letter: u8,
+    most: u8,
 )
     requires { ⌜ (at + width ≤ 80) × (9 ≤ width) ⌝ }
-    ensures { λ _. ⌜ Grown at (fieldCells letter width) (tables (now (lo .entry)) (now (span .entry)) (now (alt .entry))) (tables (now (lo .exit)) (now (span .exit)) (now (alt .exit))) ⌝ }
+    ensures { λ _. ⌜ Grown at (fieldCells letter most width) (tables (now (lo .entry)) (now (span .entry)) (now (alt .entry))) (tables (now (lo .exit)) (now (span .exit)) (now (alt .exit))) ⌝ }
 {
     let exponent = at + width - 4;
     put_start(lo, span, alt, at);
-    put_exponent(lo, span, alt, exponent, letter);
+    put_exponent(lo, span, alt, exponent, letter, most);
 }
 
 // Puts the fields of a row of these widths over digits; answers the column past them.
@@ -104,39 +113,54 @@ fn put_row(
     alt: &mut [u8; 80],
     widths: &[u8],
     letter: u8,
+    most: u8,
 ) -> usize
     requires { ⌜ Wide (now widths) × (total (now widths) ≤ 80) ⌝ }
-    ensures { λ r. ⌜ (r ≡ total (now (widths .entry))) × Grown 0 (rowCells letter (now (widths .entry))) (tables (now (lo .entry)) (now (span .entry)) (now (alt .entry))) (tables (now (lo .exit)) (now (span .exit)) (now (alt .exit))) ⌝ }
+    ensures { λ r. ⌜ (r ≡ total (now (widths .entry))) × Grown 0 (rowCells letter most (now (widths .entry))) (tables (now (lo .entry)) (now (span .entry)) (now (alt .entry))) (tables (now (lo .exit)) (now (span .exit)) (now (alt .exit))) ⌝ }
 {
     let mut at = 0;
     let mut k = 0;
     while k < widths.len() {
         let width = index(widths[k]);
-        put_field(lo, span, alt, at, width, letter);
+        put_field(lo, span, alt, at, width, letter, most);
         at += width;
         k += 1;
     }
     at
 }
 
-// Puts the tables of a line of such a row: its fields, blanks up to column `columns`, and any byte past it.
+// The greater of two numbers.
+fn greater(a: usize, b: usize) -> usize
+    ensures { λ r. ⌜ r ≡ a + (b - a) ⌝ }
+{
+    if a < b {
+        return b;
+    }
+    a
+}
+
+// Puts the tables of a line of such a row: its fields, whose exponents have this letter and a first digit of at most `most`, blanks up to column
+// `columns`, and any byte past it; answers how many columns the fields and blanks have.
 pub fn put_tables(
     lo: &mut [u8; 80],
     span: &mut [u8; 80],
     alt: &mut [u8; 80],
     widths: &[u8],
     letter: u8,
+    most: u8,
     columns: usize,
-)
-    requires { ⌜ Wide (now widths) × (total (now widths) ≤ columns) × (columns ≤ 80) ⌝ }
-    ensures { λ _. ⌜ Laid (tableCells letter (now (widths .entry)) columns) (tables (now (lo .exit)) (now (span .exit)) (now (alt .exit))) ⌝ }
+) -> usize
+    requires { ⌜ Wide (now widths) × (total (now widths) ≤ 80) × (columns ≤ 80) ⌝ }
+    ensures { λ r. ⌜ (r ≡ total (now (widths .entry)) + (columns - total (now (widths .entry)))) × Laid (tableCells letter most (now (widths .entry)) r) (tables (now (lo .exit)) (now (span .exit)) (now (alt .exit))) ⌝ }
 {
     *lo = [48u8; 80];
     *span = [9u8; 80];
     *alt = [48u8; 80];
-    let past = put_row(lo, span, alt, widths, letter);
-    put_columns(lo, span, alt, past, columns, 32, 0, 32);
-    put_columns(lo, span, alt, columns, 80, 0, 255, 0);
+    let past = put_row(lo, span, alt, widths, letter, most);
+    let end = greater(past, columns);
+    put_columns(lo, span, alt, past, end, 32, 0, 32);
+    put_columns(lo, span, alt, end, 80, 0, 255, 0);
+    end
 }
 
 // Whether each of the 80 bytes from `at` on is one that its column takes.

@@ -3,7 +3,8 @@ use mathlib.Core.Path.{sym}
 use native.Mathlib.Omega.{arith}
 use lib.Seq.{length-take-le}
 use Rattle.record.specs.ConditionLaws.{data-six}
-use Rattle.usual.specs.TakenLaws.{fields-six, shape-widths, shape-fits}
+use Rattle.usual_columns.specs.WidthsLaws.{fields-six}
+use Rattle.usual.specs.TakenLaws.{shape-widths, shape-fits, shape-columns}
 use borrow.Author.Needs.{needs}
 use Rattle.usual.proofs.tabled_run.Statement.{statement}
 use Rattle.usual.proofs.tabled_run.Tie as tie
@@ -33,7 +34,9 @@ passed-lines-requires c κs =
     let at-widths = at-tables .before .before .before .before .before in
     let at-start = at-widths .before .before in
     let shaped = at-start .pre .1 in
-    (at-start .pre .0, record { shaped = shaped; laid = rw (shape-widths _ shaped _ (at-widths .line-widths .ensures)) at (at-tables .put-tables .ensures) })
+    let six = at-widths .line-widths .ensures in
+    let put = at-tables .put-tables .ensures in
+    (at-start .pre .0, record { shaped = shaped; laid = rw (shape-widths _ shaped _ six, shape-columns _ shaped _ six _ (put .0)) at (put .1) })
 
 returns : tie.Need-returns
 returns c = search needs

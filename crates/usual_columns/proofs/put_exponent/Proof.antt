@@ -13,12 +13,26 @@ add-put-column c = search needs
 put-column-requires-2 : tie.Need-put-column-requires-2
 put-column-requires-2 c κs = search needs
 
+add-put-column-2 : tie.Need-add-put-column-2
+add-put-column-2 c = search needs
+
+put-column-requires-3 : tie.Need-put-column-requires-3
+put-column-requires-3 c κs = search needs
+
 returns : tie.Need-returns
 returns c =
-    let at-first = c .before .before .before .before in
+    let at-second = c .before .before .before .before in
+    let at-first = at-second .before .before .before .before in
     let at-start = at-first .before .before .before .before in
-    grown-exponent _ _ _ _ _ _ (at-start .pre) (at-first .put-column .ensures) (c .put-column2 .ensures)
+    grown-exponent _ _ _ _ _ _ _ _ (at-start .pre) (at-first .put-column .ensures) (at-second .put-column2 .ensures) (c .put-column3 .ensures)
 
 pub put-exponent-spec : {M : Type 1} → statement M
 put-exponent-spec =
-    tie.close (tie.spec put-column-requires add-put-column put-column-requires-2 returns)
+    tie.close
+    (tie.spec
+    put-column-requires
+    add-put-column
+    put-column-requires-2
+    add-put-column-2
+    put-column-requires-3
+    returns)

@@ -21,7 +21,7 @@ returns : tie.Need-returns
 returns c =
     let at-first = c .before .before .before .before in
     let at-start = at-first .before .before .before .before in
-    field-grown _ _ _ _ _ _ _ (at-start .pre .0) (at-start .pre .1) refl (at-first .put-start .ensures) (c .put-exponent .ensures)
+    field-grown _ _ _ _ _ _ _ _ (at-start .pre .0) (at-start .pre .1) refl (at-first .put-start .ensures) (c .put-exponent .ensures)
 
 pub put-field-spec : {M : Type 1} → statement M
 put-field-spec =

@@ -13,20 +13,20 @@ use Rattle.usual_columns.proofs.put_row.Statement.{statement}
 use Rattle.usual_columns.proofs.put_row.Tie as tie
 
 -- the fields before field k stand
-record Going (t₀ : Tables) (widths : List ℕ) (letter : ℕ) (t : Tables) (at k : ℕ) : Type 0 where
+record Going (t₀ : Tables) (widths : List ℕ) (letter most : ℕ) (t : Tables) (at k : ℕ) : Type 0 where
   within : k ≤ length widths
   at-is : at ≡ fieldStart widths k
-  grown : Grown 0 (rowCells letter (take k widths)) t₀ t
+  grown : Grown 0 (rowCells letter most (take k widths)) t₀ t
 
 abbrev Inv-loop : tie.InvT-loop
-Inv-loop lo₀ span₀ alt₀ widths letter at₀ k₀ lo span alt at k = Going (tables lo₀ span₀ alt₀) widths letter (tables lo span alt) at k
+Inv-loop lo₀ span₀ alt₀ widths letter most at₀ k₀ lo span alt at k = Going (tables lo₀ span₀ alt₀) widths letter most (tables lo span alt) at k
 
 abbrev μ-loop : tie.MeasureT-loop
-μ-loop lo₀ span₀ alt₀ widths letter at₀ k₀ lo span alt at k = length widths - k
+μ-loop lo₀ span₀ alt₀ widths letter most at₀ k₀ lo span alt at k = length widths - k
 
 loop-holds : tie.Need-loop-holds Inv-loop μ-loop
 unfolding fieldStart
-loop-holds c = record { within = search needs; at-is = refl; grown = row-grown-none _ (c .before .args .widths .now) _ }
+loop-holds c = record { within = search needs; at-is = refl; grown = row-grown-none _ _ (c .before .args .widths .now) _ }
 
 shared-slice-read-index : tie.Need-shared-slice-read-index Inv-loop μ-loop
 shared-slice-read-index c = search needs
@@ -66,13 +66,13 @@ loop-again c =
     record {
       within = search needs;
       at-is = row-on _ _ _ _ (inv .at-is) (at-index .index .ensures);
-      grown = row-grown-next _ _ _ _ _ _ _ _ (pre .0) more (inv .at-is) (at-index .index .ensures) (inv .grown) (c .put-field .ensures);
+      grown = row-grown-next _ _ _ _ _ _ _ _ _ (pre .0) more (inv .at-is) (at-index .index .ensures) (inv .grown) (c .put-field .ensures);
     }
 
 returns : tie.Need-returns Inv-loop μ-loop
 returns c = (
   c .before .loop .inv .at-is ∙ fieldStart-total _ _ (c .loop-test .left),
-  row-grown-all _ _ _ _ _ (c .loop-test .left) (c .before .loop .inv .grown),
+  row-grown-all _ _ _ _ _ _ (c .loop-test .left) (c .before .loop .inv .grown),
 )
 
 pub put-row-spec : {M : Type 1} → statement M
