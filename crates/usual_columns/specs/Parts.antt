@@ -41,7 +41,7 @@ fieldOf (asked w r) = I w r
 abbrev pub cellsOf : Part → List Cell
 cellsOf (skipped w) = replicate w blank
 cellsOf (text w) = replicate w printable
-cellsOf (real w) = fieldCells 69 w
+cellsOf (real w) = fieldCells 69 9 w
 cellsOf (coded n r cs) = replicate n blank ++ cs
 cellsOf (asked w r) = replicate w printable
 

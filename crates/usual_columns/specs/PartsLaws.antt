@@ -1,16 +1,15 @@
 -- A line that fits the columns of its record's parts, and of which those that are asked pass, is refused for nothing by its fields.
-use mathlib.Core.Path.{_≡_, refl, sym, ap, _∙_}
+use mathlib.Core.Path.{_≡_, refl, sym, _∙_}
 use mathlib.Core.Bool.{Bool, true, false, not, _&&_}
 use mathlib.Core.Logic.{_⊎_, inl, inr}
-use mathlib.Core.List.{List, [], _∷_, _++_, map, append-assoc, append-nil}
+use mathlib.Core.List.{List, [], _∷_, _++_, map, append-nil}
 use Prim.Native.Nat.{ℕ, zero, suc, _+_, _-_, _%_, _≤_, _<_}
 use native.Mathlib.Omega.{arith}
 use borrow.Author.Tests.{leb-true, eqb-true}
-use lib.Dec.{leb, eqb}
+use lib.Dec.{leb}
 use lib.ListN.{length, take, drop, replicate, length-append, length-map, length-replicate}
-use lib.Seq.{take-at, take-all, drop-at, drop-drop}
+use lib.Seq.{take-all}
 use Rattle.laws.specs.Choice.{pick}
-use Rattle.laws.specs.Ranges.{allAre}
 use Rattle.laws.specs.RangesLaws.{in-range}
 use Rattle.laws.specs.ChoiceLaws.{and-left, and-right, false-not-true}
 use Rattle.laws.specs.Run.{run}
@@ -18,19 +17,18 @@ use Rattle.text.specs.Parts.{isDigit}
 use Rattle.integer.specs.Integer.{integerOf, endInteger, stepInteger, push}
 use Rattle.codes.specs.Rule.{keeps}
 use Rattle.text.specs.Blank.{allBlank, Blanks}
-use Rattle.text.specs.BlankLaws.{allBlank-complete, blanks-take}
+use Rattle.text.specs.BlankLaws.{allBlank-complete}
 use Rattle.line.specs.Line.{passed}
 use Rattle.real.specs.Spelling.{Letter}
-use Rattle.codes.specs.Form.{integer, never}
 use Rattle.field.specs.Field.{mayBlank, fieldNumber}
 use Rattle.record_table.specs.Row.{Field}
 use Rattle.record_table.specs.Records.{identificationForm, functionForm, dataForm, axisForm, records, recordOf}
 use Rattle.record.specs.Check.{orElse, otherwise, strayFault, fieldsFault, firstNonBlank, strayIn, stray, fieldsRefusal}
-use Rattle.record.specs.CheckLaws.{firstByte-blank, fieldsRefusal-passed}
+use Rattle.record.specs.CheckLaws.{firstByte-blank}
 use Rattle.usual_columns.specs.Cells.{Cell, Takes, blank, digit, fieldCells, Fits, tables, Begins, Laid, Passed}
-use Rattle.usual_columns.specs.CellsLaws.{fits-split, fits-length, fits-passed}
+use Rattle.usual_columns.specs.CellsLaws.{fits-split, fits-passed}
 use Rattle.usual_columns.specs.FieldLaws.{takes-blank, field-holds, blanks-fit}
-use Rattle.usual_columns.specs.RowLaws.{field-length}
+use Rattle.usual_columns.specs.RowLaws.{field-length, Clear, clear-end, clear-on, fits-on, clear-passes}
 use Rattle.usual_columns.specs.Parts.{printable, Part, skipped, text, real, coded, asked, fieldOf, cellsOf, partsCells, recordCells, allTaken, allFit, isSure, allSure, PassesAt, AskedAt, Asked, functionParts, dataParts, axisParts}
 
 -- a test of all that columns take holds for what fits them
@@ -54,7 +52,7 @@ fit-blanks (suc n) (Fits.more {b = b} {bs = bs} t f) = rw (takes-blank t, fit-bl
 part-length : (p : Part) → isSure p ≡ true → length (cellsOf p) ≡ fieldOf p .width
 part-length (skipped w) h = length-replicate w blank
 part-length (text w) h = length-replicate w printable
-part-length (real w) h = field-length 69 w (leb-true 9 w (and-left (leb 9 w) (leb w 25) h))
+part-length (real w) h = field-length 69 9 w (leb-true 9 w (and-left (leb 9 w) (leb w 25) h))
 part-length (coded n r cs) h = length-append (replicate n blank) cs ∙ rw (length-replicate n blank) refl
 part-length (asked w r) h = length-replicate w printable
 
@@ -64,7 +62,7 @@ part-passes : (p : Part) (at : ℕ) (line : List ℕ) {l : List ℕ} → isSure 
 unfolding fieldNumber mayBlank
 part-passes (skipped w) at line h e f a = refl
 part-passes (text w) at line h e f a = refl
-part-passes (real w) at line h e f a = rw (e, field-holds 69 w Letter.E (leb-true w 25 (and-right (leb 9 w) (leb w 25) h)) f .is) refl
+part-passes (real w) at line h e f a = rw (e, field-holds 69 9 w Letter.E (omega arith) (leb-true w 25 (and-right (leb 9 w) (leb w 25) h)) f .is) refl
 part-passes (coded n r cs) at line h e f a =
     let s = fits-split (replicate n blank) cs f in
     rw (e, s .is, fit-blanks n (s .fits-first)) (eqb-true _ _ (fit-all _ h (s .fits-second)))
@@ -77,35 +75,15 @@ part-clean (real w) k f = refl
 part-clean (coded n r cs) k f = refl
 part-clean (asked w r) k f = refl
 
--- a line's fields from a column on are refused for nothing
-record Clear (fs : List Field) (at : ℕ) (line : List ℕ) : Type 0 where
-  no-fault : fieldsFault fs at line ≡ passed
-  no-stray : stray fs at line ≡ 0
-
-clear-on : (p : Part) (ps : List Part) (at : ℕ) (line : List ℕ) {l : List ℕ} → PassesAt (fieldOf p) at line → take (fieldOf p .width) (drop at line) ≡ l
-    → strayIn (fieldOf p .form) (at + 1) l ≡ 0 → Clear (map fieldOf ps) (at + fieldOf p .width) line → Clear (map fieldOf (p ∷ ps)) at line
-unfolding fieldsFault stray
-clear-on p ps at line n e s c = record { no-fault = rw n (c .no-fault); no-stray = rw (e, s) (c .no-stray) }
-
-clear-end : (at : ℕ) (line : List ℕ) {bl : List ℕ} → drop at line ≡ bl → Blanks bl → Clear [] at line
-unfolding fieldsFault stray
-clear-end at line {bl} e n =
-    record { no-fault = refl; no-stray = rw e (firstByte-blank (at + 1) (take (80 - at) bl) (allBlank-complete (blanks-take (80 - at) n))) }
-
 parts-clear : (ps : List Part) (at : ℕ) (line : List ℕ) {m bl : List ℕ} → allSure ps ≡ true → drop at line ≡ m ++ bl → Fits (partsCells ps) m → Blanks bl → Asked ps at line
     → Clear (map fieldOf ps) at line
 unfolding partsCells allSure Asked
 parts-clear [] at line h e Fits.none n a = clear-end at line e n
-parts-clear (p ∷ ps) at line {bl = bl} h e f n a =
+parts-clear (p ∷ ps) at line h e f n a =
     let sure = and-left (isSure p) (allSure ps) h in
-    let s = fits-split (cellsOf p) (partsCells ps) f in
-    let k : length (s .first) ≡ fieldOf p .width = fits-length (s .fits-first) ∙ part-length p sure in
-    let parts : drop at line ≡ s .first ++ (s .second ++ bl) = e ∙ ap (λ (x : List ℕ). x ++ bl) (s .is) ∙ append-assoc (s .first) (s .second) bl in
-    let here : take (fieldOf p .width) (drop at line) ≡ s .first = rw parts (take-at (s .first) (s .second ++ bl) (fieldOf p .width) k) in
-    let on : drop (at + fieldOf p .width) line ≡ s .second ++ bl
-    = sym (drop-drop (fieldOf p .width) at line) ∙ rw parts (drop-at (s .first) (s .second ++ bl) (fieldOf p .width) k) in
-    clear-on p ps at line (part-passes p at line sure here (s .fits-first) (a .0)) here (part-clean p (at + 1) (s .fits-first))
-    (parts-clear ps (at + fieldOf p .width) line (and-right (isSure p) (allSure ps) h) on (s .fits-second) n (a .1))
+    let o = fits-on (cellsOf p) (partsCells ps) (fieldOf p .width) at line (part-length p sure) e f in
+    clear-on (fieldOf p) (map fieldOf ps) at line (o .here) (part-passes p at line sure (o .here) (o .fits-first) (a .0)) (part-clean p (at + 1) (o .fits-first))
+    (parts-clear ps (at + fieldOf p .width) line (and-right (isSure p) (allSure ps) h) (o .on) (o .fits-second) n (a .1))
 
 -- a line of 80 columns that fits
 pub record-passes : (ps : List Part) (fs : List Field) (line : List ℕ) → map fieldOf ps ≡ fs → allSure ps ≡ true → Fits (recordCells ps) line → Asked ps 0 line
@@ -113,8 +91,7 @@ pub record-passes : (ps : List Part) (fs : List Field) (line : List ℕ) → map
 unfolding recordCells
 record-passes ps fs line e h f a =
     let s = fits-split (partsCells ps) (replicate (80 - length (partsCells ps)) blank) f in
-    let c = parts-clear ps 0 line h (s .is) (s .fits-first) (blanks-fit (80 - length (partsCells ps)) (s .fits-second)) a in
-    rw (← e) (fieldsRefusal-passed (map fieldOf ps) line passed (sym (c .no-fault)) (omega arith) 0 (sym (c .no-stray)) (omega arith))
+    rw (← e) (clear-passes (parts-clear ps 0 line h (s .is) (s .fits-first) (blanks-fit (80 - length (partsCells ps)) (s .fits-second)) a))
 
 -- the parts are those of the record of a number, all sure to pass, and make 80 columns
 pub record Usual (k : ℕ) (ps : List Part) : Type 0 where

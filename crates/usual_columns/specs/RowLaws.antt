@@ -19,9 +19,10 @@ use Rattle.delimiter.specs.Kind.{isDelimiter, thenBlank}
 use Rattle.layout.specs.Columns.{fieldStart, fieldPast, total}
 use Rattle.layout.specs.ColumnsLaws.{fieldPast-total, fieldStart-next}
 use Rattle.real.specs.Spelling.{Letter}
-use Rattle.field.specs.Field.{fieldNumber}
+use Rattle.field.specs.Field.{mayBlank, fieldNumber}
+use Rattle.record_table.specs.Row.{Field}
 use Rattle.record_table.specs.Records.{E}
-use Rattle.record.specs.Check.{fieldsFault, stray, fieldsRefusal}
+use Rattle.record.specs.Check.{fieldsFault, strayIn, stray, fieldsRefusal}
 use Rattle.record.specs.CheckLaws.{firstByte-blank, fieldsRefusal-passed}
 use Rattle.usual_columns.specs.Cells.{Cell, blank, digit, any, startCells, exponentCells, fieldCells, rowCells, lineCells, tableCells, Wide, Fits, Tables, tables, Laid, Grown, Passed}
 use Rattle.usual_columns.specs.CellsLaws.{grown-none, grown-on, grown-digits, fits-split, fits-length, fits-passed}
@@ -98,6 +99,47 @@ pub row-on : (ws : List ℕ) (k at w : ℕ) → at ≡ fieldStart ws k → w ≡
 unfolding fieldPast
 row-on ws k at w e f = omega (arith, rw (← add-one k) at (fieldStart-next ws k))
 
+-- a line's fields from a column on are refused for nothing: past the last one, and with one more
+pub record Clear (fs : List Field) (at : ℕ) (line : List ℕ) : Type 0 where
+  pub no-fault : fieldsFault fs at line ≡ passed
+  pub no-stray : stray fs at line ≡ 0
+
+pub clear-end : (at : ℕ) (line : List ℕ) {bl : List ℕ} → drop at line ≡ bl → Blanks bl → Clear [] at line
+unfolding fieldsFault stray
+clear-end at line {bl} e n =
+    record { no-fault = refl; no-stray = rw e (firstByte-blank (at + 1) (take (80 - at) bl) (allBlank-complete (blanks-take (80 - at) n))) }
+
+pub clear-on : (f : Field) (fs : List Field) (at : ℕ) (line : List ℕ) {l : List ℕ} → take (f .width) (drop at line) ≡ l
+    → fieldNumber (f .form) (mayBlank (f .form) line) (take (f .width) (drop at line)) ≡ 0 → strayIn (f .form) (at + 1) l ≡ 0 → Clear fs (at + f .width) line → Clear (f ∷ fs) at line
+unfolding fieldsFault stray
+clear-on f fs at line e n s c = record { no-fault = rw n (c .no-fault); no-stray = rw (e, s) (c .no-stray) }
+
+-- columns that fit a field and then more, by the line's columns
+pub record On (a b : List Cell) (w at : ℕ) (line bl : List ℕ) : Type 0 where
+  pub first : List ℕ
+  pub second : List ℕ
+  pub here : take w (drop at line) ≡ first
+  pub on : drop (at + w) line ≡ second ++ bl
+  pub fits-first : Fits a first
+  pub fits-second : Fits b second
+
+pub fits-on : (a b : List Cell) (w at : ℕ) (line : List ℕ) {r bl : List ℕ} → length a ≡ w → drop at line ≡ r ++ bl → Fits (a ++ b) r → On a b w at line bl
+fits-on a b w at line {bl = bl} n e f =
+    let s = fits-split a b f in
+    let k : length (s .first) ≡ w = fits-length (s .fits-first) ∙ n in
+    let parts : drop at line ≡ s .first ++ (s .second ++ bl) = e ∙ ap (λ (m : List ℕ). m ++ bl) (s .is) ∙ append-assoc (s .first) (s .second) bl in
+    record {
+      first = s .first;
+      second = s .second;
+      here = rw parts (take-at (s .first) (s .second ++ bl) w k);
+      on = sym (drop-drop w at line) ∙ rw parts (drop-at (s .first) (s .second ++ bl) w k);
+      fits-first = s .fits-first;
+      fits-second = s .fits-second;
+    }
+
+pub clear-passes : {fs : List Field} {line : List ℕ} → Clear fs 0 line → fieldsRefusal fs line ≡ passed
+clear-passes {fs} {line} c = fieldsRefusal-passed fs line passed (sym (c .no-fault)) (omega arith) 0 (sym (c .no-stray)) (omega arith)
+
 module _ (b m : ℕ) (x : Letter b) (few : m ≤ 9) where
   pub row-allowed : {ws r : List ℕ} → Wide ws → Fits (rowCells b m ws) r → Allowed r
   unfolding rowCells
@@ -106,28 +148,16 @@ module _ (b m : ℕ) (x : Letter b) (few : m ≤ 9) where
       let s = fits-split (fieldCells b m w) (rowCells b m ws) f in
       rw (s .is) (allowed-append (field-allowed b m w x few (s .fits-first)) (row-allowed h (s .fits-second)))
 
-  -- a line that begins with such columns, then blanks, by the fields from one column on
-  pub record Clear (ws : List ℕ) (at : ℕ) (line : List ℕ) : Type 0 where
-    pub no-fault : fieldsFault (map E ws) at line ≡ passed
-    pub no-stray : stray (map E ws) at line ≡ 0
-
-  row-clear : {ws : List ℕ} (at : ℕ) (line : List ℕ) {r bl : List ℕ} → Wide ws → drop at line ≡ r ++ bl → Fits (rowCells b m ws) r → Blanks bl → Clear ws at line
-  unfolding rowCells fieldsFault stray fieldNumber
-  row-clear at line {bl = bl} Wide.none e Fits.none n =
-      record { no-fault = refl; no-stray = rw e (firstByte-blank (at + 1) (take (80 - at) bl) (allBlank-complete (blanks-take (80 - at) n))) }
-  row-clear at line {bl = bl} (Wide.more {w} {ws} low high h) e f n =
-      let s = fits-split (fieldCells b m w) (rowCells b m ws) f in
-      let k : length (s .first) ≡ w = fits-length (s .fits-first) ∙ field-length b m w low in
-      let parts : drop at line ≡ s .first ++ (s .second ++ bl) = e ∙ ap (λ (m : List ℕ). m ++ bl) (s .is) ∙ append-assoc (s .first) (s .second) bl in
-      let here : take w (drop at line) ≡ s .first = rw parts (take-at (s .first) (s .second ++ bl) w k) in
-      let on : drop (at + w) line ≡ s .second ++ bl = sym (drop-drop w at line) ∙ rw parts (drop-at (s .first) (s .second ++ bl) w k) in
-      let rest = row-clear (at + w) line h on (s .fits-second) n in
-      record { no-fault = rw (here, field-holds b m w x few high (s .fits-first) .is) (rest .no-fault); no-stray = rest .no-stray }
+  row-clear : {ws : List ℕ} (at : ℕ) (line : List ℕ) {r bl : List ℕ} → Wide ws → drop at line ≡ r ++ bl → Fits (rowCells b m ws) r → Blanks bl → Clear (map E ws) at line
+  unfolding rowCells fieldNumber
+  row-clear at line Wide.none e Fits.none n = clear-end at line e n
+  row-clear at line (Wide.more {w} {ws} low high h) e f n =
+      let o = fits-on (fieldCells b m w) (rowCells b m ws) w at line (field-length b m w low) e f in
+      clear-on (E w) (map E ws) at line (o .here) (rw (o .here, field-holds b m w x few high (o .fits-first) .is) refl) refl
+      (row-clear (at + w) line h (o .on) (o .fits-second) n)
 
   pub row-passes : {ws : List ℕ} (line : List ℕ) {r bl : List ℕ} → Wide ws → line ≡ r ++ bl → Fits (rowCells b m ws) r → Blanks bl → fieldsRefusal (map E ws) line ≡ passed
-  row-passes {ws} line h e f n =
-      let c = row-clear 0 line h e f n in
-      fieldsRefusal-passed (map E ws) line passed (sym (c .no-fault)) (omega arith) 0 (sym (c .no-stray)) (omega arith)
+  row-passes line h e f n = clear-passes (row-clear 0 line h e f n)
 
   -- no LF stands in its fields
   pub row-line : {ws r : List ℕ} (rest : List ℕ) → Wide ws → Fits (rowCells b m ws) r → lineLen (r ++ rest) ≡ total ws + lineLen rest
