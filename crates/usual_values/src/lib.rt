@@ -1,121 +1,13 @@
-// Data lines in the usual spelling: the test for a line, and the bit pattern of a number on it.
+// Numbers in the usual spelling: the bit pattern of the f64 that each is read as.
 ghost use mathlib.Core.Path.{_≡_};
-ghost use mathlib.Core.Bool.{true};
-ghost use Prim.Native.Nat.{_+_, _≤_, _<_, min};
-ghost use lib.ListN.{length, getD};
-ghost use Rattle.real.specs.Real.{isLetter};
+ghost use Prim.Native.Nat.{_+_, _≤_, min};
+ghost use lib.ListN.{length};
 ghost use Rattle.exact.specs.Bits.{bitsOf};
 ghost use Rattle.exact.specs.Exact.{withSign};
-ghost use Rattle.usual_values.specs.Usual.{chosenOf, boundOf, boundIn, TableOf, Passed, UsualField};
+ghost use Rattle.usual_values.specs.Usual.{UsualField};
 ghost use Rattle.usual_values.specs.Number.{AllDigits, Spelled, PowersTo, placeOf, magnitudeAt, Magnitude, UsualRead};
 use laws::index;
 use laws::wide;
-
-// The letter E, e, D or d that this byte is; E where it is none.
-pub fn letter_of(b: u8) -> u8
-    ensures { λ r. ⌜ isLetter r ≡ true ⌝ }
-{
-    if b == 101 {
-        return 101;
-    }
-    if b == 68 {
-        return 68;
-    }
-    if b == 100 {
-        return 100;
-    }
-    69
-}
-
-// The least (part 0), the greatest (part 1) or the other one of three bytes.
-fn chosen(part: usize, least: u8, greatest: u8, other: u8) -> u8
-    ensures { λ r. ⌜ r ≡ chosenOf part least greatest other ⌝ }
-{
-    if part == 0 {
-        return least;
-    }
-    if part == 1 {
-        return greatest;
-    }
-    other
-}
-
-// What a column, counted from 0, of a field of this width takes in the usual spelling, the exponent's first digit being 0.
-fn bound(part: usize, letter: u8, width: usize, column: usize) -> u8
-    requires { ⌜ column < width ⌝ }
-    ensures { λ r. ⌜ r ≡ boundOf part letter width column ⌝ }
-{
-    let left = width - column;
-    if column == 0 {
-        return 32;
-    }
-    if column == 1 {
-        return chosen(part, 32, 32, 45);
-    }
-    if column == 3 {
-        return 46;
-    }
-    if left == 4 {
-        return letter;
-    }
-    if left == 3 {
-        return chosen(part, 43, 43, 45);
-    }
-    if left == 2 {
-        return 48;
-    }
-    chosen(part, 48, 57, 48)
-}
-
-// What a column of a line of fields of these widths takes; any byte past the last field.
-fn line_bound(part: usize, letter: u8, widths: &[u8], column: usize) -> u8
-    ensures { λ r. ⌜ r ≡ boundIn part letter (now (widths .entry)) column ⌝ }
-{
-    let mut at = column;
-    let mut k = 0;
-    while k < widths.len() {
-        let width = index(widths[k]);
-        if at < width {
-            return bound(part, letter, width, at);
-        }
-        at -= width;
-        k += 1;
-    }
-    chosen(part, 0, 255, 0)
-}
-
-// What the 80 columns of such a line take: the least bytes, then the greatest, then the other ones.
-pub fn usual_table(letter: u8, widths: &[u8]) -> [u8; 240]
-    ensures { λ r. ⌜ TableOf letter (now (widths .entry)) r ⌝ }
-{
-    let mut table = [0u8; 240];
-    let mut k = 0;
-    while k < 240 {
-        table[k] = line_bound(k / 80, letter, widths, k % 80);
-        k += 1;
-    }
-    table
-}
-
-// Whether the 80 bytes from byte `at` on are what the table takes; not where the file ends before them.
-pub fn passes(file: &[u8], at: usize, table: &[u8; 240]) -> bool
-    ensures { λ r. ⌜ (r ≡ true → Passed (now (table .entry)) (now (file .entry)) at) ⌝ }
-{
-    if file.len() < 80 {
-        return false;
-    }
-    if file.len() - 80 < at {
-        return false;
-    }
-    let mut fine = true;
-    let mut k = 0;
-    while k < 80 {
-        let b = file[at + k];
-        fine = fine & (((table[k] <= b) & (b <= table[80 + k])) | (b == table[160 + k]));
-        k += 1;
-    }
-    fine
-}
 
 // The lesser of two numbers.
 fn lesser(a: usize, b: usize) -> usize

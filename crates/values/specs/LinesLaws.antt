@@ -4,23 +4,25 @@ use mathlib.Core.Logic.{_⊎_, inl, inr, ⊎-elim}
 use mathlib.Core.Bool.{Bool, true, false, _||_}
 use mathlib.Core.List.{List}
 use Prim.Native.Nat.{ℕ, zero, suc, _+_, _-_, _*_, _/_, _%_, _≤_, _<_, min}
-use native.Mathlib.Nat.{eq-zero-or-pos, div-self, mod-self, div-eq-of-lt, mod-eq-of-lt, mul-add-div-right, mul-add-mod-self-right}
+use native.Mathlib.Nat.{sub-zero, eq-zero-or-pos, div-self, mod-self, div-eq-of-lt, mod-eq-of-lt, mul-add-div-right, mul-add-mod-self-right}
 use native.Mathlib.Omega.{arith}
 use borrow.Author.Tests.{le-leb, lt-ltb, eqb-true}
 use lib.Dec.{eqb}
 use lib.Ieee.{Float}
-use lib.ListN.{length, getD, take, drop, set, length-set}
+use lib.ListN.{length, getD, drop, set, length-set}
+use lib.Seq.{drop-at, drop-drop}
+use Rattle.laws.specs.Choice.{pick}
 use Rattle.laws.specs.Cut.{cut, lineLen}
 use Rattle.laws.specs.Ranges.{allAre}
 use Rattle.laws.specs.RangesLaws.{in-range}
 use Rattle.laws.specs.Table.{tabulate}
-use Rattle.laws.specs.TableLaws.{table-at, agree-below}
-use Rattle.real.specs.declared.Real.{Real}
-use Rattle.real.specs.Real.{realOf}
+use Rattle.laws.specs.TableLaws.{table-at}
+use Rattle.real.specs.Real.{isLetter, realOf}
+use Rattle.real.specs.ByteLaws.{isLetter-sound}
 use Rattle.layout.specs.Columns.{lineOf, fieldOf, fieldStart, fieldPast, total}
-use Rattle.layout.specs.ColumnsLaws.{stored-at, fieldStart-total}
-use Rattle.layout.specs.Layout.{layoutOf, layouts, fieldsOf, valuesOf, cellOf}
-use Rattle.layout.specs.LayoutLaws.{fieldsOf-some, widths-six, total-inside, fieldPast-inside}
+use Rattle.layout.specs.ColumnsLaws.{stored-at}
+use Rattle.layout.specs.Layout.{layoutOf, layouts, fieldsOf, cellOf}
+use Rattle.layout.specs.LayoutLaws.{fieldsOf-some, widths-six, total-inside, field-inside, fieldPast-inside}
 use Rattle.record_table.specs.TypedSets.{headerLines}
 use Rattle.parts.specs.Scan.{skipTo}
 use Rattle.parts.specs.SetLaws.{skip-next}
@@ -29,17 +31,22 @@ use Rattle.reader.specs.declared.Read.{Read}
 use Rattle.reader.specs.declared.Read.the-variants as read
 use Rattle.reader.specs.Reader.{readIn, readOf, reads}
 use Rattle.reader.specs.Find.{lineAt, spanOf, realAt}
-use Rattle.usual_values.specs.Usual.{Passed, UsualField}
-use Rattle.usual_values.specs.UsualLaws.{field-usual, end-past}
+use Rattle.usual_columns.specs.Cells.{tableCells, Wide, Tables, Laid, Passed}
+use Rattle.usual_columns.specs.CellsLaws.{fits-length}
+use Rattle.usual_columns.specs.RowLaws.{Begun, wide-at, row-length, row-line, row-field, row-begun}
+use Rattle.usual_columns.specs.WidthsLaws.{layout-wide, layout-some}
+use Rattle.usual_values.specs.Usual.{UsualField}
+use Rattle.usual_values.specs.UsualLaws.{field-usual}
 use Rattle.usual_values.specs.Number.{PowersTo, UsualRead}
 use Rattle.usual_values.specs.NumberLaws.{usual-value}
+use Rattle.values.specs.declared.Plan.{Plan}
 use Rattle.values.specs.declared.Spot.{Spot}
 use Rattle.values.specs.declared.Turn.{Turn}
 use Rattle.values.specs.Spot.{spot, spotOf, AtSpot}
 use Rattle.values.specs.SpotLaws.{skip-further}
 use Rattle.values.specs.Fill.{refusalIn, patternOr, patternsPut}
-use Rattle.values.specs.FillLaws.{refusal-next, patterns-next}
-use Rattle.values.specs.Lines.{field, TableFor, UsualLine, filled, Filled}
+use Rattle.values.specs.FillLaws.{refusal-next, patterns-none, patterns-next}
+use Rattle.values.specs.Lines.{field, plan, TablesFor, Planned, Lent, UsualLine, filled, Gone, AllRead}
 
 pub some : (n : ℕ) → (n ≡ 0 → ⊥) → 0 < n
 some n h = ⊎-elim (λ (e : n ≡ 0). absurd (h e)) (λ (p : 0 < n). p) (eq-zero-or-pos n)
@@ -48,11 +55,7 @@ some n h = ⊎-elim (λ (e : n ≡ 0). absurd (h e)) (λ (p : 0 < n). p) (eq-zer
 pub powers-all : (n : ℕ) (t : List Float) → 22 ≤ n → PowersTo (min n 22) t → PowersTo 22 t
 powers-all n t h p = let z : min n 22 ≡ 22 = omega arith in rw z at p
 
--- The fields of a case: the code's row of six widths, without the zeros past its last, and each of 13 or 20 columns.
-
-pub row-widths : (c : ℕ) → c < 8 → take (fieldsOf c) (tabulate (cellOf c) 0 6) ≡ layoutOf c .widths
-unfolding fieldsOf valuesOf layoutOf layouts cellOf
-row-widths c h = agree-below (λ (i : ℕ). take (fieldsOf i) (tabulate (cellOf i) 0 6)) (λ (i : ℕ). layoutOf i .widths) 8 c refl h
+-- The fields of a case: each of 13 or 20 columns, as the code has them.
 
 abbrev widthFits : ℕ → ℕ → Bool
 widthFits c k = eqb (getD (layoutOf c .widths) k 0) 13 || eqb (getD (layoutOf c .widths) k 0) 20
@@ -68,14 +71,6 @@ width-either c k h l = go (eqb (getD (layoutOf c .widths) k 0) 13) refl (width-f
     go true e q = inl (eqb-true _ 13 e)
     go false e q = inr (eqb-true _ 20 q)
 
-pub row-length : (c : ℕ) → c < 8 → fieldsOf c ≡ length (take (fieldsOf c) (tabulate (cellOf c) 0 6))
-unfolding fieldsOf
-row-length c h = sym (ap length (row-widths c h))
-
-pub fields-six : (c : ℕ) → fieldsOf c ≤ 6
-unfolding fieldsOf
-fields-six c = widths-six c
-
 -- the code's widths are the layout's
 pub width-own : (c k : ℕ) (ws : List ℕ) → ws ≡ tabulate (cellOf c) 0 6 → k < fieldsOf c → getD ws k 0 ≡ getD (layoutOf c .widths) k 0
 unfolding cellOf fieldsOf
@@ -83,32 +78,71 @@ width-own c k ws e h =
     let six : k < 6 = omega (arith, widths-six c) in
     table-at (cellOf c) ws 6 k 0 e six ∙ rw (lt-ltb k 6 six) refl
 
--- the columns of all fields
-pub columns-total : (c n m : ℕ) → n ≡ fieldsOf c → m ≡ fieldStart (layoutOf c .widths) n → m ≡ total (layoutOf c .widths)
-unfolding fieldsOf
-columns-total c n m e f = f ∙ rw e (fieldStart-total (layoutOf c .widths) _ (omega arith))
+-- the row of a case, for its tables
+module _ (c : ℕ) (l : List ℕ) (own : l ≡ layoutOf c .widths) where
+  pub row-count : length l ≡ fieldsOf c
+  unfolding fieldsOf
+  row-count = ap length own
+
+  pub row-fits : c < 8 → Wide l × (total l ≤ 80) × (0 ≤ 80)
+  row-fits h = rw own (layout-wide c h, total-inside c, omega arith)
+
+  pub first-width : (w : ℕ) → c < 8 → w ≡ getD l 0 0 → (9 ≤ w) × (w ≤ 80)
+  first-width w h e =
+      let f : w ≡ getD (layoutOf c .widths) 0 0 = e ∙ rw own refl in
+      (omega (arith, wide-at 0 (layout-wide c h) (layout-some c h)), omega (arith, field-inside c 0))
+
+-- no tables, and those of a set
+pub none-planned : (file : List ℕ) (d : Data) (t : Tables) (s : Spot) (count n : ℕ) (p : Plan) → p ≡ plan s count n 0 0 → n ≡ fieldsOf (d .case)
+    → ((p .first ≡ s) × (p .stored ≡ count)) × ((p .fields ≡ fieldsOf (d .case)) × Planned file d t p)
+none-planned file d t s count n p e f = rw e ((refl, refl), (f, record { inside = omega arith; laid = λ h. absurd (omega arith) }))
+
+pub tables-for : (d : Data) (l : List ℕ) (t : Tables) (b m c : ℕ) → l ≡ layoutOf (d .case) .widths → isLetter b ≡ true → c ≡ total l + (0 - total l) → Laid (tableCells b m l c) t → m ≡ 0
+    → TablesFor d c t
+tables-for d l t b m c own x e laid z = record { letter = b; letter-is = x; columns-are = e ∙ rw own (omega arith); laid = rw (own, z) at laid }
 
 -- a line that passes is usual, and the line past its LF is the next
-module _ (file : List ℕ) (d : Data) (t : List ℕ) (at : ℕ) (eight : d .case < 8) (table : TableFor d t) (passed : Passed t file at) where
-  pub usual-line : (n end : ℕ) → n ≡ total (layoutOf (d .case) .widths) → at < d .closing → end ≡ at + n + lineLen (drop (at + n) file) → end < length file
-      → UsualLine file d at (end + 1)
+module _ (file : List ℕ) (d : Data) (t : Tables) (c at : ℕ) (eight : d .case < 8) (own : TablesFor d c t) (room : at + 80 ≤ length file) (passed : Passed t file at 80) where
+  abbrev row : List ℕ
+  row = layoutOf (d .case) .widths
+
+  wide : Wide row
+  wide = layout-wide (d .case) eight
+
+  begun : Begun (own .letter) 0 row (drop at file)
+  begun =
+      row-begun (own .letter) 0 c row wide (omega (arith, own .columns-are)) (omega (arith, own .columns-are, total-inside (d .case))) t file at (own .laid) room passed
+
+  row-past : drop (at + c) file ≡ begun .rest
+  row-past =
+      let n : length (begun .row) ≡ c = fits-length (begun .fits) ∙ row-length (own .letter) 0 wide ∙ sym (own .columns-are) in
+      sym (drop-drop c at file) ∙ rw (begun .is) (drop-at (begun .row) (begun .rest) c n)
+
+  -- no LF stands in its fields, so it is looked for past them
+  end-past : at + c + lineLen (drop (at + c) file) ≡ at + lineLen (drop at file)
+  end-past =
+      let letter = isLetter-sound (own .letter) (own .letter-is) in
+      let n : lineLen (drop at file) ≡ total row + lineLen (begun .rest) = ap lineLen (begun .is) ∙ row-line (own .letter) 0 letter (omega arith) (begun .rest) wide (begun .fits) in
+      let m : lineLen (drop (at + c) file) ≡ lineLen (begun .rest) = ap lineLen row-past in
+      omega (arith, own .columns-are)
+
+  field-here : (k : ℕ) → k < fieldsOf (d .case) → UsualField (field file (at + fieldStart row k) (getD row k 0))
+  unfolding fieldsOf
+  field-here k h =
+      let either = width-either (d .case) k eight h in
+      let low : 9 ≤ getD row k 0 = ⊎-elim (λ (q : getD row k 0 ≡ 13). omega arith) (λ (q : getD row k 0 ≡ 20). omega arith) either in
+      let high : getD row k 0 ≤ 21 = ⊎-elim (λ (q : getD row k 0 ≡ 13). omega arith) (λ (q : getD row k 0 ≡ 20). omega arith) either in
+      rw (← drop-drop (fieldStart row k) at file, begun .is)
+      (field-usual (own .letter) (getD row k 0) (own .letter-is) low high (row-field (own .letter) 0 k (begun .rest) wide h (begun .fits)))
+
+  pub usual-line : (until end : ℕ) → 80 ≤ until → at < d .closing → end ≡ at + c + lineLen (drop (at + c) file) → end < length file → UsualLine file d until at (end + 1)
   unfolding skipTo
-  usual-line n end e before f inside =
-      let ws = layoutOf (d .case) .widths in
-      let room = passed .inside in
-      let all : total ws ≤ 80 = total-inside (d .case) in
-      let own = end-past (table .letter) ws t file at (table .table) passed n (omega arith) (omega arith) (table .letter-is) in
-      let here : end ≡ at + lineLen (drop at file) = f ∙ own in
+  usual-line until end tried before f inside =
       record {
-        fields = λ k h.
-            let either = width-either (d .case) k eight h in
-            field-usual (table .letter) ws t file at (table .table) passed k
-            (⊎-elim (λ (q : getD ws k 0 ≡ 13). omega arith) (λ (q : getD ws k 0 ≡ 20). omega arith) either)
-            (⊎-elim (λ (q : getD ws k 0 ≡ 13). omega arith) (λ (q : getD ws k 0 ≡ 20). omega arith) either)
-            (fieldPast-inside (d .case) k)
-            (table .letter-is);
+        fields = field-here;
         room = room;
-        next-is = sym (skip-next file 1 (d .closing) at end (omega arith) before (omega arith) here inside);
+        tried = tried;
+        next-is = sym (skip-next file 1 (d .closing) at end (omega arith) before (omega arith) (f ∙ end-past) inside);
         next-inside = omega arith;
       }
 
@@ -122,7 +156,7 @@ spot-opens file d j s at h =
     record { spot-is = rw (l, f, o) refl; inside = at .inside }
 
 -- a number that opens a line
-module _ (file : List ℕ) (d : Data) (body : d .body ≤ length file) (eight : d .case < 8) (j line next : ℕ) (at : AtSpot file d j (spot line 0 line)) (usual : UsualLine file d line next) where
+module _ (file : List ℕ) (d : Data) (body : d .body ≤ length file) (eight : d .case < 8) (j line next : ℕ) (at : AtSpot file d j (spot line 0 line)) {until : ℕ} (usual : UsualLine file d until line next) where
   abbrev n : ℕ
   n = fieldsOf (d .case)
 
@@ -197,12 +231,42 @@ module _ (file : List ℕ) (d : Data) (body : d .body ≤ length file) (eight : 
           rw (← z) (refusal-next (realAt file d) (j + k) count (omega arith) (read.Value (v .0)) 0 (sym (v .1)) refl (omega arith) ∙ go k (omega arith))
 
 -- after the usual lines one number more is put
-module _ {file : List ℕ} {d : Data} {count j : ℕ} {before after : List ℕ} {t : Turn} (f : Filled file d count j before after t) (a : Read) (l : List ℕ)
-    (e : l ≡ set after (t .number) (patternOr (getD after (t .number) 0) a)) where
-  pub filled-length : length l ≡ length before
-  filled-length = ap length e ∙ simp length-set (f .long)
+module _ {file : List ℕ} {d : Data} {put : Bool} {count j : ℕ} {before after : List ℕ} {t : Turn} (f : Gone file d put count j before after t) (a : Read) (l : List ℕ)
+    (e : l ≡ pick put (set after (t .number) (patternOr (getD after (t .number) 0) a)) after) where
+  pub gone-length : length l ≡ length before
+  gone-length = ap length e ∙ kept put ∙ f .long
+    where
+      kept : (q : Bool) → length (pick q (set after (t .number) (patternOr (getD after (t .number) 0) a)) after) ≡ length after
+      kept true = simp length-set refl
+      kept false = refl
 
-  pub filled-next : t .number < count → count ≤ length before → a ≡ readOf (realAt file d (t .number))
-      → filled (realAt file d) count (t .number + 1) l ≡ filled (realAt file d) count j before
-  filled-next h n q =
-      rw e (patterns-next (realAt file d) (t .number) count h after (omega (arith, f .long)) 0 _ (ap (patternOr (getD after (t .number) 0)) q) ∙ f .same)
+  pub gone-next : t .number < count → (put ≡ true → count ≤ length before) → a ≡ readOf (realAt file d (t .number))
+      → filled put (realAt file d) count (t .number + 1) l ≡ filled put (realAt file d) count j before
+  gone-next h n q = rw e (one put n) ∙ f .placed
+    where
+      one : (b : Bool) → (b ≡ true → count ≤ length before)
+          → filled b (realAt file d) count (t .number + 1) (pick b (set after (t .number) (patternOr (getD after (t .number) 0) a)) after) ≡ filled b (realAt file d) count (t .number) after
+      one true n = patterns-next (realAt file d) (t .number) count h after (omega (arith, f .long, n refl)) 0 _ (ap (patternOr (getD after (t .number) 0)) q)
+      one false n = refl
+
+-- the places at the end
+module _ (file : List ℕ) (d : Data) (put : Bool) (count j : ℕ) (before after : List ℕ) (h : filled put (realAt file d) count j after ≡ filled put (realAt file d) count 0 before) where
+  pub end-kept : put ≡ false → after ≡ before
+  end-kept q = rw q at h
+
+  pub end-placed : count ≤ j → put ≡ true → after ≡ patternsPut (reads (realAt file d) 0 count) before
+  end-placed l q =
+      let n : filled true (realAt file d) count 0 before ≡ patternsPut (reads (realAt file d) 0 count) before = rw sub-zero refl in
+      patterns-none (realAt file d) j count l after ∙ (rw q at h) ∙ n
+
+-- what is lent for a set's plan, and its numbers read by their count
+pub lent-for : (file : List ℕ) (d : Data) (widths : List ℕ) (tens : List Float) (t : Tables) (s : Spot) (count : ℕ) (p : Plan) → (d .body ≤ length file) × (d .case < 8)
+    → widths ≡ tabulate (cellOf (d .case)) 0 6 → PowersTo (min (p .until) 22) tens → ((p .first ≡ s) × (p .stored ≡ count)) × ((p .fields ≡ fieldsOf (d .case)) × Planned file d t p)
+    → (s ≡ spotOf file d 0) × (s .line ≤ length file) → (Lent file d widths tens p × Planned file d t p) × AtSpot file d 0 (p .first)
+lent-for file d widths tens t s count p inside own powers planned first = (
+  (record { body = inside .0; eight = inside .1; fields-are = planned .1 .0; widths-are = own; powers = powers }, planned .1 .1),
+  rw (planned .0 .0) (record { spot-is = first .0; inside = first .1 }),
+)
+
+pub read-count : {file : List ℕ} {d : Data} {put : Bool} {n : ℕ} {before after : List ℕ} {r : ℕ} (m : ℕ) → n ≡ m → AllRead file d put n before after r → AllRead file d put m before after r
+read-count m e h = rw e at h

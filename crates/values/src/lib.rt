@@ -2,21 +2,19 @@
 ghost use mathlib.Core.Path.{_≡_};
 ghost use mathlib.Core.Bool.{true};
 ghost use mathlib.Core.Logic.{_⊎_};
-ghost use Prim.Native.Nat.{_+_, _≤_, _<_, min};
+ghost use Prim.Native.Nat.{_+_, _≤_, _<_};
 ghost use lib.ListN.{length, getD, drop, set};
-ghost use Rattle.reader.specs.Reader.{readIn, readOf, reads};
-ghost use Rattle.reader.specs.Find.{realAt};
+ghost use Rattle.reader.specs.Reader.{readIn, readOf};
 ghost use Rattle.values.specs.Values.{allReply, allPlaces};
 ghost use Rattle.values.specs.Spot.{spot, spotOf, nextSpot, AtSpot};
-ghost use Rattle.layout.specs.Columns.{total};
+ghost use Rattle.laws.specs.Choice.{pick};
 ghost use Rattle.laws.specs.Cut.{lineLen};
-ghost use Rattle.laws.specs.Table.{tabulate};
-ghost use Rattle.layout.specs.Layout.{layoutOf, fieldsOf, cellOf};
-ghost use Rattle.real.specs.Real.{isLetter};
+ghost use Rattle.layout.specs.Layout.{layoutOf, fieldsOf};
+ghost use Rattle.usual_columns.specs.Cells.{tables};
 ghost use Rattle.usual_values.specs.Usual.{UsualField};
 ghost use Rattle.usual_values.specs.Number.{PowersTo, UsualRead};
-ghost use Rattle.values.specs.Fill.{refusalOf, refusalIn, patternOr, patternsPut};
-ghost use Rattle.values.specs.Lines.{field, TableFor, UsualLine, Skipped, Filled, FilledTo};
+ghost use Rattle.values.specs.Fill.{refusalOf, patternOr};
+ghost use Rattle.values.specs.Lines.{field, plan, Planned, Lent, UsualLine, FilledTo, Gone, AllRead};
 use judge::Reply;
 use laws::index;
 use parts::line_start;
@@ -25,6 +23,8 @@ use reader::Read;
 use reader::find_data;
 use reader::read_in;
 use reader::read_of;
+use usual_columns::passes;
+use usual_columns::put_tables;
 
 // Where a stored number is: the first byte of its line, its field, and the first byte of its columns.
 pub struct Spot {
@@ -37,6 +37,16 @@ pub struct Spot {
 pub struct Turn {
     pub number: usize,
     pub spot: Spot,
+}
+
+// How the numbers of a set are read: where the first is, how many there are, how many fields a line has, how many columns these have together, and the byte
+// up to which lines are tried by the tables of the usual spelling; 0 where none is.
+pub struct Plan {
+    pub first: Spot,
+    pub stored: usize,
+    pub fields: usize,
+    pub columns: usize,
+    pub until: usize,
 }
 
 // Where the first stored number is.
@@ -117,39 +127,65 @@ fn pattern_or(a: Read, instead: u64) -> u64
     }
 }
 
-// Puts the bit pattern of a value into place j; a refusal leaves the place.
-fn put_read(a: Read, j: usize, out: &mut [u64])
-    requires { ⌜ j < length (now out) ⌝ }
-    ensures { λ _. ⌜ now (out .exit) ≡ set (now (out .entry)) j (patternOr (getD (now (out .entry)) j 0) a) ⌝ }
+// Puts the bit pattern of a value into place j where it is to be put; a refusal leaves the place.
+fn put_read(a: Read, j: usize, put: bool, out: &mut [u64])
+    requires { ⌜ (put ≡ true → j < length (now out)) ⌝ }
+    ensures { λ _. ⌜ now (out .exit) ≡ pick put (set (now (out .entry)) j (patternOr (getD (now (out .entry)) j 0) a)) (now (out .entry)) ⌝ }
 {
+    if !put {
+        return;
+    }
     out[j] = pattern_or(a, out[j]);
 }
 
-// The letter of the exponent in the field that ends before byte `past`; E where there is none.
-fn letter_before(file: &[u8], past: usize) -> u8
-    ensures { λ r. ⌜ isLetter r ≡ true ⌝ }
+// A plan by which no line is tried by tables.
+fn no_tables(first: Spot, stored: usize, fields: usize) -> Plan
+    ensures { λ r. ⌜ r ≡ plan first stored fields 0 0 ⌝ }
 {
-    if past < 4 {
-        return usual_values::letter_of(69);
+    Plan {
+        first,
+        stored,
+        fields,
+        columns: 0,
+        until: 0,
     }
-    if file.len() < past {
-        return usual_values::letter_of(69);
-    }
-    let at = past - 4;
-    usual_values::letter_of(file[at])
 }
 
-// What the columns of a set's full lines take in the usual spelling, with the letter of its first number.
-fn line_table(file: &[u8], d: Data) -> [u8; 240]
-    requires { ⌜ (d .body ≤ length (now file)) × (d .case < 8) ⌝ }
-    ensures { λ r. ⌜ TableFor d r ⌝ }
+// How the numbers of a set with fields of these widths are read, and the tables for its lines: those of the usual spelling with the letter of its first
+// number, an exponent's first digit being 0. There are none where the set has not four full lines or its first number no letter.
+fn line_tables(
+    file: &[u8],
+    d: Data,
+    widths: &[u8],
+    first: Spot,
+    stored: usize,
+    lo: &mut [u8; 80],
+    span: &mut [u8; 80],
+    alt: &mut [u8; 80],
+) -> Plan
+    requires { ⌜ (d .case < 8) × ((first .line ≤ length (now file)) × (now widths ≡ layoutOf (d .case) .widths)) ⌝ }
+    ensures { λ r. ⌜ ((r .first ≡ first) × (r .stored ≡ stored)) × ((r .fields ≡ fieldsOf (d .case)) × Planned (now (file .entry)) d (tables (now (lo .exit)) (now (span .exit)) (now (alt .exit))) r) ⌝ }
 {
-    let fields = layout::fields_of(d.case);
-    let widths = layout::line_widths(d.case);
-    let line = line_start(file, d.body, d.closing, record_table::HEADER_LINES);
-    let letter = letter_before(file, line + index(widths[0]));
-    let all: &[u8] = &widths;
-    usual_values::usual_table(letter, &all[..fields])
+    let fields = widths.len();
+    if stored / 4 < fields {
+        return no_tables(first, stored, fields);
+    }
+    let past = first.line + index(widths[0]);
+    if file.len() < past {
+        return no_tables(first, stored, fields);
+    }
+    let letter = file[past - 4];
+    if !real::is_letter(letter) {
+        return no_tables(first, stored, fields);
+    }
+    let columns = put_tables(lo, span, alt, widths, letter, 0, 0);
+    Plan {
+        first,
+        stored,
+        fields,
+        columns,
+        until: file.len(),
+    }
 }
 
 // The place of the first LF at or after `from`, as `line::find_end` has it; most often it is there.
@@ -165,70 +201,34 @@ fn end_from(file: &[u8], from: usize) -> usize
     line::find_end(file, from)
 }
 
-// The first byte of the line after the one that begins at byte `at`, whose fields are all in the usual spelling; 0 where it is no such line.
-fn usual_next(file: &[u8], d: Data, columns: usize, table: &[u8; 240], at: usize) -> usize
-    requires { ⌜ (d .case < 8) × ((columns ≡ total (layoutOf (d .case) .widths)) × TableFor d (now table)) ⌝ }
-    ensures { λ r. ⌜ (0 < r → UsualLine (now (file .entry)) d at r) ⌝ }
+// The first byte of the line after the one that begins at byte `at`, whose fields are all in the usual spelling; 0 where it is no such line, or where the 80
+// bytes from it on do not end before byte `until`.
+fn usual_next(
+    file: &[u8],
+    d: Data,
+    p: Plan,
+    lo: &[u8; 80],
+    span: &[u8; 80],
+    alt: &[u8; 80],
+    at: usize,
+) -> usize
+    requires { ⌜ (d .case < 8) × ((at ≤ length (now file)) × Planned (now file) d (tables (now lo) (now span) (now alt)) p) ⌝ }
+    ensures { λ r. ⌜ (0 < r → UsualLine (now (file .entry)) d (p .until) at r) ⌝ }
 {
     if d.closing <= at {
         return 0;
     }
-    if !usual_values::passes(file, at, table) {
+    if p.until < at + 80 {
         return 0;
     }
-    let end = end_from(file, at + columns);
+    if !passes(file, at, lo, span, alt) {
+        return 0;
+    }
+    let end = end_from(file, at + p.columns);
     if file.len() <= end {
         return 0;
     }
     end + 1
-}
-
-// The first number from this one on that is not on a usual line with all its fields, up to so many numbers.
-fn skip_usual(file: &[u8], d: Data, table: &[u8; 240], t: Turn, stored: usize) -> Turn
-    requires { ⌜ (d .body ≤ length (now file)) × ((d .case < 8) × ((t .number ≤ stored) × (AtSpot (now file) d (t .number) (t .spot) × TableFor d (now table)))) ⌝ }
-    ensures { λ r. ⌜ Skipped (now (file .entry)) d stored (t .number) r ⌝ }
-{
-    if 0 < t.spot.field {
-        return t;
-    }
-    let fields = layout::fields_of(d.case);
-    let columns = layout::field_start(d.case, fields);
-    let mut line = t.spot.line;
-    let mut j = t.number;
-    while fields <= stored - j {
-        let next = usual_next(file, d, columns, table, line);
-        if next == 0 {
-            return at_line(j, line);
-        }
-        line = next;
-        j += fields;
-    }
-    at_line(j, line)
-}
-
-// The first refusal of the first so many numbers; 0 where there is none.
-fn first_refusal(file: &[u8], d: Data, table: &[u8; 240], stored: usize) -> u8
-    requires { ⌜ (d .body ≤ length (now file)) × ((d .case < 8) × TableFor d (now table)) ⌝ }
-    ensures { λ r. ⌜ r ≡ refusalIn (reads (realAt (now (file .entry)) d) 0 stored) ⌝ }
-{
-    let fields = layout::fields_of(d.case);
-    let widths = layout::line_widths(d.case);
-    let mut s = first_spot(file, d);
-    let mut j = 0;
-    while j < stored {
-        let t = skip_usual(file, d, table, Turn { number: j, spot: s }, stored);
-        if stored <= t.number {
-            return 0;
-        }
-        let after = t.number + 1;
-        let number = refusal_of(read_here(file, &widths, t.spot));
-        if 0 < number {
-            return number;
-        }
-        s = next_spot(file, d.closing, fields, &widths, t.spot);
-        j = after;
-    }
-    0
 }
 
 // The bit pattern of the number in a usual field, which has 13 or 20 columns.
@@ -245,22 +245,28 @@ fn field_bits(file: &[u8], at: usize, width: usize, tens: &[f64; 23]) -> u64
     usual_values::usual_bits(&file[at..past], tens)
 }
 
-// Puts the bit patterns of the numbers of a usual line, of so many fields of these widths, into their places, the first of which is place j.
+// Puts the bit patterns of the numbers of a usual line, of so many fields of these widths, into their places, the first of which is place j, where they are
+// to be put.
 fn put_line(
     file: &[u8],
     d: Data,
-    fields: usize,
+    p: Plan,
     widths: &[u8; 6],
     tens: &[f64; 23],
     line: usize,
     next: usize,
     j: usize,
+    put: bool,
     out: &mut [u64],
 )
-    requires { ⌜ (d .body ≤ length (now file)) × ((d .case < 8) × (j + fieldsOf (d .case) ≤ length (now out))) ⌝ }
-    requires { ⌜ AtSpot (now file) d j (spot line 0 line) × (UsualLine (now file) d line next × (PowersTo (min (length (now file)) 22) (now tens) × ((fields ≡ fieldsOf (d .case)) × (now widths ≡ tabulate (cellOf (d .case)) 0 6)))) ⌝ }
-    ensures { λ _. ⌜ FilledTo (now (file .entry)) d j (j + fieldsOf (d .case)) (now (out .entry)) (now (out .exit)) ⌝ }
+    requires { ⌜ Lent (now file) d (now widths) (now tens) p × (put ≡ true → j + fieldsOf (d .case) ≤ length (now out)) ⌝ }
+    requires { ⌜ AtSpot (now file) d j (spot line 0 line) × UsualLine (now file) d (p .until) line next ⌝ }
+    ensures { λ _. ⌜ FilledTo (now (file .entry)) d put j (j + fieldsOf (d .case)) (now (out .entry)) (now (out .exit)) ⌝ }
 {
+    if !put {
+        return;
+    }
+    let fields = p.fields;
     let mut at = line;
     let mut k = 0;
     while k < fields {
@@ -271,72 +277,80 @@ fn put_line(
     }
 }
 
-// Puts the bit patterns of the numbers from this one on that are on usual lines with all their fields, up to so many numbers; the first
-// that is not.
-fn fill_usual(
+// Passes the numbers from this one on that are on usual lines with all their fields, and puts their bit patterns where they are to be put; the first that
+// is on no such line.
+fn pass_usual(
     file: &[u8],
     d: Data,
-    table: &[u8; 240],
+    p: Plan,
+    lo: &[u8; 80],
+    span: &[u8; 80],
+    alt: &[u8; 80],
     widths: &[u8; 6],
     tens: &[f64; 23],
     t: Turn,
-    stored: usize,
+    put: bool,
     out: &mut [u64],
 ) -> Turn
-    requires { ⌜ (d .body ≤ length (now file)) × ((d .case < 8) × ((t .number ≤ stored) × (stored ≤ length (now out)))) ⌝ }
-    requires { ⌜ AtSpot (now file) d (t .number) (t .spot) × (TableFor d (now table) × (PowersTo (min (length (now file)) 22) (now tens) × (now widths ≡ tabulate (cellOf (d .case)) 0 6))) ⌝ }
-    ensures { λ r. ⌜ Filled (now (file .entry)) d stored (t .number) (now (out .entry)) (now (out .exit)) r ⌝ }
+    requires { ⌜ Lent (now file) d (now widths) (now tens) p × Planned (now file) d (tables (now lo) (now span) (now alt)) p ⌝ }
+    requires { ⌜ AtSpot (now file) d (t .number) (t .spot) × ((t .number ≤ p .stored) × (put ≡ true → p .stored ≤ length (now out))) ⌝ }
+    ensures { λ r. ⌜ Gone (now (file .entry)) d put (p .stored) (t .number) (now (out .entry)) (now (out .exit)) r ⌝ }
 {
     if 0 < t.spot.field {
         return t;
     }
-    let fields = layout::fields_of(d.case);
-    let columns = layout::field_start(d.case, fields);
+    let fields = p.fields;
     let mut line = t.spot.line;
     let mut j = t.number;
-    while fields <= stored - j {
-        let next = usual_next(file, d, columns, table, line);
+    while fields <= p.stored - j {
+        let next = usual_next(file, d, p, lo, span, alt, line);
         if next == 0 {
             return at_line(j, line);
         }
-        put_line(file, d, fields, widths, tens, line, next, j, out);
+        put_line(file, d, p, widths, tens, line, next, j, put, out);
         line = next;
         j += fields;
     }
     at_line(j, line)
 }
 
-// Puts the bit patterns of the first so many numbers into the places lent, one after the other; a number that is refused leaves its
-// place.
-fn fill(file: &[u8], d: Data, table: &[u8; 240], stored: usize, out: &mut [u64])
-    requires { ⌜ (d .body ≤ length (now file)) × ((d .case < 8) × ((stored ≤ length (now out)) × TableFor d (now table))) ⌝ }
-    ensures { λ _. ⌜ now (out .exit) ≡ patternsPut (reads (realAt (now (file .entry)) d) 0 stored) (now (out .entry)) ⌝ }
+// The first refusal of a set's numbers, 0 where there is none. Where they are to be put, their bit patterns are put into the places lent, one after the
+// other, as far as the first refusal.
+fn read_all(
+    file: &[u8],
+    d: Data,
+    p: Plan,
+    lo: &[u8; 80],
+    span: &[u8; 80],
+    alt: &[u8; 80],
+    widths: &[u8; 6],
+    tens: &[f64; 23],
+    put: bool,
+    out: &mut [u64],
+) -> u8
+    requires { ⌜ Lent (now file) d (now widths) (now tens) p × Planned (now file) d (tables (now lo) (now span) (now alt)) p ⌝ }
+    requires { ⌜ AtSpot (now file) d 0 (p .first) × (put ≡ true → p .stored ≤ length (now out)) ⌝ }
+    ensures { λ r. ⌜ AllRead (now (file .entry)) d put (p .stored) (now (out .entry)) (now (out .exit)) r ⌝ }
 {
-    let fields = layout::fields_of(d.case);
-    let widths = layout::line_widths(d.case);
-    let tens = usual_values::powers(file.len());
-    let mut s = first_spot(file, d);
+    let mut s = p.first;
     let mut j = 0;
-    while j < stored {
-        let t = fill_usual(
-            file,
-            d,
-            table,
-            &widths,
-            &tens,
-            Turn { number: j, spot: s },
-            stored,
-            out,
-        );
+    while j < p.stored {
+        let turn = Turn { number: j, spot: s };
+        let t = pass_usual(file, d, p, lo, span, alt, widths, tens, turn, put, out);
         let number = t.number;
-        if stored <= number {
-            return;
+        if p.stored <= number {
+            return 0;
         }
-        let after = number + 1;
-        put_read(read_here(file, &widths, t.spot), number, out);
-        s = next_spot(file, d.closing, fields, &widths, t.spot);
-        j = after;
+        let found = read_here(file, widths, t.spot);
+        let refusal = refusal_of(found);
+        if 0 < refusal {
+            return refusal;
+        }
+        put_read(found, number, put, out);
+        s = next_spot(file, d.closing, p.fields, widths, t.spot);
+        j = number + 1;
     }
+    0
 }
 
 // All values of a set, counted from 1, as the bit patterns of f64 into the places lent: the judge's refusal first; 18 where there is no such set
@@ -353,14 +367,22 @@ pub fn values(file: &[u8], set: u32, out: &mut [u64]) -> Reply
         return judge::bare_reply(18, 0);
     }
     let stored = (d.count as usize) * layout::numbers_of(d.case);
-    let table = line_table(file, d);
-    let number = first_refusal(file, d, &table, stored);
+    let fields = layout::fields_of(d.case);
+    let widths = layout::line_widths(d.case);
+    let row = &widths[..fields];
+    let first = first_spot(file, d);
+    let mut lo = [0u8; 80];
+    let mut span = [0u8; 80];
+    let mut alt = [0u8; 80];
+    let p = line_tables(file, d, row, first, stored, &mut lo, &mut span, &mut alt);
+    let tens = usual_values::powers(p.until);
+    let number = read_all(file, d, p, &lo, &span, &alt, &widths, &tens, false, out);
     if 0 < number {
         return judge::bare_reply(number, 0);
     }
     if out.len() < stored {
         return judge::bare_reply(20, 0);
     }
-    fill(file, d, &table, stored, out);
+    read_all(file, d, p, &lo, &span, &alt, &widths, &tens, true, out);
     judge::bare_reply(0, stored)
 }
