@@ -1,8 +1,10 @@
 // The judge: a whole file, number and place.
 ghost use mathlib.Core.Path.{_≡_};
+ghost use mathlib.Core.Bool.{true};
 ghost use Prim.Native.Nat.{_+_, _-_, _≤_};
 ghost use lib.ListN.{length};
 ghost use Rattle.judge.specs.Judge.{judged, reply, replyAt, lineStep, going, runEnd};
+ghost use Rattle.judge.specs.Plain.{plainDelimiter};
 ghost use Rattle.judge.specs.Lines.{linesAt, linesTo, LinesJudged};
 use line::Refusal;
 use walk::Due;
@@ -49,10 +51,28 @@ pub struct Lines {
     pub at: usize,
 }
 
+// Whether the bytes are those of a delimiter with no blank after it.
+fn is_plain_delimiter(line: &[u8]) -> bool
+    ensures { λ r. ⌜ (r ≡ true → now (line .entry) ≡ plainDelimiter) ⌝ }
+{
+    if line.len() != 6 {
+        return false;
+    }
+    (line[0] == 32)
+        & (line[1] == 32)
+        & (line[2] == 32)
+        & (line[3] == 32)
+        & (line[4] == 45)
+        & (line[5] == 49)
+}
+
 // The step of a line that has its LF, by the bytes before it: its own refusals first, then those of its place.
 pub fn line_step(s: State, line: &[u8]) -> Outcome
     ensures { λ r. ⌜ r ≡ lineStep s (now (line .entry)) ⌝ }
 {
+    if is_plain_delimiter(line) {
+        return walk::delimiter_step(s);
+    }
     let n = line::columns_len(line, true);
     let columns = &line[..n];
     let fault = line::line_fault(columns, true);
