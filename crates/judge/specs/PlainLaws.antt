@@ -1,21 +1,31 @@
--- A delimiter in its usual spelling: what its bytes say, and its step.
-use mathlib.Core.Path.{_≡_, refl}
-use mathlib.Core.Bool.{Bool, true, _&&_}
+-- A delimiter and a number line in their usual spelling: what their bytes say, and their step.
+use mathlib.Core.Path.{_≡_, refl, sym}
+use mathlib.Core.Bool.{Bool, true, false, _&&_}
 use mathlib.Core.List.{List, [], _∷_}
-use Prim.Native.Nat.{ℕ}
+use Prim.Native.Nat.{ℕ, _-_, _<_}
 use native.Mathlib.Omega.{arith}
-use borrow.Author.Tests.{eqb-true}
+use borrow.Author.Tests.{eqb-true, lt-ltb}
 use lib.Dec.{eqb}
-use lib.ListN.{length, getD}
+use lib.ListN.{length, getD, replicate}
+use lib.Seq.{take-at, drop-at}
 use Rattle.laws.specs.ChoiceLaws.{and-left, and-right}
-use Rattle.text.specs.BlankLaws.{blanks-take, blanks-replicate}
-use Rattle.line.specs.Line.{isAllowed, withoutReturn, columns, firstBad, lineFault, filled}
-use Rattle.delimiter.specs.Kind.{Delimiter, delimiter}
+use Rattle.text.specs.Blank.{Blanks}
+use Rattle.text.specs.BlankLaws.{allBlank-complete, blanks-take, blanks-replicate}
+use Rattle.text.specs.Parts.{Sign, Digits}
+use Rattle.integer.specs.Spelling.{IntegerSpelling, spelled}
+use Rattle.integer.specs.Integer.{integerOf}
+use Rattle.integer.specs.IntegerLaws.{integerOf-value}
+use Rattle.line.specs.Line.{passed, Allowed, isAllowed, withoutReturn, columns, firstBad, lineFault, filled}
+use Rattle.line.specs.LineLaws.{allowed-append, lineFault-complete, filled-short}
+use Rattle.delimiter.specs.Kind.{Delimiter, delimiter, positive, datasetNumber}
+use Rattle.delimiter.specs.KindLaws.{positive-value}
+use Rattle.walk.specs.declared.Place.the-variants.{Number}
 use Rattle.walk.specs.declared.State.{State}
 use Rattle.walk.specs.declared.Outcome.{Outcome}
-use Rattle.walk.specs.Step.{stepOf}
+use Rattle.walk.specs.declared.Outcome.the-variants.{Next}
+use Rattle.walk.specs.Step.{state, opened, numberStep, stepOf}
 use Rattle.judge.specs.Judge.{lineStep}
-use Rattle.judge.specs.Plain.{plainDelimiter}
+use Rattle.judge.specs.Plain.{plainDelimiter, PlainNumber}
 
 -- six bytes that are each a delimiter's
 pub plain-bytes : (l : List ℕ) → length l ≡ 6
@@ -49,3 +59,42 @@ plain-bytes (a ∷ b ∷ c ∷ d ∷ e ∷ f ∷ g ∷ l) n h = absurd (omega ar
 pub plain-step : (s : State) (o : Outcome) {l : List ℕ} → l ≡ plainDelimiter → ((line : List ℕ) → Delimiter line → o ≡ stepOf s line) → o ≡ lineStep s l
 unfolding lineStep columns withoutReturn lineFault firstBad isAllowed filled
 plain-step s o e h = rw e (h (filled plainDelimiter) (delimiter (blanks-take 74 (blanks-replicate 80))))
+
+-- what is read as an integer above zero holds only bytes that may stand in columns
+blanks-allowed : {l : List ℕ} → Blanks l → Allowed l
+blanks-allowed Blanks.none = Allowed.none
+blanks-allowed (Blanks.one b) = Allowed.more {b = 32} (omega arith) (omega arith) (blanks-allowed b)
+
+sign-allowed : {n : Bool} {l : List ℕ} → Sign n l → Allowed l
+sign-allowed Sign.bare = Allowed.none
+sign-allowed Sign.plus = Allowed.more {b = 43} (omega arith) (omega arith) Allowed.none
+sign-allowed Sign.minus = Allowed.more {b = 45} (omega arith) (omega arith) Allowed.none
+
+digits-allowed : {m v : ℕ} {l : List ℕ} → Digits m l v → Allowed l
+digits-allowed Digits.none = Allowed.none
+digits-allowed (Digits.more {m} {b} lo hi d) = Allowed.more {b = b} (omega arith) (omega arith) (digits-allowed d)
+
+integer-allowed : {n : Bool} {v : ℕ} {l : List ℕ} → IntegerSpelling n v l → Allowed l
+integer-allowed (spelled bl sg ds b s d h) = allowed-append (blanks-allowed b) (allowed-append (sign-allowed s) (digits-allowed d))
+
+number-allowed : {v : ℕ} (cs : List ℕ) → 0 < v → v ≡ positive (integerOf cs) → Allowed cs
+number-allowed {v} cs p e = integer-allowed (integerOf-value cs false v (positive-value (integerOf cs) v (omega arith) (sym e)) .0)
+
+-- a number line's step: a set of its number opens
+module _ {v : ℕ} {cs : List ℕ} (p : 0 < v) (r : PlainNumber v cs) where
+  pub plain-number-filled : datasetNumber (filled cs) ≡ v
+  unfolding datasetNumber
+  plain-number-filled =
+      rw (filled-short cs (omega (arith, r .six)), take-at cs (replicate (80 - length cs) 32) 6 (r .six), drop-at cs (replicate (80 - length cs) 32) 6 (r .six), allBlank-complete (blanks-replicate (80 - length cs)))
+      (sym (r .read))
+
+  pub plain-number-passes : lineFault true cs ≡ passed
+  plain-number-passes = lineFault-complete true cs refl (omega (arith, r .six)) (number-allowed cs p (r .read))
+
+  pub plain-number-step : (s : State) → s .place ≡ Number → stepOf s (filled cs) ≡ Next (state (opened v) (s .sets))
+  unfolding stepOf numberStep
+  plain-number-step s e = rw (e, plain-number-filled, lt-ltb 0 v p) refl
+
+  pub plain-number-line : (s : State) (l : List ℕ) → cs ≡ columns true l → s .place ≡ Number → Next (state (opened v) (s .sets)) ≡ lineStep s l
+  unfolding lineStep
+  plain-number-line s l q e = rw (← q, plain-number-passes) (sym (plain-number-step s e))
