@@ -232,7 +232,11 @@ fn bytes_and_lines(list: &mut List) {
 }
 
 fn delimiters(list: &mut List) {
-    for near in ["   -1", "     -1", "    - 1", "   -01", "    -1x", "    -1 x", "    +1", "-1", "    1", "    -"] {
+    // The last six: a column of the plain delimiter left untested.
+    for near in [
+        "   -1", "     -1", "    - 1", "   -01", "    -1x", "    -1 x", "    +1", "-1", "    1", "    -",
+        "x   -1", " 0  -1", "  - -1", "   .-1", "    ,1", "    -0",
+    ] {
         list.add(&format!("{near:?} to open"), format!("{near}\n     1\n    -1\n"), refused(5, 1, 1));
         list.add(&format!("{near:?} in a plain set"), format!("    -1\n     1\n{near}\n    -1\n"), accepted(4));
         list.add(&format!("{near:?} to close"), format!("    -1\n     1\n{near}\n"), refused(7, 4, 1));
@@ -242,6 +246,9 @@ fn delimiters(list: &mut List) {
     list.add("delimiter of 80 columns", long(80), accepted(3));
     list.add("delimiter of 81 columns", long(81), refused(3, 1, 1));
     list.add("delimiter, CR LF", "    -1\r\n     1\r\n    -1\r\n", accepted(3));
+    list.add("delimiter to open, CR LF", "    -1\r\n     1\n    -1\n", accepted(3));
+    list.add("delimiter to close, CR LF", "    -1\n     1\n    -1\r\n", accepted(3));
+    list.add("delimiter for a number line, CR LF", "    -1\n    -1\r\n", refused(6, 2, 1));
     list.add("delimiter alone", "    -1\n", refused(7, 2, 1));
     list.add("delimiter alone, no LF", "    -1", refused(4, 1, 1));
     list.add("two delimiters", "    -1\n    -1\n", refused(6, 2, 1));
@@ -254,15 +261,19 @@ fn delimiters(list: &mut List) {
     list.add("closing delimiter lost", "    -1\n     1\n    -1\n     2\n    -1\n", refused(5, 4, 1));
     list.add("text between sets", "    -1\n     1\n    -1\nx\n    -1\n     1\n    -1\n", refused(5, 4, 1));
     for wrong in [
-        "", "      ", "     0", "    -0", "-00000", "    -5", "    -2", "58", "  58", "  58  ", "    58b", "     58",
+        "", "      ", "     0", "000000", "    -0", "-00000", "-00058",
+        "    -5", "    -2", "58", "  58", "  58  ", "    58b", "     58",
         "1000000", "   +-5", "     +", "     -", "   5 8", "  1 58", "    5x", "+ 0058", "    58       x", "   5.0",
         "  1E+0",
     ] {
         list.add(&format!("number line {wrong:?}"), format!("    -1\n{wrong}\n    -1\n"), refused(6, 2, 1));
     }
+    for (bad, column) in [("\t   58", 1), ("    \x1f8", 5), ("    5\x7f", 6), ("   \r58", 4), ("    -\0", 6), ("\t   -1", 1)] {
+        list.add(&format!("number line {bad:?}"), format!("    -1\n{bad}\n    -1\n"), refused(2, 2, column));
+    }
     let far = format!("    -1\n     1{}x\n    -1\n", " ".repeat(73));
     list.add("number line, column 80", far, refused(6, 2, 1));
-    for good in ["     1", "999999", "+00001", "000001", "    15", "    59", "    57", "    +1   ", "+99999", "  1858"] {
+    for good in ["     1", "999999", "    +5", "+00001", "000001", "    15", "    59", "    57", "    +1   ", "+99999", "  1858"] {
         list.add(&format!("number line {good:?}"), format!("    -1\n{good}\n    -1\n"), accepted(3));
     }
     for typed in ["000058", "+00058", "   +58", "  0058", "    58   ", "    82", "   151", "   164", "  1815", "+01815"] {

@@ -1,19 +1,21 @@
 -- The tests for delimiters and number lines agree with what these are, in both directions. A delimiter is not blank.
-use mathlib.Core.Path.{_≡_, refl, sym, _∙_}
+use mathlib.Core.Path.{_≡_, refl, sym, _∙_, ap}
 use mathlib.Core.Bool.{Bool, true, false, _&&_, and-assoc}
-use mathlib.Core.List.{List, [], _∷_, _++_}
+use mathlib.Core.List.{List, [], _∷_, _++_, append-assoc}
 use Prim.Native.Nat.{ℕ, zero, suc, _+_, _*_, _^_, _≤_, _<_}
 use native.Mathlib.Nat.{pow-succ', pow-le-pow-right, mul-assoc, mul-le-mul-right, lt-of-lt-of-le}
 use native.Mathlib.Omega.{arith}
 use borrow.Author.Tests.{eqb-true, le-leb, ne-eqb}
 use lib.Dec.{eqb}
-use lib.ListN.{length, getD, take, drop, replicate, length-append, take-append-drop}
+use lib.ListN.{length, getD, take, drop, replicate, length-append, length-take, take-append-drop}
 use lib.Seq.{take-at, drop-at, length-take-le}
 use Rattle.laws.specs.Choice.{pick}
 use Rattle.laws.specs.ChoiceLaws.{and-left, and-right, false-not-true}
 use Rattle.text.specs.Blank.{Blanks, allBlank}
 use Rattle.text.specs.BlankLaws.{allBlank-complete, allBlank-sound}
 use Rattle.text.specs.Parts.{Digits, none, more}
+use Rattle.text.specs.Text.{Unpadded, TextIn, text-in, trimmed}
+use Rattle.text.specs.TextLaws.{trimmed-complete, trimmed-sound, trimmed-take}
 use Rattle.integer.specs.Spelling.{IntegerSpelling, spelled}
 use Rattle.integer.specs.Integer.{integerOf}
 use Rattle.integer.specs.IntegerLaws.{integerOf-complete, integerOf-value}
@@ -96,7 +98,7 @@ datasetNumber-complete (number-line {v} field bl n s lo hi b) =
     rw (take-at field bl 6 n, drop-at field bl 6 n, allBlank-complete b, integerOf-complete s, le-leb v 2147483647 (omega arith)) refl
 
 -- a number that is not 0 is that of an integer without a minus
-positive-value : (i : Integer) (v : ℕ) → 1 ≤ v → positive i ≡ v → i ≡ Value false v
+pub positive-value : (i : Integer) (v : ℕ) → 1 ≤ v → positive i ≡ v → i ≡ Value false v
 positive-value (Value false w) v p e = rw e refl
 positive-value (Value true w) v p e = absurd (omega arith)
 positive-value Blank v p e = absurd (omega arith)
@@ -116,6 +118,45 @@ datasetNumber-sound l v n e p = by (allBlank (drop 6 l)) refl e
         let below : v < 1000000 = rw k at (integer-below s) in
         rw take-append-drop at (number-line (take 6 l) (drop 6 l) k s p (omega arith) (allBlank-sound (drop 6 l) b))
     by false b h = absurd (omega arith)
+
+-- The number by the line without the blanks that close it.
+
+-- what spells an integer ends in a digit
+unpadded-front : (l : List ℕ) {b : ℕ} {bs : List ℕ} → Unpadded (b ∷ bs) → Unpadded (l ++ (b ∷ bs))
+unpadded-front [] u = u
+unpadded-front (a ∷ []) u = Unpadded.more u
+unpadded-front (a ∷ c ∷ l) u = Unpadded.more (unpadded-front (c ∷ l) u)
+
+digits-unpadded : (l : List ℕ) {m v : ℕ} {ds : List ℕ} → Digits m ds v → 0 < length ds → Unpadded (l ++ ds)
+digits-unpadded l none h = absurd (omega arith)
+digits-unpadded l (more {m} {b} lo hi none) h = unpadded-front l (Unpadded.last (λ e. omega arith))
+digits-unpadded l (more {m} {b} lo hi (more p q d)) h =
+    unpadded-front l (Unpadded.more (digits-unpadded [] (more p q d) (omega arith)))
+
+integer-unpadded : {n : Bool} {v : ℕ} {l : List ℕ} → IntegerSpelling n v l → Unpadded l
+integer-unpadded (spelled bl sg ds b s d h) = rw (← append-assoc) (digits-unpadded (bl ++ sg) d h)
+
+-- six bytes are left of a number line
+number-six : {v : ℕ} {l : List ℕ} → NumberLine v l → length (trimmed l) ≡ 6
+number-six (number-line field bl n s lo hi b) = rw (trimmed-complete (text-in bl (integer-unpadded s) b)) n
+
+pub trimmed-within : (l : List ℕ) → length (trimmed l) ≤ length l
+trimmed-within l = omega (arith, ap length (trimmed-take l), length-take (length (trimmed l)) l)
+
+blanks-after : {t l : List ℕ} → TextIn t l → length t ≡ 6 → Blanks (drop 6 l)
+blanks-after (text-in {t} bl u b) n = rw (drop-at t bl 6 n) b
+
+module _ (l : List ℕ) (k : ℕ) (e : k ≡ length (trimmed l)) where
+  pub datasetNumber-six : k ≡ 6 → positive (integerOf (take k l)) ≡ datasetNumber l
+  unfolding datasetNumber
+  datasetNumber-six h = rw (h, allBlank-complete (blanks-after (trimmed-sound l) (sym e ∙ h))) refl
+
+  pub datasetNumber-other : 6 ≤ length l → (k ≡ 6 → ⊥) → 0 ≡ datasetNumber l
+  datasetNumber-other m h = by (datasetNumber l) refl
+    where
+      by : (v : ℕ) → datasetNumber l ≡ v → 0 ≡ v
+      by zero q = refl
+      by (suc v) q = absurd (h (e ∙ number-six (datasetNumber-sound l (suc v) m q (omega arith))))
 
 -- A delimiter is not blank.
 

@@ -5,6 +5,7 @@ ghost use Rattle.delimiter.specs.Kind.{isDelimiter, positive, datasetNum
 use integer::Integer;
 use integer::integer_field;
 use text::is_blank;
+use text::text_len;
 
 // Whether the line is blank.
 pub fn is_blank_line(line: &[u8; 80]) -> bool
@@ -52,8 +53,10 @@ pub fn dataset_number(line: &[u8; 80]) -> u32
     ensures { λ r. ⌜ r ≡ datasetNumber (now (line .entry)) ⌝ }
 {
     let columns: &[u8] = line;
-    if !is_blank(&columns[6..]) {
-        return 0;
+    let past = text_len(columns);
+    let number = positive(integer_field(&columns[..past]));
+    if past == 6 {
+        return number;
     }
-    positive(integer_field(&columns[0..6]))
+    0
 }

@@ -31,18 +31,18 @@ place-next : (s : State) (f : Refusal) (cs : List ℕ) → f .number ≤ 0 → l
 place-next s f cs p = let e : f .number ≡ 0 = omega arith in rw e refl
 
 -- a line's columns, as the first bytes before its LF
-module _ (s : State) (l : List ℕ) (n : ℕ) (e : n ≡ length (columns true l)) where
-  columns-first : take n l ≡ columns true l
-  columns-first = rw e (sym (columns-take true l))
+pub columns-first : (l : List ℕ) (n : ℕ) → n ≡ length (columns true l) → take n l ≡ columns true l
+columns-first l n e = rw e (sym (columns-take true l))
 
+module _ (s : State) (l : List ℕ) (n : ℕ) (e : n ≡ length (columns true l)) where
   module _ (f : Refusal) (q : f ≡ lineFault true (take n l)) where
     pub lineStep-own : 0 < f .number → Refused f ≡ lineStep s l
     unfolding lineStep
-    lineStep-own p = rw (← columns-first, ← q) (sym (own-first s f (take n l) p))
+    lineStep-own p = rw (← columns-first l n e, ← q) (sym (own-first s f (take n l) p))
 
     pub lineStep-place : f .number ≤ 0 → stepOf s (filled (take n l)) ≡ lineStep s l
     unfolding lineStep
-    lineStep-place p = rw (← columns-first, ← q) (sym (place-next s f (take n l) p))
+    lineStep-place p = rw (← columns-first l n e, ← q) (sym (place-next s f (take n l) p))
 
 -- the end of a file, by whether bytes stand after its last LF
 module _ (s : State) (n : ℕ) where

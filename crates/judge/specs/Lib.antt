@@ -1,5 +1,7 @@
+pub mod Plain
 pub mod Judge
 pub mod JudgeLaws
+pub mod PlainLaws
 pub mod Lines
 pub mod LinesLaws
 pub mod Refusal

@@ -1,9 +1,12 @@
 // The judge: a whole file, number and place.
 ghost use mathlib.Core.Path.{_≡_};
-ghost use Prim.Native.Nat.{_+_, _-_, _≤_};
+ghost use mathlib.Core.Bool.{true};
+ghost use Prim.Native.Nat.{_+_, _-_, _≤_, _<_};
 ghost use lib.ListN.{length};
 ghost use Rattle.judge.specs.Judge.{judged, reply, replyAt, lineStep, going, runEnd};
+ghost use Rattle.judge.specs.Plain.{plainDelimiter, PlainNumber};
 ghost use Rattle.judge.specs.Lines.{linesAt, linesTo, LinesJudged};
+use integer::integer_field;
 use line::Refusal;
 use walk::Due;
 use walk::Outcome;
@@ -49,12 +52,62 @@ pub struct Lines {
     pub at: usize,
 }
 
+// Whether the bytes are those of a delimiter with no blank after it.
+fn is_plain_delimiter(line: &[u8]) -> bool
+    ensures { λ r. ⌜ (r ≡ true → now (line .entry) ≡ plainDelimiter) ⌝ }
+{
+    if line.len() != 6 {
+        return false;
+    }
+    (line[0] == 32)
+        & (line[1] == 32)
+        & (line[2] == 32)
+        & (line[3] == 32)
+        & (line[4] == 45)
+        & (line[5] == 49)
+}
+
+// The number above zero in six columns; 0 where they hold none, or are not six.
+fn plain_number(columns: &[u8]) -> u32
+    ensures { λ r. ⌜ (0 < r → PlainNumber r (now (columns .entry))) ⌝ }
+{
+    let number = delimiter::positive(integer_field(columns));
+    if columns.len() == 6 {
+        return number;
+    }
+    0
+}
+
+// The same where a number line is due; elsewhere 0.
+fn number_due(s: State, columns: &[u8]) -> u32
+    ensures { λ r. ⌜ (0 < r → (s .place ≡ Place.Number) × PlainNumber r (now (columns .entry))) ⌝ }
+{
+    let place = s.place;
+    match place {
+        Place::Number => plain_number(columns),
+        Place::Outside => 0,
+        Place::Plain => 0,
+        Place::Typed(_) => 0,
+    }
+}
+
 // The step of a line that has its LF, by the bytes before it: its own refusals first, then those of its place.
 pub fn line_step(s: State, line: &[u8]) -> Outcome
     ensures { λ r. ⌜ r ≡ lineStep s (now (line .entry)) ⌝ }
 {
+    if is_plain_delimiter(line) {
+        return walk::delimiter_step(s);
+    }
     let n = line::columns_len(line, true);
     let columns = &line[..n];
+    let number = number_due(s, columns);
+    if 0 < number {
+        let sets = s.sets;
+        return Outcome::Next(State {
+            place: walk::opened(number),
+            sets,
+        });
+    }
     let fault = line::line_fault(columns, true);
     if 0 < fault.number {
         return Outcome::Refused(fault);

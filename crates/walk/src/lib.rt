@@ -1,8 +1,10 @@
 // The walk over a file's lines: the state, and the step of one line. It is the only place that knows what is due.
 ghost use mathlib.Core.Path.{_≡_};
-ghost use Prim.Native.Nat.{_≤_, _<_};
+ghost use mathlib.Core.List.{List};
+ghost use Prim.Native.Nat.{ℕ, _≤_, _<_};
 ghost use lib.ListN.{length, getD};
 ghost use Rattle.line.specs.Line.{refusal};
+ghost use Rattle.delimiter.specs.Kind.{Delimiter};
 ghost use Rattle.record_table.specs.Records.{noRecord};
 ghost use Rattle.record_table.specs.TypedSets.{kind58, kind82, kind1815, beforeAxes, mostRecords, kindOf, isTyped};
 ghost use Rattle.record.specs.Check.{rowRefusal};
@@ -461,6 +463,30 @@ pub fn typed_step(d: Due, sets: u32, line: &[u8; 80]) -> Outcome
         return goes_on(Place::Typed(after(d, number, line)), sets);
     }
     refused(8)
+}
+
+// The step of a delimiter, whatever blanks it is filled with.
+pub fn delimiter_step(s: State) -> Outcome
+    ensures { λ r. ⌜ ((line : List ℕ) → Delimiter line → r ≡ stepOf s line) ⌝ }
+{
+    let sets = s.sets;
+    let place = s.place;
+    match place {
+        Place::Outside => {
+            if sets < MOST_SETS {
+                return goes_on(Place::Number, sets + 1);
+            }
+            refused(15)
+        }
+        Place::Number => refused(6),
+        Place::Plain => goes_on(Place::Outside, sets),
+        Place::Typed(d) => {
+            if may_close(d, record_due(d)) {
+                return goes_on(Place::Outside, sets);
+            }
+            refused(7)
+        }
+    }
 }
 
 // The step of one line.
