@@ -163,12 +163,13 @@ pub blanks-fit : (n : ℕ) {l : List ℕ} → Fits (replicate n blank) l → Bla
 blanks-fit zero Fits.none = none
 blanks-fit (suc n) (Fits.more t f) = rw (takes-blank t) (one (blanks-fit n f))
 
--- and are on one line
+-- no LF is among bytes that may stand in columns
 pub lineLen-allowed : {cs : List ℕ} (r : List ℕ) → Allowed cs → lineLen (cs ++ r) ≡ length cs + lineLen r
 unfolding lineLen
 lineLen-allowed r Allowed.none = omega arith
 lineLen-allowed r (Allowed.more {b} {bs} low high a) = rw (ne-eqb b 10 (λ (e : b ≡ 10). omega arith), lineLen-allowed r a) (omega arith)
 
+-- a field's columns hold only such bytes
 pub field-allowed : (b m w : ℕ) {l : List ℕ} → Letter b → m ≤ 9 → Fits (fieldCells b m w) l → Allowed l
 unfolding fieldCells
 field-allowed b m w x low (Fits.more t0 (Fits.more t1 (Fits.more t2 (Fits.more t3 f)))) =
