@@ -7,7 +7,7 @@ use native.Mathlib.Nat.{pow-succ', pow-le-pow-right, mul-assoc, mul-le-mul-right
 use native.Mathlib.Omega.{arith}
 use borrow.Author.Tests.{eqb-true, le-leb, ne-eqb}
 use lib.Dec.{eqb}
-use lib.ListN.{length, getD, take, drop, replicate, length-append, length-take, take-append-drop}
+use lib.ListN.{length, getD, take, drop, replicate, length-append, take-append-drop}
 use lib.Seq.{take-at, drop-at, length-take-le}
 use Rattle.laws.specs.Choice.{pick}
 use Rattle.laws.specs.ChoiceLaws.{and-left, and-right, false-not-true}
@@ -15,7 +15,7 @@ use Rattle.text.specs.Blank.{Blanks, allBlank}
 use Rattle.text.specs.BlankLaws.{allBlank-complete, allBlank-sound}
 use Rattle.text.specs.Parts.{Digits, none, more}
 use Rattle.text.specs.Text.{Unpadded, TextIn, text-in, trimmed}
-use Rattle.text.specs.TextLaws.{trimmed-complete, trimmed-sound, trimmed-take}
+use Rattle.text.specs.TextLaws.{trimmed-complete, trimmed-sound}
 use Rattle.integer.specs.Spelling.{IntegerSpelling, spelled}
 use Rattle.integer.specs.Integer.{integerOf}
 use Rattle.integer.specs.IntegerLaws.{integerOf-complete, integerOf-value}
@@ -139,9 +139,6 @@ integer-unpadded (spelled bl sg ds b s d h) = rw (← append-assoc) (digits-unpa
 -- six bytes are left of a number line
 number-six : {v : ℕ} {l : List ℕ} → NumberLine v l → length (trimmed l) ≡ 6
 number-six (number-line field bl n s lo hi b) = rw (trimmed-complete (text-in bl (integer-unpadded s) b)) n
-
-pub trimmed-within : (l : List ℕ) → length (trimmed l) ≤ length l
-trimmed-within l = omega (arith, ap length (trimmed-take l), length-take (length (trimmed l)) l)
 
 blanks-after : {t l : List ℕ} → TextIn t l → length t ≡ 6 → Blanks (drop 6 l)
 blanks-after (text-in {t} bl u b) n = rw (drop-at t bl 6 n) b

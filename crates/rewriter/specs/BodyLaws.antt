@@ -13,7 +13,7 @@ use Rattle.laws.specs.Choice.{pick}
 use Rattle.laws.specs.ChoiceLaws.{below-or-not}
 use Rattle.laws.specs.Cut.{cut, lineLen}
 use Rattle.text.specs.Text.{trimmed}
-use Rattle.text.specs.TextLaws.{trimmed-take}
+use Rattle.text.specs.TextLaws.{trimmed-take, trimmed-most}
 use Rattle.line.specs.Line.{columns}
 use Rattle.line.specs.LineLaws.{columns-take, columns-within, lineLen-within}
 use Rattle.parts.specs.Parts.{bytesIn, Part, lineStart, lastLine, lastStart, closingStart}
@@ -29,9 +29,6 @@ use Rattle.rewriter.specs.Rewriter.{keptOf, linesText, cutLast, unpadded
 use Rattle.rewriter.specs.Body.{linesTo, linesIn, bodyText, cutText, lastText}
 
 -- what is kept of a line is its first bytes
-pub trimmed-most : (l : List ℕ) → length (trimmed l) ≤ length l
-trimmed-most l = omega (arith, ap length (trimmed-take l), length-take (length (trimmed l)) l)
-
 pub keptOf-most : (l : List ℕ) → length (keptOf l) ≤ length l
 unfolding keptOf
 keptOf-most l = omega (arith, trimmed-most (columns true l), columns-within true l)

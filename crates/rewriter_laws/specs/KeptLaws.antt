@@ -10,7 +10,7 @@ use lib.Seq.{take-all}
 use Rattle.laws.specs.Choice.{pick}
 use Rattle.text.specs.Blank.{Blanks.none as no-blank}
 use Rattle.text.specs.Text.{Unpadded, TextIn, text-in, trimmed}
-use Rattle.text.specs.TextLaws.{trimmed-complete, trimmed-sound}
+use Rattle.text.specs.TextLaws.{trimmed-complete, trimmed-sound, trimmed-most}
 use Rattle.line.specs.Line.{columns, withoutReturn, filled}
 use Rattle.field.specs.Item.{Item}
 use Rattle.record_table.specs.Row.{Row}
@@ -28,7 +28,7 @@ use Rattle.parts_laws.specs.DeclaredLaws.{case-held}
 use Rattle.parts_laws.specs.Stored.{storedCount}
 use Rattle.parts_laws.specs.PaddingLaws.{stored-held, ended-unpadded}
 use Rattle.rewriter.specs.Rewriter.{keptOf, cutLast, unpadded}
-use Rattle.rewriter.specs.BodyLaws.{trimmed-most, keptOf-most}
+use Rattle.rewriter.specs.BodyLaws.{keptOf-most}
 use Rattle.rewriter.specs.Fair.{Fair, FairLines, Inner}
 use Rattle.rewriter.specs.RewriterLaws.{filled-text, cut-columns, cut-fair}
 use Rattle.rewriter_laws.specs.Form.{Trimmed, countedColumns, EndsBy, SameLines}

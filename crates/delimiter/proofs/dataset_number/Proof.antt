@@ -2,7 +2,8 @@
 use mathlib.Core.Path.{sym, _∙_}
 use native.Mathlib.Omega.{arith}
 use lib.Seq.{length-take-le}
-use Rattle.delimiter.specs.KindLaws.{trimmed-within, datasetNumber-six, datasetNumber-other}
+use Rattle.text.specs.TextLaws.{trimmed-most}
+use Rattle.delimiter.specs.KindLaws.{datasetNumber-six, datasetNumber-other}
 use borrow.Author.Needs.{needs}
 use Rattle.delimiter.proofs.dataset_number.Statement.{statement}
 use Rattle.delimiter.proofs.dataset_number.Tie as tie
@@ -11,7 +12,7 @@ text-len-requires : tie.Need-text-len-requires
 text-len-requires c κs = search needs
 
 slice-aggregate-integer-field : tie.Need-slice-aggregate-integer-field
-slice-aggregate-integer-field c = sym (length-take-le _ _ (rw (c .before .text-len .ensures) (trimmed-within _)))
+slice-aggregate-integer-field c = sym (length-take-le _ _ (rw (c .before .text-len .ensures) (trimmed-most _)))
 
 integer-field-requires : tie.Need-integer-field-requires
 integer-field-requires c κs = search needs
