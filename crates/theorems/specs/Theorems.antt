@@ -512,7 +512,7 @@ module _ (header : List ℕ) (h : 0 < headerOf header .reply .number) where
       → headerOf header .reply ≡ atLine headerLines (twelfthFault (getD (cut header .lines) headerLines []))
   header-twelfth = HeaderRefusedLaws.past-refused header h
 
--- C-15. "The planner wants to type in a set's printed FORMAT and read a line's fields, by number from 0.": `Question.answerOf text k line`, field k of a line lent alone;
+-- C-15. "read a line's fields, by number from 0", by a FORMAT that is typed in: `Question.answerOf text k line`, field k of a line lent alone;
 -- C gets it by `replyFor` (`uff_field`). What it can answer, and why: field k in its own columns, by a FORMAT that fits, of a line with which nothing is wrong by its
 -- fields; 26, 27 and 18; and the line's own refusal, for what is wrong with it (`format_laws` Fault)
 pub question-table : (text : List ℕ) (k : ℕ) (line : List ℕ) → FieldSaid text k line (Question.answerOf text k line)

@@ -29,7 +29,8 @@ use Rattle.usual_columns.specs.Cells.{Cell, Takes, blank, digit, fieldCe
 use Rattle.usual_columns.specs.CellsLaws.{fits-split, fits-passed}
 use Rattle.usual_columns.specs.FieldLaws.{takes-blank, field-holds, blanks-fit}
 use Rattle.usual_columns.specs.RowLaws.{field-length, Clear, clear-end, clear-on, fits-on, clear-passes}
-use Rattle.usual_columns.specs.Parts.{printable, Part, skipped, text, real, coded, asked, fieldOf, cellsOf, partsCells, recordCells, allTaken, allFit, isSure, allSure, PassesAt, AskedAt, Asked, functionParts, dataParts, axisParts}
+use Rattle.usual_columns.specs.Parts.{printable, Part, skipped, text, real, coded, asked, fieldOf, cellsOf, partsCells, recordCells}
+use Rattle.usual_columns.specs.Parts.{allTaken, allFit, isSure, allSure, PassesAt, AskedAt, Asked, functionParts, dataParts, axisParts}
 
 -- a test of all that columns take holds for what fits them
 taken-all : (c : Cell) (f : ℕ → Bool) {b : ℕ} → allTaken c f ≡ true → Takes c b → f b ≡ true

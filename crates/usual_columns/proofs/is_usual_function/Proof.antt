@@ -42,8 +42,12 @@ returns c h =
     let e = c .asks4 .result in
     let first = and-left (a && b) (d && e) h in
     let second = and-right (a && b) (d && e) h in
+    let version = at-asks .asks .ensures (and-left a b first) in
+    let load = at-asks2 .asks2 .ensures (and-right a b first) in
+    let response = at-asks3 .asks3 .ensures (and-left d e second) in
+    let reference = c .asks4 .ensures (and-right d e second) in
     usual-passes functionParts line function-usual refl refl refl (at-arg .passes-arg .given .0) (at-passes .passes .ensures (at-if1 .if1 .taken))
-    (tt, (at-asks .asks .ensures (and-left a b first), (tt, (at-asks2 .asks2 .ensures (and-right a b first), (tt, (tt, (at-asks3 .asks3 .ensures (and-left d e second), (tt, (tt, (tt, (c .asks4 .ensures (and-right d e second), (tt, (tt)))))))))))))
+    (tt, (version, (tt, (load, (tt, (tt, (response, (tt, (tt, (tt, (reference, (tt, tt))))))))))))
 
 returns-2 : tie.Need-returns-2
 returns-2 c h = false-not-true h

@@ -25,8 +25,10 @@ returns c =
     let at-start = at-row .before .before .before .before .before .before .before .before in
     let row = at-row .put-row .ensures in
     let end = at-greater .greater .ensures in
-    let laid = table-laid _ _ _ _ _ _ _ _ (at-start .pre .0) (omega (arith, row .0, end)) (omega (arith, row .0, end, at-start .pre .1, at-start .pre .2)) (row .0) (row .1) (at-columns .put-columns .ensures) (c .put-columns2 .ensures) in
-    (omega (arith, row .0, end), laid)
+    let blanks = at-columns .put-columns .ensures in
+    let rest = c .put-columns2 .ensures in
+    let pre = at-start .pre in
+    (omega (arith, row .0, end), table-laid _ _ _ _ _ _ _ _ (pre .0) (omega (arith, row .0, end)) (omega (arith, row .0, end, pre .1, pre .2)) (row .0) (row .1) blanks rest)
 
 pub put-tables-spec : {M : Type 1} → statement M
 put-tables-spec =
