@@ -85,7 +85,8 @@ module _ {v : ℕ} {cs : List ℕ} (p : 0 < v) (r : PlainNumber v cs) where
   pub plain-number-filled : datasetNumber (filled cs) ≡ v
   unfolding datasetNumber
   plain-number-filled =
-      rw (filled-short cs (omega (arith, r .six)), take-at cs (replicate (80 - length cs) 32) 6 (r .six), drop-at cs (replicate (80 - length cs) 32) 6 (r .six), allBlank-complete (blanks-replicate (80 - length cs)))
+      let blanks : List ℕ = replicate (80 - length cs) 32 in
+      rw (filled-short cs (omega (arith, r .six)), take-at cs blanks 6 (r .six), drop-at cs blanks 6 (r .six), allBlank-complete (blanks-replicate (80 - length cs)))
       (sym (r .read))
 
   pub plain-number-passes : lineFault true cs ≡ passed

@@ -156,7 +156,8 @@ spot-opens file d j s at h =
     record { spot-is = rw (l, f, o) refl; inside = at .inside }
 
 -- a number that opens a line
-module _ (file : List ℕ) (d : Data) (body : d .body ≤ length file) (eight : d .case < 8) (j line next : ℕ) (at : AtSpot file d j (spot line 0 line)) {until : ℕ} (usual : UsualLine file d until line next) where
+module _ (file : List ℕ) (d : Data) (body : d .body ≤ length file) (eight : d .case < 8) (j line next : ℕ) (at : AtSpot file d j (spot line 0 line))
+    {until : ℕ} (usual : UsualLine file d until line next) where
   abbrev n : ℕ
   n = fieldsOf (d .case)
 

@@ -167,10 +167,12 @@ loop-again c =
           let width = at-index .index .ensures ∙ width-own (d .case) k _ (lent .widths-are) before in
           let own = rw (so-far .here, width) at read in
           let pattern = line-pattern file d (lent .body) (lent .eight) _ _ _ (g .at-spot) (g .usual) k (c .field-bits .result) old before own in
+          let out = at-loop .loop .out in
+          let bits = c .field-bits .result in
           record {
             within = omega arith;
             here = further _ _ _ _ _ (so-far .here) width;
-            same = λ count a b. rw (← next) (patterns-next (realAt file d) (args .j + k) count (omega arith) (at-loop .loop .out) (omega (arith, inv .long)) 0 (c .field-bits .result) pattern ∙ so-far .same count a b);
+            same = λ count a b. rw (← next) (patterns-next (realAt file d) (args .j + k) count (omega arith) out (omega (arith, inv .long)) 0 bits pattern ∙ so-far .same count a b);
           };
     }
 

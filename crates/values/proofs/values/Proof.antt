@@ -98,7 +98,10 @@ read-all-requires c κs =
     let at-find-data = at-widths .before .before .before .before .before .before in
     let at-start = at-find-data .before .before .before .before .before .before in
     let inside = data-inside (at-start .args .file .now) _ _ (at-find-data .find-data .ensures) in
-    let lent = lent-for (at-start .args .file .now) (at-find-data .find-data .result) _ _ _ _ _ _ inside (at-widths .line-widths .ensures) (at-powers .powers .ensures) (at-tables .line-tables .ensures) (at-first .first-spot .ensures) in
+    let planned = at-tables .line-tables .ensures in
+    let file = at-start .args .file .now in
+    let widths = at-widths .line-widths .ensures in
+    let lent = lent-for file (at-find-data .find-data .result) _ _ _ _ _ _ inside widths (at-powers .powers .ensures) planned (at-first .first-spot .ensures) in
     (lent .0, (lent .1, λ q. false-not-true q))
 
 bare-reply-requires-2 : tie.Need-bare-reply-requires-2
@@ -157,7 +160,9 @@ read-all-requires-2 c κs =
     let at-start = at-find-data .before .before .before .before .before .before in
     let inside = data-inside (at-start .args .file .now) _ _ (at-find-data .find-data .ensures) in
     let planned = at-tables .line-tables .ensures in
-    let lent = lent-for (at-start .args .file .now) (at-find-data .find-data .result) _ _ _ _ _ _ inside (at-widths .line-widths .ensures) (at-powers .powers .ensures) planned (at-first .first-spot .ensures) in
+    let file = at-start .args .file .now in
+    let widths = at-widths .line-widths .ensures in
+    let lent = lent-for file (at-find-data .find-data .result) _ _ _ _ _ _ inside widths (at-powers .powers .ensures) planned (at-first .first-spot .ensures) in
     (lent .0, (lent .1, λ q. omega (arith, planned .0 .1, at-if4 .if4 .left)))
 
 bare-reply-requires-4 : tie.Need-bare-reply-requires-4
