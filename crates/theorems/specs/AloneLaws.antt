@@ -1,5 +1,5 @@
 -- A set of an accepted file is accepted alone, and every call answers of it as in the whole file.
-use mathlib.Core.Path.{_≡_, refl, sym, ap, subst, _∙_}
+use mathlib.Core.Path.{_≡_, refl, sym, ap, _∙_}
 use mathlib.Core.Logic.{⊎-elim}
 use mathlib.Core.Bool.{Bool, true, false}
 use mathlib.Core.List.{List, [], _∷_, _++_, map, map-append, append-nil}
@@ -9,8 +9,7 @@ use native.Mathlib.Omega.{arith}
 use borrow.Author.Tests.{lt-ltb, le-ltb, eqb-true, eqb-false}
 use lib.Dec.{ltb, eqb}
 use lib.Ieee.{Float}
-use lib.ListN.{length, getD, drop, length-append, length-drop}
-use lib.Seq.{drop-cons}
+use lib.ListN.{length, drop, length-append}
 use Rattle.laws.specs.Choice.{pick}
 use Rattle.laws.specs.ChoiceLaws.{below-or-not}
 use Rattle.laws.specs.Cut.{text, cut}
@@ -40,14 +39,14 @@ use Rattle.parts_laws.specs.HoldsLaws.{held-part}
 use Rattle.parts_laws.specs.Text.{linesOf}
 use Rattle.parts_laws.specs.TextLaws.{joined-length, stand-cut, part-bytes, part-cut}
 use Rattle.parts_laws.specs.Declared.{declared}
-use Rattle.parts_laws.specs.DeclaredLaws.{as-many, stand-at}
 use Rattle.parts_laws.specs.CaseLaws.{declared-some}
 use Rattle.parts_laws.specs.Stored.{storedCount, storedItem}
 use Rattle.theorems.specs.Answers.{realOfItem, valueSaid, allSaid}
 use Rattle.theorems.specs.AnswersLaws.{number-answered, number-past, number-other, number-asked, value-answered, value-past, value-other, value-asked, all-by-list, all-other, all-asked}
 use Rattle.theorems.specs.Alone.{aloneIn, setsAlone, together, atStart, rowAlone, saidBehind, Alone}
 use Rattle.theorems.specs.Stands.{SetAt}
-use Rattle.theorems.specs.JudgeLaws.{proper-accepted, accepted-zero}
+use Rattle.judge_laws.specs.HeldLaws.{part-held}
+use Rattle.judge_laws.specs.JudgeLaws.{proper-accepted, accepted-zero}
 use Rattle.theorems.specs.ListerLaws.{lister-places, lister-answers, set-holds}
 
 -- What the reader answers of a set, whatever file it stands in.
@@ -231,15 +230,6 @@ set-alone {sets} {bytes} w {k} {s} {p} at =
     }
 
 -- Of all sets together.
-
--- each part of an accepted file is a set of its list
-part-held : {n at : ℕ} {ss : List Set} {ps : List Part} {ls : List (List ℕ)} (k : ℕ) (p : Part) (qs : List Part) → AtPlaces n at ss ps ls → drop k ps ≡ p ∷ qs → (s : Set) × Holds s p
-part-held {ss = ss} {ps = ps} k p qs a d =
-    let l : length ps - k ≡ suc (length qs) = sym (length-drop k ps) ∙ ap length d in
-    let f = stand-at k (getD ss k (set 0 [])) (drop (suc k) ss) a (drop-cons ss k (set 0 []) (omega (arith, as-many a))) in
-    let q : f .part ∷ f .others ≡ p ∷ qs = sym (f .sets) ∙ d in
-    let same : f .part ≡ p = cc in
-    (getD ss k (set 0 []), subst (Holds (getD ss k (set 0 []))) same (f .holds))
 
 rewritten-each : (bytes : List ℕ) (ps : List Part) → ((k : ℕ) (q : Part) (qs : List Part) → drop k ps ≡ q ∷ qs → rewrittenFile (aloneIn bytes q) ≡ rewrittenSet q)
     → rewritten ps ≡ together (map rewrittenFile (map (aloneIn bytes) ps))

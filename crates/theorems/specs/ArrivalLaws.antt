@@ -35,7 +35,7 @@ use Rattle.walk_laws.specs.FaultColumnLaws.{fault-column}
 use Rattle.theory.specs.Sets.{Set}
 use Rattle.theory.specs.Proper.{Proper}
 use Rattle.theorems.specs.Table.{OfLine, BurstInTable}
-use Rattle.theorems.specs.JudgeLaws.{accepted-proper, proper-accepted}
+use Rattle.judge_laws.specs.JudgeLaws.{accepted-proper, proper-accepted}
 use Rattle.theorems.specs.TableCallsLaws.{of-either}
 
 -- what is said of a fresh record brought up to date by bursts

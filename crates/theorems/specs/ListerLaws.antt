@@ -16,17 +16,15 @@ use Rattle.parts.specs.SetLaws.{somewhere}
 use Rattle.lister.specs.Lister.{rowNumbers, entry, rowsOf, listReply, listRows}
 use Rattle.theory.specs.Sets.{Set}
 use Rattle.theory.specs.Proper.{Proper}
-use Rattle.line_laws.specs.Ends.{CutInto, joined}
-use Rattle.line_laws.specs.EndsLaws.{ended-complete}
-use Rattle.line_laws.specs.ShortLaws.{ended-short}
+use Rattle.line_laws.specs.Ends.{joined}
 use Rattle.parts_laws.specs.Holds.{Holds, AtPlaces}
-use Rattle.parts_laws.specs.HoldsLaws.{lines-stand}
 use Rattle.parts_laws.specs.Text.{linesOf}
 use Rattle.parts_laws.specs.TextLaws.{part-bytes}
 use Rattle.parts_laws.specs.Declared.{declared}
 use Rattle.parts_laws.specs.DeclaredLaws.{number-held, declared-held, all-held, as-many, stand-at}
 use Rattle.theorems.specs.Stands.{SetAt}
-use Rattle.theorems.specs.JudgeLaws.{proper-accepted}
+use Rattle.judge_laws.specs.HeldLaws.{proper-places}
+use Rattle.judge_laws.specs.JudgeLaws.{proper-accepted}
 
 -- the places 7k to 7k + 6 of rows are those of set k
 row-at : {q : Part} {others : List Part} (k : ℕ) (parts : List Part) (rest : List ℕ) → drop k parts ≡ q ∷ others → take rowNumbers (drop (rowNumbers * k) (rowsOf parts ++ rest)) ≡ entry q
@@ -41,10 +39,7 @@ row-at (suc k) (p ∷ parts) rest e =
 
 module _ {sets : List Set} {bytes : List ℕ} (p : Proper sets bytes) where
   pub lister-places : AtPlaces 0 0 sets (partsOf bytes) (cut bytes .lines)
-  unfolding partsOf
-  lister-places =
-      let c : CutInto (p .columns) bytes = ended-complete (p .ends) in
-      lines-stand (p .lines) (ended-short (p .ends)) 0 0 (cut bytes .lines) (c .same)
+  lister-places = proper-places p
 
   pub parts-many : length (partsOf bytes) ≡ length sets
   parts-many = as-many lister-places

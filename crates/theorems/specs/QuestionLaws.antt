@@ -27,7 +27,7 @@ use Rattle.format_laws.specs.JudgeLaws.{passed-row, passed-shows}
 use Rattle.format_laws.specs.Said.{SeenAs, a-text, an-integer, a-real, FieldSaid}
 use Rattle.format_laws.specs.SaidLaws.{question-said, seen-number}
 use Rattle.theorems.specs.Answers.{FilledBy, KindBytes}
-use Rattle.theorems.specs.RowTestsLaws.{rowDue-sound}
+use Rattle.judge_laws.specs.RowTestsLaws.{rowDue-sound}
 use Rattle.theorems.specs.KeptLaws.{answer-kept}
 use Rattle.theorems.specs.LentLaws.{filled, short, twenty}
 

@@ -25,7 +25,7 @@ use Rattle.parts_laws.specs.Declared.{declared, setCase}
 use Rattle.parts_laws.specs.Stored.{storedCount, storedItem}
 use Rattle.theorems.specs.Stands.{SetAt, At58}
 use Rattle.theorems.specs.Answers.{Answered, NoSuch, AsJudged, realOfItem, valueSaid, ownBytes}
-use Rattle.theorems.specs.JudgeLaws.{accepted-zero}
+use Rattle.judge_laws.specs.JudgeLaws.{accepted-zero}
 use Rattle.theorems.specs.ListerLaws.{no-parts, set-holds, set-somewhere}
 use Rattle.theorems.specs.AnswersLaws.{value-own, valueWith-same, number-answered, number-past, number-other, number-asked, value-answered}
 use Rattle.theorems.specs.AnswersLaws.{value-past, value-other, value-asked, all-other, all-asked, item-own, real-same}

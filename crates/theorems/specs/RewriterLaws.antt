@@ -13,7 +13,7 @@ use Rattle.rewriter_laws.specs.RewritingLaws.{rewritten-short, rewritten-proper
 use Rattle.theory.specs.Sets.{Set}
 use Rattle.theory.specs.Proper.{Proper}
 use Rattle.theorems.specs.Answers.{Filled}
-use Rattle.theorems.specs.JudgeLaws.{proper-accepted, proper-unique}
+use Rattle.judge_laws.specs.JudgeLaws.{proper-accepted, proper-unique}
 
 -- files that are rewritten to the same bytes have one list
 pub one-list : {a b : List Set} {x y : List ℕ} → Proper a x → Proper b y → rewrittenFile x ≡ rewrittenFile y → a ≡ b

@@ -27,7 +27,7 @@ use Rattle.rewriter_laws.specs.Differ.{PaddingAside}
 use Rattle.rewriter_laws.specs.RewritingLaws.{aside-rewritten, aside-opening, aside-lines}
 use Rattle.theorems.specs.Stands.{SetAt, At58}
 use Rattle.theorems.specs.Answers.{realOfItem}
-use Rattle.theorems.specs.JudgeLaws.{proper-accepted}
+use Rattle.judge_laws.specs.JudgeLaws.{proper-accepted}
 use Rattle.theorems.specs.ListerLaws.{set-stands, parts-many, lister-numbers}
 use Rattle.theorems.specs.ReaderLaws.{reader-no-set, reader-not-58, reader-past, number-of-list, reader-values}
 use Rattle.theorems.specs.ValuesLaws.{all-of-list}

@@ -78,7 +78,7 @@ use Rattle.stream_laws.specs.StreamingLaws as StreamingLaws
 use Rattle.stream_laws.specs.CallsLaws as CallsLaws
 use Rattle.theorems.specs.TableLaws as TableLaws
 use Rattle.theorems.specs.TableCallsLaws as TableCallsLaws
-use Rattle.theorems.specs.JudgeLaws as JudgeLaws
+use Rattle.judge_laws.specs.JudgeLaws as JudgeLaws
 use Rattle.theorems.specs.ListerLaws as ListerLaws
 use Rattle.theorems.specs.ColumnsLaws as ColumnsLaws
 use Rattle.theorems.specs.ReaderLaws as ReaderLaws

@@ -20,7 +20,7 @@ use Rattle.parts_laws.specs.Stored.{storedCount}
 use Rattle.parts_laws.specs.CaseLaws.{case-eight, declared-most}
 use Rattle.theorems.specs.Stands.{At58}
 use Rattle.theorems.specs.Answers.{InTurn, Filled, valueSaid, allSaid}
-use Rattle.theorems.specs.JudgeLaws.{accepted-zero}
+use Rattle.judge_laws.specs.JudgeLaws.{accepted-zero}
 use Rattle.theorems.specs.ListerLaws.{set-holds, set-somewhere}
 use Rattle.theorems.specs.AnswersLaws.{all-by-list, all-asked, said-each, said-refused}
 use Rattle.theorems.specs.ReaderLaws.{reader-values}

@@ -20,7 +20,7 @@ use Rattle.writer_laws.specs.LentLaws.{lent-accepted}
 use Rattle.writer_laws.specs.Reply.{Coefficients}
 use Rattle.writer_laws.specs.ReplyLaws.{answered, answered-fit}
 use Rattle.theorems.specs.Answers.{Filled}
-use Rattle.theorems.specs.JudgeLaws.{accepted-proper, accepted-zero}
+use Rattle.judge_laws.specs.JudgeLaws.{accepted-proper, accepted-zero}
 use Rattle.theorems.specs.ListerLaws.{lister-places, set-stands}
 use Rattle.theorems.specs.ReaderLaws.{reader-numbers}
 use Rattle.theorems.specs.LaidOut.{writtenText, Writable, LaidOut, ReadAs}

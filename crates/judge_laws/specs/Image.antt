@@ -8,7 +8,7 @@ use Rattle.walk.specs.declared.State.{State}
 use Rattle.walk.specs.declared.Outcome.{Outcome}
 use Rattle.walk.specs.declared.Outcome.the-variants.{Next, Refused}
 use Rattle.walk.specs.Step.{start, state}
-use Rattle.theorems.specs.ListReader.{Reading, outside, number, plain, typed, bad}
+use Rattle.judge_laws.specs.ListReader.{Reading, outside, number, plain, typed, bad}
 
 -- a reading that is not refused
 abbrev pub Standing : Reading → Type 0

@@ -13,7 +13,7 @@ use Rattle.theory.specs.Due.{setRows}
 use Rattle.theory.specs.Proper.{TypedLines}
 use Rattle.walk_laws.specs.Follows.{Follows}
 use Rattle.walk_laws.specs.FollowsLaws.{follows-rows, rows-follow}
-use Rattle.theorems.specs.TypedRun.{TypedRun}
+use Rattle.judge_laws.specs.TypedRun.{TypedRun}
 
 -- lines written by the rows that the walk follows are a run of it
 follows-run : {d : Due} {iss : List (List Item)} {rs : List Row} {css : List (List ℕ)} → Follows d iss rs → TypedLines rs iss css → TypedRun d iss css

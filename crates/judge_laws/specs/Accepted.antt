@@ -8,7 +8,7 @@ use Rattle.laws.specs.Cut.{cut}
 use Rattle.line.specs.Line.{columns}
 use Rattle.theory.specs.Sets.{Set}
 use Rattle.line_laws.specs.Ends.{AllPass}
-use Rattle.theorems.specs.ListReader.{outside, readLines}
+use Rattle.judge_laws.specs.ListReader.{outside, readLines}
 
 -- a file of n lines, not too long, whose lines end and pass, and are read as at least one set
 pub record Accepted (bytes : List ℕ) (n : ℕ) : Type 0 where

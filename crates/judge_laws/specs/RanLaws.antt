@@ -15,11 +15,11 @@ use Rattle.walk.specs.declared.Outcome.{Outcome}
 use Rattle.judge.specs.declared.Reply.{Reply}
 use Rattle.judge.specs.Judge.{replyAt, lineStep, Run, going, refused, onOutcome}
 use Rattle.line_laws.specs.Ends.{AllPass}
-use Rattle.theorems.specs.ListReader.{Reading, readLine, readLines}
-use Rattle.theorems.specs.ListReaderSoundLaws.{bad-stays}
-use Rattle.theorems.specs.Image.{Standing, image, Agrees}
-use Rattle.theorems.specs.ImageLaws.{step-image}
-use Rattle.theorems.specs.Ran.{runOver, Ran}
+use Rattle.judge_laws.specs.ListReader.{Reading, readLine, readLines}
+use Rattle.judge_laws.specs.ListReaderSoundLaws.{bad-stays}
+use Rattle.judge_laws.specs.Image.{Standing, image, Agrees}
+use Rattle.judge_laws.specs.ImageLaws.{step-image}
+use Rattle.judge_laws.specs.Ran.{runOver, Ran}
 
 -- a refused run stays refused
 runOver-refused : (p : Reply) (ls : List (List ℕ)) → runOver (refused p) ls ≡ refused p

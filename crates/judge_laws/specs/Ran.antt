@@ -9,8 +9,8 @@ use Rattle.line.specs.Line.{columns}
 use Rattle.judge.specs.declared.Reply.{Reply}
 use Rattle.judge.specs.Judge.{Run, going, refused, runStep}
 use Rattle.line_laws.specs.Ends.{AllPass}
-use Rattle.theorems.specs.ListReader.{Reading, bad, readLines}
-use Rattle.theorems.specs.Image.{Standing, image}
+use Rattle.judge_laws.specs.ListReader.{Reading, bad, readLines}
+use Rattle.judge_laws.specs.Image.{Standing, image}
 
 -- the judge's run over raw lines
 abbrev pub runOver : Run → List (List ℕ) → Run

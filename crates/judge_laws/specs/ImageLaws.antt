@@ -22,8 +22,8 @@ use Rattle.walk.specs.declared.Outcome.the-variants.{Next, Refused}
 use Rattle.walk.specs.Due.{mayClose, mayContinue, rowDue}
 use Rattle.walk.specs.Step as Step
 use Rattle.theory.specs.Sets.{Set, set}
-use Rattle.theorems.specs.ListReader.{Reading, outside, number, plain, typed, bad, closed, typedOn, readLine}
-use Rattle.theorems.specs.Image.{Standing, image, Agrees, stands, refused}
+use Rattle.judge_laws.specs.ListReader.{Reading, outside, number, plain, typed, bad, closed, typedOn, readLine}
+use Rattle.judge_laws.specs.Image.{Standing, image, Agrees, stands, refused}
 
 -- a refusal of some number
 agrees-refused : (n c : ℕ) → Agrees (Refused (refusal (suc n) c)) bad

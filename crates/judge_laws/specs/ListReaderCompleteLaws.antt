@@ -19,11 +19,11 @@ use Rattle.walk.specs.Due.{mayClose, mayContinue, rowDue, afterItems}
 use Rattle.walk.specs.declared.Due.{Due}
 use Rattle.theory.specs.Sets.{Set}
 use Rattle.theory.specs.Proper.{Inside, BlankLines, PlainLines, SetLines, Lines}
-use Rattle.theorems.specs.ListReader.{Reading, outside, number, plain, typed, closed, opened, readLine, readLines}
+use Rattle.judge_laws.specs.ListReader.{Reading, outside, number, plain, typed, closed, opened, readLine, readLines}
 use Rattle.line_laws.specs.LineTestsLaws.{blankLine-complete, inside-complete}
-use Rattle.theorems.specs.RowFitsLaws.{rowDue-readable}
-use Rattle.theorems.specs.TypedRun.{TypedRun}
-use Rattle.theorems.specs.TypedRunLaws.{typedLines-run}
+use Rattle.judge_laws.specs.RowFitsLaws.{rowDue-readable}
+use Rattle.judge_laws.specs.TypedRun.{TypedRun}
+use Rattle.judge_laws.specs.TypedRunLaws.{typedLines-run}
 
 -- lines in two parts
 readLines-append : (r : Reading) (a b : List (List ℕ)) → readLines r (a ++ b) ≡ readLines (readLines r a) b

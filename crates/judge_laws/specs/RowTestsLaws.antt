@@ -9,7 +9,7 @@ use Rattle.record.specs.Written.{Written}
 use Rattle.record_laws.specs.LineReadingLaws.{written-sound}
 use Rattle.walk.specs.Due.{rowDue}
 use Rattle.walk.specs.declared.Due.{Due}
-use Rattle.theorems.specs.RowFitsLaws.{rowDue-fits, rowDue-readable}
+use Rattle.judge_laws.specs.RowFitsLaws.{rowDue-fits, rowDue-readable}
 
 -- what the row due takes is written by it
 pub rowDue-sound : (d : Due) (cs : List ℕ) → rowRefusal (rowDue d) (filled cs) .number ≡ 0

@@ -22,12 +22,12 @@ use Rattle.walk.specs.Due.{opening, mayClose, mayContinue, rowDue, after, after
 use Rattle.walk.specs.declared.Due.{Due}
 use Rattle.theory.specs.Sets.{Set, set}
 use Rattle.theory.specs.Proper.{BlankLines, PlainLines, SetLines, Lines}
-use Rattle.theorems.specs.ListReader.{Reading, outside, number, plain, typed, bad, closed, opened, typedOn, readLine, readLines}
+use Rattle.judge_laws.specs.ListReader.{Reading, outside, number, plain, typed, bad, closed, opened, typedOn, readLine, readLines}
 use Rattle.line_laws.specs.Short.{Short}
 use Rattle.line_laws.specs.LineTestsLaws.{blankLine-sound, inside-sound}
-use Rattle.theorems.specs.RowTestsLaws.{rowDue-sound}
-use Rattle.theorems.specs.TypedRun.{TypedRun}
-use Rattle.theorems.specs.TypedRunLaws.{run-typedLines}
+use Rattle.judge_laws.specs.RowTestsLaws.{rowDue-sound}
+use Rattle.judge_laws.specs.TypedRun.{TypedRun}
+use Rattle.judge_laws.specs.TypedRunLaws.{run-typedLines}
 
 -- At most 4,096 sets.
 
