@@ -1,4 +1,7 @@
 pub mod Lister
-pub mod Found
+pub mod Listed
 pub mod Count
+pub mod ListedLaws
+pub mod FunctionLaws
+pub mod NextLaws
 pub mod ListerLaws

@@ -3,7 +3,7 @@
 -- Later places keep their contents. It answers the number of sets."; 02, C-13: "The lister's row grows to seven numbers, the seventh the
 -- padding numbers").
 use mathlib.Core.List.{List, [], _∷_, _++_}
-use Prim.Native.Nat.{ℕ, suc, _*_, _≤_, _<_}
+use Prim.Native.Nat.{ℕ, suc, _*_}
 use lib.Dec.{ltb, eqb}
 use lib.ListN.{length, drop}
 use Rattle.laws.specs.Choice.{pick}
@@ -12,7 +12,6 @@ use Rattle.judge.specs.Judge.{judged, reply}
 use Rattle.parts.specs.Parts.{Part, partsOf, datasetOf, pastOf}
 use Rattle.parts.specs.Function.{countOf, dataStart}
 use Rattle.parts.specs.Padding.{paddingOf}
-use Rattle.parts.specs.declared.Extent.{Extent}
 
 -- how many places a set has in the rows
 abbrev pub rowNumbers : ℕ
@@ -36,8 +35,3 @@ listReply file places =
 unfoldable pub listRows : List ℕ → List ℕ → List ℕ
 listRows file rows =
     pick (eqb (listReply file (length rows) .number) 0) (rowsOf (partsOf file) ++ drop (rowNumbers * length (partsOf file)) rows) rows
-
--- the places of a set are in the file
-pub record Places (file : List ℕ) (e : Extent) : Type 0 where
-  pub lines : e .lines < e .past
-  pub first : e .first ≤ e .past

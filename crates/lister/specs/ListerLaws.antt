@@ -1,50 +1,23 @@
 -- The laws of a loop over the sets of a file.
 use mathlib.Core.Path.{_≡_, refl, sym, ap, _∙_}
-use mathlib.Core.Bool.{false}
 use mathlib.Core.List.{List, [], _∷_, _++_, append-assoc, append-nil}
 use Prim.Native.Nat.{ℕ, suc, _+_, _-_, _*_, _≤_, _<_}
 use native.Mathlib.Nat.{zero-add}
-use native.Mathlib.Numerals.{add-one}
 use native.Mathlib.Omega.{arith}
 use lib.ListN.{length, take, drop, set, length-append, length-drop, take-append-drop}
 use lib.Seq.{take-at, drop-at, drop-drop, length-take-le}
 use borrow.Rule.Slice.PartMut.{putMid}
-use Rattle.laws.specs.Cut.{cut}
-use Rattle.record_table.specs.TypedSets.{headerLines, lineSeven}
 use borrow.Author.Tests.{lt-ltb, le-ltb, ne-eqb}
 use Rattle.judge.specs.declared.Reply.{Reply}
 use Rattle.judge.specs.Judge.{judged, reply}
-use Rattle.parts.specs.declared.Extent.{Extent}
-use Rattle.parts.specs.Parts.{Part, partsOf, datasetOf, lineStart, closingStart, pastOf, throughOf, lineOf}
-use Rattle.parts.specs.Function.{countOf, dataStart}
-use Rattle.parts.specs.Padding.{paddingOf}
-use Rattle.parts.specs.Counted.{paddingAt}
-use Rattle.parts.specs.CountedLaws.{padding-own}
-use Rattle.parts.specs.FunctionLaws.{lineFrom-own}
-use Rattle.parts.specs.Scan.{firstOf, skipTo, lineFrom}
-use Rattle.lister.specs.Lister.{rowNumbers, listReply, listRows, entry, rowsOf, Places}
-use Rattle.lister.specs.Found.{declaredAt, dataAt, entryAt}
-use Rattle.parts.specs.ScanLaws.{found-none}
+use Rattle.parts.specs.Parts.{Part, partsOf, pastOf, throughOf}
 use Rattle.parts.specs.Set.{remaining}
-use Rattle.parts.specs.SetLaws.{line-at}
-use Rattle.parts.specs.Turn.{Turn}
+use Rattle.parts.specs.SetLaws.{standing}
 use Rattle.parts.specs.TurnLaws.{closing-from}
-
--- all of them are left at first
-pub sets-all : (file : List ℕ) → 0 + length (remaining file 0 0) ≡ length (partsOf file)
-unfolding partsOf
-sets-all file = zero-add (length (remaining file 0 0))
-
--- one more is counted, or none is left
-pub count-turn : (file : List ℕ) (n at k : ℕ) (e : Extent) → Turn file n at e
-    → (k + 1) + length (remaining file (e .through) (e .past)) ≡ k + length (remaining file n at)
-count-turn file n at k e t =
-    let a : length (remaining file n at) ≡ suc (length (t .first .others)) = ap length (t .first .sets) in
-    let b : length (t .first .others) ≡ length (remaining file (e .through) (e .past)) = ap length (t .others) in
-    omega arith
-
-pub count-done : (file : List ℕ) (n at k : ℕ) (e : Extent) → e ≡ firstOf (remaining file n at) → e .found ≡ false → k ≡ k + length (remaining file n at)
-count-done file n at k e q h = let a : length (remaining file n at) ≡ 0 = ap length (found-none (remaining file n at) e q h) in omega arith
+use Rattle.lister.specs.declared.Listed.{Listed}
+use Rattle.lister.specs.Lister.{rowNumbers, listReply, listRows, entry, rowsOf}
+use Rattle.lister.specs.Listed.{listedOf, listedFirst, rowOf, AllFull, Small, Next}
+use Rattle.lister.specs.ListedLaws.{some-first, full-first, row-own, small-own}
 
 -- seven numbers laid out in a row
 pub seven : (l : List ℕ) (a b c d e f g : ℕ) → length l ≡ rowNumbers
@@ -59,20 +32,6 @@ seven (x₀ ∷ x₁ ∷ x₂ ∷ x₃ ∷ x₄ ∷ []) a b c d e f g h = absurd
 seven (x₀ ∷ x₁ ∷ x₂ ∷ x₃ ∷ x₄ ∷ x₅ ∷ []) a b c d e f g h = absurd (omega arith)
 seven (x₀ ∷ x₁ ∷ x₂ ∷ x₃ ∷ x₄ ∷ x₅ ∷ x₆ ∷ x₇ ∷ xs) a b c d e f g h = absurd (omega arith)
 
--- the numbers by where a set stands are its own
-entryAt-of : (file : List ℕ) (e : Extent) (p : Part) → e .lines ≡ p .lines → e .first ≡ p .bytes → e .number ≡ datasetOf p → e .body ≡ lineStart p 0
-    → e .closing ≡ closingStart p → e .past ≡ pastOf p → lineFrom (closingStart p) (lineStart p 0) file lineSeven ≡ lineOf p lineSeven
-    → skipTo headerLines (closingStart p) (lineStart p 0) (cut (drop (lineStart p 0) file) .lines) ≡ lineStart p headerLines → paddingAt file e ≡ paddingOf p → entryAt file e ≡ entry p
-unfolding entryAt entry declaredAt dataAt countOf dataStart
-entryAt-of file e p a b c d f g h k m = rw (m, a, b, c, d, f, g, h, k, add-one) refl
-
-entryAt-own : (file : List ℕ) (n at : ℕ) (e : Extent) (t : Turn file n at e) → entryAt file e ≡ entry (t .first .set)
-entryAt-own file n at e t =
-    let f = t .first in
-    entryAt-of file e (f .set) (f .lines) (f .first) (f .number) (f .body) (f .closing) (f .past)
-    (lineFrom-own file n at (f .set) (f .others) (t .stands) lineSeven) (line-at file n at (f .set) (f .others) (t .stands) headerLines)
-    (padding-own file n at e t)
-
 entry-length : (p : Part) → length (entry p) ≡ rowNumbers
 unfolding entry
 entry-length p = refl
@@ -81,23 +40,70 @@ rowsOf-cons : (ps : List Part) (p : Part) (qs : List Part) → ps ≡ p ∷ qs �
 unfolding rowsOf
 rowsOf-cons ps p qs e = rw e refl
 
+-- One set more.
+
+listed-first : (l : Listed) (ps : List Part) (p : Part) (qs : List Part) → l ≡ listedFirst ps → ps ≡ p ∷ qs → l ≡ listedOf p
+unfolding listedFirst
+listed-first l ps p qs e q = e ∙ rw q refl
+
+listed-past : (l : Listed) (p : Part) → l ≡ listedOf p → (l .past ≡ pastOf p) × (l .through ≡ throughOf p)
+unfolding listedOf
+listed-past l p e = (ap (λ (x : Listed). x .past) e, ap (λ (x : Listed). x .through) e)
+
+pub next-set : (file : List ℕ) (n at : ℕ) (l : Listed) → at ≤ length file → n ≤ at → AllFull (remaining file n at) → 0 < length (remaining file n at)
+    → l ≡ listedFirst (remaining file n at) → Next file n at l
+next-set file n at l a few full h q =
+    let first = some-first (remaining file n at) h in
+    let p = first .0 in
+    let e = first .1 .1 in
+    let s = standing file n at p (first .1 .0) a e in
+    let found = listed-first l _ p _ q e in
+    let by = listed-past l p found in
+    let c = closing-from p in
+    record {
+      part = p;
+      others = first .1 .0;
+      sets = e;
+      found = found;
+      stands = s;
+      onward = omega (arith, by .0, s .from, s .later);
+      within = omega (arith, by .0, s .past);
+      lines = omega (arith, by .0, by .1, s .count, s .from, s .later);
+      rest = s .rest ∙ rw (by .0, by .1) refl;
+      full = full-first p _ full e .1;
+    }
+
+pub next-small : {file : List ℕ} {n at : ℕ} {l : Listed} (most : ℕ) → length file ≤ most → n ≤ at → Next file n at l → Small most l
+next-small {file} {n} {at} {l} most h few x =
+    let s : Small (length file) l = rw (x .found) (small-own file n at (x .part) (x .others) (x .stands) few) in
+    record { past = omega (arith, s .past); lines = s .lines; first = s .first; values = s .values; padding = s .padding }
+
+pub rows-left : {file : List ℕ} {n at : ℕ} {l : Listed} (i : ℕ) → Next file n at l
+    → (i + rowNumbers) + rowNumbers * length (remaining file (l .through) (l .past)) ≡ i + rowNumbers * length (remaining file n at)
+rows-left {file} {n} {at} {l} i x =
+    let a : length (remaining file n at) ≡ suc (length (x .others)) = ap length (x .sets) in
+    let b : length (x .others) ≡ length (remaining file (l .through) (l .past)) = ap length (x .rest) in
+    omega arith
+
 -- one more row is laid out: the rows so far, and those that are left as they were
-module _ (file rows ys : List ℕ) (n at i : ℕ) (e : Extent) (t : Turn file n at e) (l : i + rowNumbers ≤ length rows) (y : ys ≡ entryAt file e) where
+module _ (file rows ys : List ℕ) (n at i : ℕ) (l : Listed) (x : Next file n at l) (room : i + rowNumbers ≤ length rows) (y : ys ≡ rowOf l) where
   abbrev laid : List ℕ
   laid = putMid i (i + rowNumbers - i) rows ys
 
+  row-entry : ys ≡ entry (x .part)
+  row-entry = y ∙ ap rowOf (x .found) ∙ row-own (x .part)
+
   laid-length : length (take i rows ++ ys) ≡ i + rowNumbers
-  laid-length = rw (length-append (take i rows) ys, length-take-le i rows (omega arith), y, entryAt-own file n at e t, entry-length) refl
+  laid-length = rw (length-append (take i rows) ys, length-take-le i rows (omega arith), row-entry, entry-length) refl
 
   laid-parts : laid ≡ (take i rows ++ ys) ++ drop (i + rowNumbers) rows
   laid-parts = let z : i + (i + rowNumbers - i) ≡ i + rowNumbers = omega arith in rw (append-assoc, drop-drop, z) refl
 
-  pub rows-turn : take (i + rowNumbers) laid ++ rowsOf (remaining file (e .through) (e .past)) ≡ take i rows ++ rowsOf (remaining file n at)
+  pub rows-turn : take (i + rowNumbers) laid ++ rowsOf (remaining file (l .through) (l .past)) ≡ take i rows ++ rowsOf (remaining file n at)
   rows-turn =
-      rw (laid-parts, take-at (take i rows ++ ys) (drop (i + rowNumbers) rows) (i + rowNumbers) laid-length, y, entryAt-own file n at e t, append-assoc)
-      (ap (λ (x : List ℕ). take i rows ++ x)
-      (ap (λ (x : List Part). entry (t .first .set) ++ rowsOf x) (sym (t .others))
-      ∙ sym (rowsOf-cons (remaining file n at) (t .first .set) (t .first .others) (t .first .sets))))
+      rw (laid-parts, take-at (take i rows ++ ys) (drop (i + rowNumbers) rows) (i + rowNumbers) laid-length, row-entry, append-assoc)
+      (ap (λ (r : List ℕ). take i rows ++ r)
+      (ap (λ (r : List Part). entry (x .part) ++ rowsOf r) (sym (x .rest)) ∙ sym (rowsOf-cons (remaining file n at) (x .part) (x .others) (x .sets))))
 
   pub rows-kept : (rows₀ : List ℕ) → drop i rows ≡ drop i rows₀ → drop (i + rowNumbers) laid ≡ drop (i + rowNumbers) rows₀
   rows-kept rows₀ k =
@@ -108,57 +114,39 @@ unfolding partsOf
 rows-start file rows = refl
 
 -- none is left
-pub rows-done : (file rows rows₀ : List ℕ) (n at i : ℕ) (e : Extent) → e ≡ firstOf (remaining file n at) → e .found ≡ false
+pub rows-done : (file rows rows₀ : List ℕ) (n at i : ℕ) → rowNumbers * length (partsOf file) ≤ i
     → i + rowNumbers * length (remaining file n at) ≡ rowNumbers * length (partsOf file) → take i rows ++ rowsOf (remaining file n at) ≡ rowsOf (partsOf file)
     → drop i rows ≡ drop i rows₀ → rows ≡ rowsOf (partsOf file) ++ drop (rowNumbers * length (partsOf file)) rows₀
 unfolding rowsOf
-rows-done file rows rows₀ n at i e q h c r k =
-    let z : remaining file n at ≡ [] = found-none (remaining file n at) e q h in
-    let w : length (remaining file n at) ≡ 0 = ap length z in
+rows-done file rows rows₀ n at i h c r k =
+    let w : length (remaining file n at) ≡ 0 = omega arith in
+    let z : remaining file n at ≡ [] = none (remaining file n at) w in
     let m : i ≡ rowNumbers * length (partsOf file) = omega arith in
     let f : take i rows ≡ rowsOf (partsOf file) = sym (append-nil (take i rows)) ∙ ap (λ (x : List Part). take i rows ++ rowsOf x) (sym z) ∙ r in
     sym (take-append-drop i rows) ∙ rw (f, k, m) refl
-
--- room for one more row
-pub rows-room : (file : List ℕ) (n at i k : ℕ) (e : Extent) → Turn file n at e → i + rowNumbers * length (remaining file n at) ≡ rowNumbers * length (partsOf file)
-    → rowNumbers * length (partsOf file) ≤ k → i + rowNumbers ≤ k
-rows-room file n at i k e t c h = let a : length (remaining file n at) ≡ suc (length (t .first .others)) = ap length (t .first .sets) in omega arith
+  where
+    none : (ps : List Part) → length ps ≡ 0 → ps ≡ []
+    none [] e = refl
+    none (p ∷ ps) e = absurd (omega arith)
 
 pub rows-count : (file : List ℕ) → 0 + rowNumbers * length (remaining file 0 0) ≡ rowNumbers * length (partsOf file)
 unfolding partsOf
 rows-count file = zero-add (rowNumbers * length (remaining file 0 0))
 
-pub rows-left : (file : List ℕ) (n at i : ℕ) (e : Extent) → Turn file n at e
-    → (i + rowNumbers) + rowNumbers * length (remaining file (e .through) (e .past)) ≡ i + rowNumbers * length (remaining file n at)
-rows-left file n at i e t =
-    let a : length (remaining file n at) ≡ suc (length (t .first .others)) = ap length (t .first .sets) in
-    let b : length (t .first .others) ≡ length (remaining file (e .through) (e .past)) = ap length (t .others) in
-    omega arith
-
-through-more : (p : Part) → p .lines < throughOf p
-unfolding throughOf
-through-more p = omega arith
-
-pub rows-places : (file : List ℕ) (n at : ℕ) (e : Extent) → Turn file n at e → Places file e
-rows-places file n at e t =
-    let f = t .first in
-    let a : f .set .lines < throughOf (f .set) = through-more (f .set) in
-    let b : f .set .bytes ≤ closingStart (f .set) = closing-from (f .set) in
-    record {
-      lines = omega (arith, f .lines, f .through, t .lines);
-      first = omega (arith, f .first, f .past, t .stands .later);
-    }
+pub rows-full : (file : List ℕ) → AllFull (partsOf file) → AllFull (remaining file 0 0)
+unfolding partsOf
+rows-full file a = a
 
 -- its places are lent for a row
 pub row-length : (rows : List ℕ) (i : ℕ) → i + rowNumbers ≤ length rows → length (take (i + rowNumbers - i) (drop i rows)) ≡ rowNumbers
 row-length rows i h = let z : i + rowNumbers - i ≡ rowNumbers = omega arith in rw z (length-take-le rowNumbers (drop i rows) (rw length-drop (omega arith)))
 
 -- the reply and the rows, by the judge's reply and the room
-abbrev Listed : List ℕ → List ℕ → Reply → List ℕ → Type 0
-Listed file before r after = (r ≡ listReply file (length before)) × (after ≡ listRows file before)
+abbrev Answered : List ℕ → List ℕ → Reply → List ℕ → Type 0
+Answered file before r after = (r ≡ listReply file (length before)) × (after ≡ listRows file before)
 
 module _ (file before : List ℕ) (r : Reply) (j : r ≡ judged file) where
-  pub list-refused : 0 < r .number → Listed file before r before
+  pub list-refused : 0 < r .number → Answered file before r before
   unfolding listReply listRows
   list-refused h =
       let l : 0 < judged file .number = rw j at h in
@@ -169,7 +157,7 @@ module _ (file before : List ℕ) (r : Reply) (j : r ≡ judged file) where
     accepted : judged file .number ≤ 0
     accepted = rw j at a
 
-    pub list-short : length before < rowNumbers * k → Listed file before (reply 17 0) before
+    pub list-short : length before < rowNumbers * k → Answered file before (reply 17 0) before
     unfolding listReply listRows
     list-short h =
         let l : length before < rowNumbers * length (partsOf file) = rw q at h in
@@ -178,7 +166,7 @@ module _ (file before : List ℕ) (r : Reply) (j : r ≡ judged file) where
         (rw (none, short) refl, rw (none, short) refl)
 
     pub list-done : (rows : List ℕ) → rowNumbers * k ≤ length before → rows ≡ rowsOf (partsOf file) ++ drop (rowNumbers * length (partsOf file)) before
-        → Listed file before (reply 0 k) rows
+        → Answered file before (reply 0 k) rows
     unfolding listReply listRows
     list-done rows h e =
         let l : rowNumbers * length (partsOf file) ≤ length before = rw q at h in

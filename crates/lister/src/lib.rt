@@ -1,14 +1,19 @@
 // Document 01's lister: where the sets of a file stand.
 ghost use mathlib.Core.Path.{_≡_};
 ghost use mathlib.Core.List.{_++_};
-ghost use Prim.Native.Nat.{_*_, _≤_, _<_};
-ghost use lib.ListN.{length, drop};
-ghost use Rattle.parts.specs.Parts.{partsOf};
+ghost use Prim.Native.Nat.{_+_, _*_, _≤_, _<_};
+ghost use lib.ListN.{length, take, drop};
+ghost use Rattle.laws.specs.Cut.{lineLen};
+ghost use Rattle.parts.specs.Parts.{columnsIn, partsOf};
+ghost use Rattle.parts.specs.Set.{remaining};
 ghost use Rattle.lister.specs.Lister.{rowNumbers, rowsOf, listReply, listRows};
-ghost use Rattle.lister.specs.Found.{declaredAt, dataAt, entryAt};
+ghost use Rattle.lister.specs.Listed.{listedFirst, rowOf, seventhOf, functionOf, AllFull, At58, Small};
 ghost use Rattle.lister.specs.Count.{Counted};
 use judge::Reply;
-use parts::Extent;
+use parts::find_delimiter;
+use parts::skip_lines;
+use record_table::HEADER_LINES;
+use record_table::LINE_SEVEN;
 use walk::Place;
 use walk::State;
 
@@ -19,6 +24,35 @@ pub const ROW_NUMBERS: usize = 7;
 pub struct Judged {
     pub reply: Reply,
     pub sets: u32,
+}
+
+// What line 7 of a 58 declares, its case and its count, and the first byte of its data lines.
+pub struct Seventh {
+    pub case: usize,
+    pub count: u32,
+    pub values: usize,
+}
+
+// What the lines of a 58 say of it: the declared count, the first byte of its data lines, how many numbers are padding, the byte past its
+// closing line, and how many lines it has of its own.
+pub struct Function {
+    pub count: u32,
+    pub values: usize,
+    pub padding: usize,
+    pub past: usize,
+    pub lines: usize,
+}
+
+// A set: how many lines come before it, its row's other numbers, and how many lines there are up to the end of it.
+pub struct Listed {
+    pub lines: usize,
+    pub number: u32,
+    pub count: u32,
+    pub first: usize,
+    pub past: usize,
+    pub values: usize,
+    pub padding: usize,
+    pub through: usize,
 }
 
 // Judges a file, and counts its sets on the way.
@@ -50,61 +84,116 @@ fn judge_sets(file: &[u8]) -> Judged
     }
 }
 
-// The declared count of a set; 0 unless it is a 58.
-fn declared_count(file: &[u8], e: Extent) -> u32
-    requires { ⌜ e .body ≤ length (now file) ⌝ }
-    ensures { λ r. ⌜ r ≡ declaredAt (now (file .entry)) e ⌝ }
+// Lays out the 80 columns of the line that begins at byte `at`; the byte past its LF.
+fn take_line(row: &mut [u8; 80], file: &[u8], at: usize) -> usize
+    requires { ⌜ at ≤ length (now file) ⌝ }
+    ensures { λ r. ⌜ (r ≡ at + lineLen (drop at (now (file .entry))) + 1) × (now (row .exit) ≡ columnsIn (take (lineLen (drop at (now (file .entry)))) (drop at (now (file .entry))))) ⌝ }
 {
-    if e.number == 58 {
-        return parts::count_in(file, e.body, e.closing);
-    }
-    0
+    let end = line::find_end(file, at);
+    parts::put_columns(row, &file[at..end]);
+    end + 1
 }
 
-// The first byte of the data lines of a set; 0 unless it is a 58.
-fn data_start(file: &[u8], e: Extent) -> usize
-    requires { ⌜ e .body ≤ length (now file) ⌝ }
-    ensures { λ r. ⌜ (r ≡ dataAt (now (file .entry)) e) × (r ≤ length (now (file .entry))) ⌝ }
+// What line 7 of a 58 of an accepted file declares, and the first byte of its data lines; its lines begin at byte `body`.
+fn read_seventh(file: &[u8], body: usize) -> Seventh
+    requires { ⌜ At58 (now file) body ⌝ }
+    ensures { λ r. ⌜ ((s : At58 (now (file .entry)) body) → r ≡ seventhOf (s .part)) ⌝ }
 {
-    if e.number == 58 {
-        return parts::line_start(file, e.body, e.closing, record_table::HEADER_LINES);
+    let mut row = [32u8; 80];
+    let seven = skip_lines(file, body, LINE_SEVEN);
+    let eight = take_line(&mut row, file, seven);
+    Seventh {
+        case: walk::case_in(&row),
+        count: walk::count_in(&row),
+        values: skip_lines(file, eight, HEADER_LINES - LINE_SEVEN - 1),
     }
-    0
+}
+
+// A 58 of an accepted file, whose lines begin at byte `body`: each of them is passed once, line 7 and the last are read.
+fn function_at(file: &[u8], body: usize) -> Function
+    requires { ⌜ At58 (now file) body ⌝ }
+    ensures { λ r. ⌜ ((s : At58 (now (file .entry)) body) → r ≡ functionOf (s .part)) ⌝ }
+{
+    let d = read_seventh(file, body);
+    let stored = (d.count as usize) * layout::numbers_of(d.case);
+    let full = (stored - 1) / layout::fields_of(d.case);
+    let last = skip_lines(file, d.values, full);
+    let mut row = [32u8; 80];
+    let closing = take_line(&mut row, file, last);
+    Function {
+        count: d.count,
+        values: d.values,
+        padding: parts::padding_in(&row, d.case, stored),
+        past: skip_lines(file, closing, 1),
+        lines: HEADER_LINES + full + 1,
+    }
+}
+
+// The next set of an accepted file that has one, from byte `from` on, outside sets, after so many lines.
+fn next_listed(file: &[u8], from: usize, before: usize) -> Listed
+    requires { ⌜ (from ≤ length (now file)) × ((before ≤ from) × (AllFull (remaining (now file) before from) × (0 < length (remaining (now file) before from)))) ⌝ }
+    ensures { λ r. ⌜ r ≡ listedFirst (remaining (now (file .entry)) before from) ⌝ }
+{
+    let opening = find_delimiter(file, from, before);
+    let line = opening.past;
+    let end = line::find_end(file, line);
+    let number = parts::line_number(&file[line..end]);
+    let body = end + 1;
+    if number == 58 {
+        let f = function_at(file, body);
+        return Listed {
+            lines: opening.lines,
+            number,
+            count: f.count,
+            first: opening.at,
+            past: f.past,
+            values: f.values,
+            padding: f.padding,
+            through: opening.lines + f.lines + 3,
+        };
+    }
+    let closing = find_delimiter(file, body, opening.lines + 2);
+    Listed {
+        lines: opening.lines,
+        number,
+        count: 0,
+        first: opening.at,
+        past: closing.past,
+        values: 0,
+        padding: 0,
+        through: closing.lines + 1,
+    }
 }
 
 // Lays out the numbers of a set.
-fn put_row(row: &mut [u32], file: &[u8], e: Extent)
-    requires { ⌜ (length (now row) ≡ rowNumbers) × ((length (now file) ≤ 16777216) × ((e .body ≤ length (now file)) × ((e .last ≤ length (now file)) × ((e .lines < e .past) × ((e .first ≤ e .past) × (e .past ≤ length (now file))))))) ⌝ }
-    ensures { λ _. ⌜ now (row .exit) ≡ entryAt (now (file .entry)) e ⌝ }
+fn put_row(row: &mut [u32], l: Listed)
+    requires { ⌜ (length (now row) ≡ rowNumbers) × Small 16777216 l ⌝ }
+    ensures { λ _. ⌜ now (row .exit) ≡ rowOf l ⌝ }
 {
-    let count = declared_count(file, e);
-    let data = data_start(file, e);
-    let padding = parts::padding_at(file, e);
-    row[0] = (e.lines + 1) as u32;
-    row[1] = e.number;
-    row[2] = count;
-    row[3] = e.first as u32;
-    row[4] = e.past as u32;
-    row[5] = data as u32;
-    row[6] = padding as u32;
+    row[0] = (l.lines + 1) as u32;
+    row[1] = l.number;
+    row[2] = l.count;
+    row[3] = l.first as u32;
+    row[4] = l.past as u32;
+    row[5] = l.values as u32;
+    row[6] = l.padding as u32;
 }
 
-// Lays out the rows of a file's sets.
-fn put_rows(file: &[u8], rows: &mut [u32])
-    requires { ⌜ (length (now file) ≤ 16777216) × (rowNumbers * length (partsOf (now file)) ≤ length (now rows)) ⌝ }
+// Lays out the rows of an accepted file's sets, of which there are so many.
+fn put_rows(file: &[u8], sets: usize, rows: &mut [u32])
+    requires { ⌜ (length (now file) ≤ 16777216) × ((sets ≡ length (partsOf (now file))) × (AllFull (partsOf (now file)) × (rowNumbers * sets ≤ length (now rows)))) ⌝ }
     ensures { λ _. ⌜ now (rows .exit) ≡ rowsOf (partsOf (now (file .entry))) ++ drop (rowNumbers * length (partsOf (now (file .entry)))) (now (rows .entry)) ⌝ }
 {
     let mut i = 0;
     let mut at = 0;
     let mut lines = 0;
-    let mut e = parts::next_set(file, at, lines);
-    while e.found {
+    while i < ROW_NUMBERS * sets {
+        let l = next_listed(file, at, lines);
         let past = i + ROW_NUMBERS;
-        put_row(&mut rows[i..past], file, e);
+        put_row(&mut rows[i..past], l);
         i = past;
-        at = e.past;
-        lines = e.through;
-        e = parts::next_set(file, at, lines);
+        at = l.past;
+        lines = l.through;
     }
 }
 
@@ -121,6 +210,6 @@ pub fn list(file: &[u8], rows: &mut [u32]) -> Reply
     if rows.len() < ROW_NUMBERS * sets {
         return judge::bare_reply(17, 0);
     }
-    put_rows(file, rows);
+    put_rows(file, sets, rows);
     judge::bare_reply(0, sets)
 }

@@ -1,4 +1,4 @@
--- What a 58 declares, its padding and the columns of its last line that count, by where the code finds it.
+-- What a 58 declares, and the columns of its last line that count, by where the code finds it.
 use mathlib.Core.List.{List}
 use Prim.Native.Nat.{ℕ}
 use lib.Dec.{eqb}
@@ -8,8 +8,8 @@ use Rattle.record.specs.Declared.{caseIn, storedIn}
 use Rattle.parts.specs.declared.Extent.{Extent}
 use Rattle.parts.specs.declared.Declared.{Declared}
 use Rattle.parts.specs.declared.Counted.{Counted}
-use Rattle.parts.specs.Scan.{columnsAt, lineFrom}
-use Rattle.parts.specs.Padding.{countedPast, paddingIn}
+use Rattle.parts.specs.Scan.{lineFrom}
+use Rattle.parts.specs.Padding.{countedPast}
 
 abbrev pub declares : ℕ → ℕ → Declared
 declares c n = record { case = c; stored = n }
@@ -21,12 +21,6 @@ unfoldable pub declaredAt : List ℕ → Extent → Declared
 declaredAt file e =
     let seven : List ℕ = lineFrom (e .closing) (e .body) file lineSeven in
     pick (eqb (e .number) 58) (declares (caseIn seven) (storedIn seven)) (declares 0 0)
-
-abbrev pub paddingBy : Declared → List ℕ → ℕ
-paddingBy d cs = pick (eqb (d .stored) 0) 0 (paddingIn (d .case) (d .stored) cs)
-
-unfoldable pub paddingAt : List ℕ → Extent → ℕ
-paddingAt file e = paddingBy (declaredAt file e) (columnsAt (e .closing) (e .last) file)
 
 abbrev pub countedBy : Declared → ℕ → ℕ → Counted
 countedBy d last closing = pick (eqb (d .stored) 0) (counts closing 0) (counts last (countedPast (d .case) (d .stored)))

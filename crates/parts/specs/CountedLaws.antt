@@ -9,7 +9,7 @@ use native.Mathlib.Numerals.{add-one}
 use native.Mathlib.Omega.{arith}
 use borrow.Author.Tests.{le-ltb}
 use lib.Dec.{eqb}
-use lib.ListN.{length, take, drop}
+use lib.ListN.{take, drop}
 use Rattle.laws.specs.Choice.{pick}
 use Rattle.laws.specs.ChoiceLaws.{below-or-not}
 use Rattle.text.specs.Blank.{allBlank}
@@ -23,15 +23,14 @@ use Rattle.walk.specs.DueLaws.{numbersOf-few}
 use Rattle.parts.specs.declared.Extent.{Extent}
 use Rattle.parts.specs.declared.Declared.{Declared}
 use Rattle.parts.specs.declared.Counted.{Counted}
-use Rattle.parts.specs.Parts.{Part, datasetOf, lineStart, lineOf, lastLine, lastStart, closingStart}
-use Rattle.parts.specs.Scan.{columnsAt, lineFrom}
+use Rattle.parts.specs.Parts.{Part, datasetOf, lineStart, lineOf, lastStart, closingStart}
+use Rattle.parts.specs.Scan.{lineFrom}
 use Rattle.parts.specs.Function.{partCase, countOf, storedOf}
 use Rattle.parts.specs.FunctionLaws.{lineFrom-own}
-use Rattle.parts.specs.SetLaws.{line-columns}
 use Rattle.parts.specs.Set.{Standing}
 use Rattle.parts.specs.Turn.{Turn}
-use Rattle.parts.specs.Padding.{lastField, countedPast, remainder, paddingIn, paddingOf}
-use Rattle.parts.specs.Counted.{declares, counts, declaredAt, paddingBy, paddingAt, countedBy, countedAt}
+use Rattle.parts.specs.Padding.{lastField, countedPast, remainder, paddingIn}
+use Rattle.parts.specs.Counted.{declares, counts, declaredAt, countedBy, countedAt}
 
 -- a value stores three numbers at most
 pub stored-most : (i c k : ℕ) → k ≡ numbersOf c → i * k ≤ i * 3
@@ -104,10 +103,6 @@ module _ (c n f k from past : ℕ) (a : f ≡ fieldsOf c) (b : k ≡ lastField c
   padding-by cs r e = rw (e, from-counted, past-full, a, b, add-one) refl
 
 -- what is found is the set's own: a set that is no 58 declares nothing
-padding-if : (t : Bool) (c n : ℕ) (cs : List ℕ) → paddingBy (pick t (declares c (n * numbersOf c)) (declares 0 0)) cs ≡ paddingBy (declares c (pick t n 0 * numbersOf c)) cs
-padding-if true c n cs = refl
-padding-if false c n cs = rw (zero-mul (numbersOf c)) refl
-
 counted-if : (t : Bool) (c n last closing : ℕ)
     → countedBy (pick t (declares c (n * numbersOf c)) (declares 0 0)) last closing ≡ countedBy (declares c (pick t n 0 * numbersOf c)) last closing
 counted-if true c n last closing = refl
@@ -119,14 +114,6 @@ module _ (file : List ℕ) (n at : ℕ) (e : Extent) (p : Part) (ps : List Part)
   unfolding declaredAt storedIn partCase
   declared-of = rw (number, body, closing, lineFrom-own file n at p ps s lineSeven) refl
 
-  last-columns : columnsAt (e .closing) (e .last) file ≡ lineOf p (lastLine p)
-  unfolding lastStart
-  last-columns = rw (closing, last) (line-columns file n at p ps s (lastLine p))
-
-  padding-of : paddingAt file e ≡ paddingOf p
-  unfolding paddingAt paddingOf storedOf countOf
-  padding-of = rw (declared-of, last-columns) (padding-if (eqb (datasetOf p) 58) (partCase p) (countIn (lineOf p lineSeven)) (lineOf p (lastLine p)))
-
   counted-of : countedAt file e ≡ countedBy (declares (partCase p) (storedOf p)) (lastStart p) (closingStart p)
   unfolding countedAt storedOf countOf
   counted-of =
@@ -135,9 +122,6 @@ module _ (file : List ℕ) (n at : ℕ) (e : Extent) (p : Part) (ps : List Part)
 module _ (file : List ℕ) (n at : ℕ) (e : Extent) (t : Turn file n at e) where
   abbrev set : Part
   set = t .first .set
-
-  pub padding-own : paddingAt file e ≡ paddingOf set
-  padding-own = let f = t .first in padding-of file n at e (f .set) (f .others) (t .stands) (f .number) (f .body) (f .last) (f .closing)
 
   pub counted-own : countedAt file e ≡ countedBy (declares (partCase set) (storedOf set)) (lastStart set) (closingStart set)
   counted-own = let f = t .first in counted-of file n at e (f .set) (f .others) (t .stands) (f .number) (f .body) (f .last) (f .closing)
@@ -150,13 +134,3 @@ counted-within file e k m q a b = by (eqb (declaredAt file e .stored) 0) q
     by : (t : Bool) → k ≡ pick t (counts (e .closing) 0) (counts (e .last) (countedPast (declaredAt file e .case) (declaredAt file e .stored))) → k .line ≤ m
     by true c = rw c b
     by false c = rw c a
-
--- no more than six
-pub padding-few : (file : List ℕ) (e : Extent) → paddingAt file e ≤ 6
-unfolding paddingAt paddingIn fieldsOf
-padding-few file e = by (declaredAt file e) (columnsAt (e .closing) (e .last) file) (eqb (declaredAt file e .stored) 0) (allBlank _)
-  where
-    by : (d : Declared) (cs : List ℕ) (t u : Bool) → pick t 0 (pick u 0 (length (layoutOf (d .case) .widths) - suc (lastField (d .case) (d .stored)))) ≤ 6
-    by d cs true u = omega arith
-    by d cs false true = omega arith
-    by d cs false false = omega (arith, widths-six (d .case))

@@ -1,5 +1,5 @@
 -- The first set of a file by its two delimiters, and where its last line begins.
-use mathlib.Core.Path.{_≡_, refl, sym, ap, _∙_}
+use mathlib.Core.Path.{_≡_, refl, sym, ap, subst, _∙_}
 use mathlib.Core.Logic.{⊎-elim}
 use mathlib.Core.Bool.{Bool, true, false}
 use mathlib.Core.List.{List, [], _∷_, _++_, append-assoc, append-nil}
@@ -15,6 +15,7 @@ use Rattle.laws.specs.ChoiceLaws.{below-or-not, false-not-true}
 use Rattle.laws.specs.Cut.{cut, lineLen}
 use Rattle.line.specs.LineLaws.{lineLen-most}
 use Rattle.delimiter.specs.Kind.{datasetNumber}
+use Rattle.parts.specs.declared.Extent.{Extent}
 use Rattle.parts.specs.declared.Mark.{Mark}
 use Rattle.parts.specs.Parts.{columnsIn, closes, bytesIn, Part, part, Past, outside, opened, inside, partsFrom, datasetOf, lineStart, lastStart, closingStart, pastOf, throughOf}
 use Rattle.parts.specs.PartsLaws.{bytesIn-append, lines-at, line-length, lines-end, lines-past}
@@ -176,6 +177,16 @@ module _ (f : List ℕ) (n at : ℕ) (m : Mark) (a : at ≤ length f) where
     within = omega (arith, k .past, past-mark k .within);
   }
 
+-- a set by its delimiters m and c and the LF of its number line, which is the byte e
+pub record Bounds (f : List ℕ) (m : Mark) (e : ℕ) (c : Mark) (p : Part) : Type 0 where
+  pub lines : m .lines ≡ p .lines
+  pub first : m .at ≡ p .bytes
+  pub number : datasetNumber (columnsIn (take (e - m .past) (drop (m .past) f))) ≡ datasetOf p
+  pub body : e + 1 ≡ lineStart p 0
+  pub closing : c .at ≡ closingStart p
+  pub past : c .past ≡ pastOf p
+  pub through : c .lines + 1 ≡ throughOf p
+
 -- where a set stands, by its numbers
 extent-of : (p : Part) (ps : List Part) (v b l c e t : ℕ) → v ≡ datasetOf p → b ≡ lineStart p 0 → l ≡ lastStart p → c ≡ closingStart p → e ≡ pastOf p → t ≡ throughOf p
     → extent (p .lines) (p .bytes) v b l c e t ≡ firstOf (p ∷ ps)
@@ -234,7 +245,7 @@ module _ (f : List ℕ) (n at : ℕ) (a : at ≤ length f) (few : n ≤ at) (m :
               let o = fits in
               mark-fits f (m .lines + 2) (e + 1) c (omega arith) (omega (arith, o .lines, o .later)) (marked-found (m .lines + 2) (e + 1) _ c s j)
 
-          module _ (j : c .found ≡ true) (last : ℕ) (g : LastLine f (e + 1) (c .at) last) where
+          module _ (j : c .found ≡ true) where
             abbrev closing : Marked (m .lines + 2) (e + 1) (cut (drop (e + 1) f) .lines) c
             closing = marked-found (m .lines + 2) (e + 1) (cut (drop (e + 1) f) .lines) c s j
 
@@ -244,28 +255,63 @@ module _ (f : List ℕ) (n at : ℕ) (a : at ≤ length f) (few : n ≤ at) (m :
             set-first : remaining f n at ≡ set ∷ partsFrom outside (c .lines + 1) (c .past) (closing .after)
             set-first = inside-it ∙ closing .ends (m .lines) (m .at) (opening .line) number []
 
-            body-at : e + 1 ≡ lineStart set 0
-            unfolding lineStart bytesIn
-            body-at = omega (arith, past-at, number-past)
+            bounds : Bounds f m e c set
+            unfolding datasetOf lineStart closingStart pastOf throughOf bytesIn
+            bounds = record {
+              lines = refl;
+              first = refl;
+              number = refl;
+              body = omega (arith, past-at, number-past);
+              closing = omega (arith, past-at, number-past, closing .bytes);
+              past = omega (arith, past-at, number-past, closing .past);
+              through = omega (arith, closing .count, length-append (closing .before) (closing .line ∷ []));
+            }
 
-            closing-at : c .at ≡ closingStart set
-            unfolding closingStart bytesIn
-            closing-at = omega (arith, past-at, number-past, closing .bytes)
+            pub set-bounds : (p : Part) (ps : List Part) → remaining f n at ≡ p ∷ ps → Bounds f m e c p
+            set-bounds p ps q =
+                let w : set ∷ partsFrom outside (c .lines + 1) (c .past) (closing .after) ≡ p ∷ ps = sym set-first ∙ q in
+                let z : set ≡ p = cc in
+                subst (Bounds f m e c) z bounds
 
-            past-last : c .past ≡ pastOf set
-            unfolding pastOf bytesIn
-            past-last = omega (arith, past-at, number-past, closing .past)
+            module _ (last : ℕ) (g : LastLine f (e + 1) (c .at) last) where
+              last-at : last ≡ lastStart set
+              unfolding lastStart lineStart bytesIn
+              last-at =
+                  omega (arith, past-at, number-past, last-own f (e + 1) last (c .at) (omega arith) g (closing .before) _ (closing .lines) (closing .bytes))
 
-            through-it : c .lines + 1 ≡ throughOf set
-            unfolding throughOf
-            through-it = omega (arith, closing .count, length-append (closing .before) (closing .line ∷ []))
+              pub set-found : (v : ℕ) → v ≡ datasetNumber (columnsIn number)
+                  → extent (m .lines) (m .at) v (e + 1) last (c .at) (c .past) (c .lines + 1) ≡ firstOf (remaining f n at)
+              set-found v w =
+                  let b = bounds in
+                  extent-of set _ v _ _ _ _ _ (w ∙ b .number) (b .body) last-at (b .closing) (b .past) (b .through) ∙ sym (ap firstOf set-first)
 
-            last-at : last ≡ lastStart set
-            unfolding lastStart lineStart bytesIn
-            last-at =
-                omega (arith, past-at, number-past, last-own f (e + 1) last (c .at) (omega arith) g (closing .before) _ (closing .lines) (closing .bytes))
+-- where there is a set, its delimiters and its number line are found
+module _ (f : List ℕ) (n at : ℕ) (a : at ≤ length f) (few : n ≤ at) (p : Part) (ps : List Part) (h : remaining f n at ≡ p ∷ ps) (m : Mark) (q : m ≡ marked f n at) where
+  not-nowhere : {A : Type 0} → nowhere ≡ firstOf (remaining f n at) → A
+  unfolding firstOf
+  not-nowhere z = let w : nowhere ≡ firstOf (p ∷ ps) = z ∙ ap firstOf h in false-not-true (ap (λ (x : Extent). x .found) w)
 
-            pub set-found : (v : ℕ) → v ≡ datasetNumber (columnsIn number)
-                → extent (m .lines) (m .at) v (e + 1) last (c .at) (c .past) (c .lines + 1) ≡ firstOf (remaining f n at)
-            unfolding datasetOf
-            set-found v w = extent-of set _ v _ _ _ _ _ w body-at last-at closing-at past-last through-it ∙ sym (ap firstOf set-first)
+  pub opening-found : m .found ≡ true
+  opening-found = by (m .found) refl
+    where
+      by : (t : Bool) → m .found ≡ t → m .found ≡ true
+      by true e = e
+      by false e = not-nowhere (never-opened f n at a few m q e)
+
+  module _ (e : ℕ) (r : e ≡ m .past + lineLen (drop (m .past) f)) where
+    pub number-ended : e < length f
+    number-ended = ⊎-elim (λ (k : e < length f). k) (λ (k : length f ≤ e). not-nowhere (never-numbered f n at a few m q opening-found e r k)) (below-or-not e (length f))
+
+    pub opening-fits : Fits f at m
+    opening-fits = fits f n at a few m q opening-found
+
+    module _ (c : Mark) (s : c ≡ marked f (m .lines + 2) (e + 1)) where
+      closing-found : c .found ≡ true
+      closing-found = by (c .found) refl
+        where
+          by : (t : Bool) → c .found ≡ t → c .found ≡ true
+          by true j = j
+          by false j = not-nowhere (never-closed f n at a few m q opening-found e r number-ended c s j)
+
+      pub part-bounds : Bounds f m e c p
+      part-bounds = set-bounds f n at a few m q opening-found e r number-ended c s closing-found p ps h

@@ -3,6 +3,7 @@ pub mod PartsLaws
 pub mod ShownLaws
 pub mod Mark
 pub mod MarkLaws
+pub mod Skip
 pub mod Scan
 pub mod Function
 pub mod Padding
@@ -11,6 +12,7 @@ pub mod CountedLaws
 pub mod ScanLaws
 pub mod Set
 pub mod SetLaws
+pub mod SkipLaws
 pub mod Turn
 pub mod TurnLaws
 pub mod FunctionLaws

@@ -257,11 +257,12 @@ bytesIn-less (suc k) (l ∷ ls) h = let m : bytesIn (take k ls) < bytesIn ls = b
 
 module _ (file : List ℕ) (n at : ℕ) (p : Part) (ps : List Part) (s : Standing file n at p ps) where
   -- no line begins past the closing delimiter
-  pub line-within : (k : ℕ) → lineStart p k ≤ length file
+  pub line-before : (k : ℕ) → lineStart p k ≤ closingStart p
   unfolding lineStart closingStart
-  line-within k =
-      let e : bytesIn (take k (p .body)) ≤ bytesIn (p .body) = bytesIn-most k (p .body) in
-      omega (arith, s .later, s .past)
+  line-before k = let e : bytesIn (take k (p .body)) ≤ bytesIn (p .body) = bytesIn-most k (p .body) in omega arith
+
+  pub line-within : (k : ℕ) → lineStart p k ≤ length file
+  line-within k = omega (arith, line-before k, s .later, s .past)
 
   pub start-before : (k : ℕ) → k < length (p .body) → lineStart p k < closingStart p
   unfolding lineStart closingStart
@@ -294,6 +295,9 @@ module _ (file : List ℕ) (n at : ℕ) (p : Part) (ps : List Part) (s : Standin
 
   pub line-text : (k : ℕ) → k < length (p .body) → take (lineLen (drop (lineStart p k) file)) (drop (lineStart p k) file) ≡ getD (p .body) k []
   line-text k h = here k h .text
+
+  pub line-ended : (k : ℕ) → k < length (p .body) → lineLen (drop (lineStart p k) file) < length (drop (lineStart p k) file)
+  line-ended k h = here k h .ended
 
   -- its columns
   inside-columns : (k : ℕ) → k < length (p .body) → columnsAt (closingStart p) (lineStart p k) file ≡ lineOf p k

@@ -9,8 +9,9 @@ ghost use Rattle.record_table.specs.TypedSets.{lineSeven};
 ghost use Rattle.record.specs.Declared.{caseIn, countIn};
 ghost use Rattle.parts.specs.Scan.{lineFrom, firstOf, skipTo, columnsAt};
 ghost use Rattle.parts.specs.Mark.{quiet, endsIn, marked, Passed, LastLine};
+ghost use Rattle.parts.specs.Skip.{pastEnds, Skipped};
 ghost use Rattle.parts.specs.Padding.{lastField, paddingIn};
-ghost use Rattle.parts.specs.Counted.{declaredAt, paddingAt, countedAt};
+ghost use Rattle.parts.specs.Counted.{declaredAt, countedAt};
 use laws::index;
 use layout::field_start;
 use layout::fields_of;
@@ -36,6 +37,12 @@ const NO_MARK: Mark = Mark {
 pub struct Spot {
     pub at: usize,
     pub lines: usize,
+}
+
+// A byte, and how many LFs are to be passed from it on.
+pub struct Ahead {
+    pub at: usize,
+    pub left: usize,
 }
 
 // Where a set stands: whether there is one, how many lines and bytes come before it, its number, the first byte of its lines,
@@ -185,7 +192,7 @@ fn past_quiet(file: &[u8], from: usize, before: usize) -> Spot
 }
 
 // The first delimiter among the lines that begin at byte `from`, after so many lines.
-fn find_delimiter(file: &[u8], from: usize, before: usize) -> Mark
+pub fn find_delimiter(file: &[u8], from: usize, before: usize) -> Mark
     requires { ⌜ (from ≤ length (now file)) × (before ≤ from) ⌝ }
     ensures { λ r. ⌜ r ≡ marked (now (file .entry)) before from ⌝ }
 {
@@ -286,6 +293,49 @@ pub fn line_start(file: &[u8], from: usize, closing: usize, k: usize) -> usize
     at
 }
 
+// Past blocks of bytes that hold fewer LFs than are to be passed.
+fn skip_blocks(file: &[u8], from: usize, k: usize) -> Ahead
+    requires { ⌜ from ≤ length (now file) ⌝ }
+    ensures { λ r. ⌜ Skipped (now (file .entry)) from k (r .at) (r .left) ⌝ }
+{
+    let mut at = from;
+    let mut left = k;
+    if file.len() < 64 {
+        return Ahead { at, left };
+    }
+    let last = file.len() - 64;
+    while at <= last {
+        let past = at + 64;
+        let ends = index(ends_in(&file[at..past]));
+        if left <= ends {
+            return Ahead { at, left };
+        }
+        left -= ends;
+        at = past;
+    }
+    Ahead { at, left }
+}
+
+// The byte past k LFs from byte `from` on, which is the first of line k, from 0, of the lines that begin there; the end of the file where
+// there are fewer.
+pub fn skip_lines(file: &[u8], from: usize, k: usize) -> usize
+    requires { ⌜ from ≤ length (now file) ⌝ }
+    ensures { λ r. ⌜ (r ≡ from + pastEnds k (drop from (now (file .entry)))) × (r ≤ length (now (file .entry))) ⌝ }
+{
+    let ahead = skip_blocks(file, from, k);
+    let mut at = ahead.at;
+    let mut left = ahead.left;
+    while 0 < left {
+        let end = line::find_end(file, at);
+        if file.len() <= end {
+            return end;
+        }
+        at = end + 1;
+        left -= 1;
+    }
+    at
+}
+
 // Lays out the 80 columns of the line that begins at byte `at`; blanks where no line begins there before byte `closing`.
 pub fn put_line(row: &mut [u8; 80], file: &[u8], at: usize, closing: usize)
     requires { ⌜ at ≤ length (now file) ⌝ }
@@ -353,7 +403,7 @@ fn last_field(case: usize, stored: usize) -> usize
 }
 
 // How many fields stand past that one, 0 where their columns are blank.
-fn padding_in(row: &[u8; 80], case: usize, stored: usize) -> usize
+pub fn padding_in(row: &[u8; 80], case: usize, stored: usize) -> usize
     requires { ⌜ (case < 8) × (0 < stored) ⌝ }
     ensures { λ r. ⌜ r ≡ paddingIn case stored (now (row .entry)) ⌝ }
 {
@@ -366,20 +416,6 @@ fn padding_in(row: &[u8; 80], case: usize, stored: usize) -> usize
         return 0;
     }
     fields - counted
-}
-
-// How many numbers are padding in a set; 0 unless it is a 58.
-pub fn padding_at(file: &[u8], e: Extent) -> usize
-    requires { ⌜ (e .body ≤ length (now file)) × (e .last ≤ length (now file)) ⌝ }
-    ensures { λ r. ⌜ r ≡ paddingAt (now (file .entry)) e ⌝ }
-{
-    let d = declared_at(file, e);
-    if d.stored == 0 {
-        return 0;
-    }
-    let mut row = [32u8; 80];
-    put_line(&mut row, file, e.last, e.closing);
-    padding_in(&row, d.case, d.stored)
 }
 
 // Which columns of a set's last line count.

@@ -1,5 +1,6 @@
 -- `lister::list` meets its contract.
 use Rattle.judge.specs.JudgeLaws.{judged-short}
+use Rattle.lister.specs.ListedLaws.{accepted-full}
 use Rattle.lister.specs.ListerLaws.{list-refused, list-short, list-done}
 use borrow.Author.Needs.{needs}
 use Rattle.lister.proofs.list.Statement.{statement}
@@ -34,7 +35,9 @@ put-rows-requires c κs =
     let at-start = at-judge .before .before .before in
     let counted = at-judge .judge-sets .ensures in
     let accepted = at-if1 .if1 .left in
-    (judged-short (at-start .args .file .now) (rw (counted .reply) at accepted), rw (counted .sets accepted) at (c .before .if2 .left))
+    let file = at-start .args .file .now in
+    let zero = rw (counted .reply) at accepted in
+    (judged-short file zero, (counted .sets accepted, (accepted-full file zero, c .before .if2 .left)))
 
 bare-reply-requires-2 : tie.Need-bare-reply-requires-2
 bare-reply-requires-2 c κs = search needs

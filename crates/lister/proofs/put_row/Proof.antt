@@ -1,22 +1,11 @@
 -- `lister::put_row` meets its contract.
-use mathlib.Core.Path.{refl, _∙_}
 use lib.ListN.{length-set}
-use Rattle.parts.specs.CountedLaws.{padding-few}
-use Rattle.lister.specs.Found.{entryAt}
+use Rattle.lister.specs.Listed.{rowOf}
 use Rattle.lister.specs.ListerLaws.{seven}
 use native.Mathlib.Omega.{arith}
 use borrow.Author.Needs.{needs}
 use Rattle.lister.proofs.put_row.Statement.{statement}
 use Rattle.lister.proofs.put_row.Tie as tie
-
-declared-count-requires : tie.Need-declared-count-requires
-declared-count-requires c κs = search needs
-
-data-start-requires : tie.Need-data-start-requires
-data-start-requires c κs = search needs
-
-padding-at-requires : tie.Need-padding-at-requires
-padding-at-requires c κs = search needs
 
 add-row : tie.Need-add-row
 add-row c = search needs
@@ -44,47 +33,38 @@ cast-row-3 c = search needs
 
 slice-write-row-5 : tie.Need-slice-write-row-5
 slice-write-row-5 c =
-    let at-pre = c .before .before .before .before .before .before .before .before in
-    simp length-set (omega (arith, at-pre .pre .0))
+    let at-start = c .before .before .before in
+    simp length-set (omega (arith, at-start .pre .0))
 
 cast-row-4 : tie.Need-cast-row-4
 cast-row-4 c = search needs
 
 slice-write-row-6 : tie.Need-slice-write-row-6
 slice-write-row-6 c =
-    let at-pre = c .before .before .before .before .before .before .before .before in
-    simp length-set (omega (arith, at-pre .pre .0))
+    let at-start = c .before .before .before .before in
+    simp length-set (omega (arith, at-start .pre .0))
 
 cast-row-5 : tie.Need-cast-row-5
-cast-row-5 c =
-    let at-padding-at = c .before .before .before in
-    let args = at-padding-at .before .before .before .before .before .args in
-    omega (arith, at-padding-at .padding-at .ensures, padding-few (args .file .now) (args .e))
+cast-row-5 c = search needs
 
 slice-write-row-7 : tie.Need-slice-write-row-7
 slice-write-row-7 c =
-    let at-pre = c .before .before .before .before .before .before .before .before in
-    simp length-set (omega (arith, at-pre .pre .0))
+    let at-start = c .before .before .before .before .before in
+    simp length-set (omega (arith, at-start .pre .0))
 
 same-length : tie.Need-same-length
 same-length c = search needs
 
 returns : tie.Need-returns
-unfolding entryAt
+unfolding rowOf
 returns c =
-    let at-data-start = c .before .before .before .before in
-    let at-declared-count = at-data-start .before in
-    let at-start = at-declared-count .before .before .before in
+    let at-start = c .before .before .before .before .before in
     seven (at-start .args .row .now) _ _ _ _ _ _ _ (at-start .pre .0)
-    ∙ rw (at-declared-count .declared-count .ensures, at-data-start .data-start .ensures .0, c .before .before .before .padding-at .ensures) refl
 
 pub put-row-spec : {M : Type 1} → statement M
 put-row-spec =
     tie.close
     (tie.spec
-    declared-count-requires
-    data-start-requires
-    padding-at-requires
     add-row
     cast-row
     slice-write-row
