@@ -6,7 +6,7 @@ use Prim.Native.Nat.{ℕ, _+_, _*_, _≤_, _<_, _/_}
 use mathlib.Core.Logic.{⊎-elim}
 use native.Mathlib.Nat.{le-trans}
 use native.Mathlib.Omega.{arith}
-use borrow.Author.Tests.{leb-true, eqb-true, le-ltb, ne-eqb}
+use borrow.Author.Tests.{leb-true, eqb-true, lt-ltb, le-ltb, ne-eqb}
 use lib.Dec.{leb, ltb, eqb}
 use lib.ListN.{length, getD, List·getD-eq-default, replicate}
 use Rattle.laws.specs.ChoiceLaws.{pick-same, and-left, and-right, below-or-not}
@@ -84,6 +84,11 @@ cellOf-case-past c k h = rw (layoutOf-past c h) (simp pick-same)
 
 pub cells-past : (c : ℕ) → 8 ≤ c → replicate 6 0 ≡ tabulate (cellOf c) 0 6
 cells-past c h = simp (cellOf-case-past c)
+
+-- the widths that the code lays out are the layout's
+pub width-cell : (c k : ℕ) (ws : List ℕ) → ws ≡ tabulate (cellOf c) 0 6 → k < 6 → getD ws k 0 ≡ getD (layoutOf c .widths) k 0
+unfolding cellOf
+width-cell c k ws e h = table-at (cellOf c) ws 6 k 0 e h ∙ rw (lt-ltb k 6 h) refl
 
 pub cellOf-place-past : (c k : ℕ) → 8 ≤ k → cellOf c k ≡ 0
 unfolding cellOf

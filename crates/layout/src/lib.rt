@@ -116,13 +116,14 @@ pub fn numbers_of(case: usize) -> usize
 pub fn field_start(case: usize, field: usize) -> usize
     ensures { λ r. ⌜ r ≡ fieldStart (layoutOf case .widths) field ⌝ }
 {
+    let widths = line_widths(case);
     let mut at = 0;
     let mut k = 0;
     while k < field {
         if 6 <= k {
             return at;
         }
-        at += field_width(case, k);
+        at += index(widths[k]);
         k += 1;
     }
     at

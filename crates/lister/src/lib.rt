@@ -12,6 +12,7 @@ ghost use Rattle.lister.specs.Count.{Counted};
 use judge::Reply;
 use parts::find_delimiter;
 use parts::skip_lines;
+use parts::skip_many;
 use record_table::HEADER_LINES;
 use record_table::LINE_SEVEN;
 use walk::Place;
@@ -117,7 +118,7 @@ fn function_at(file: &[u8], body: usize) -> Function
     let d = read_seventh(file, body);
     let stored = (d.count as usize) * layout::numbers_of(d.case);
     let full = (stored - 1) / layout::fields_of(d.case);
-    let last = skip_lines(file, d.values, full);
+    let last = skip_many(file, d.values, full);
     let mut row = [32u8; 80];
     let closing = take_line(&mut row, file, last);
     Function {

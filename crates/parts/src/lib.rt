@@ -322,9 +322,8 @@ pub fn skip_lines(file: &[u8], from: usize, k: usize) -> usize
     requires { ⌜ from ≤ length (now file) ⌝ }
     ensures { λ r. ⌜ (r ≡ from + pastEnds k (drop from (now (file .entry)))) × (r ≤ length (now (file .entry))) ⌝ }
 {
-    let ahead = skip_blocks(file, from, k);
-    let mut at = ahead.at;
-    let mut left = ahead.left;
+    let mut at = from;
+    let mut left = k;
     while 0 < left {
         let end = line::find_end(file, at);
         if file.len() <= end {
@@ -334,6 +333,15 @@ pub fn skip_lines(file: &[u8], from: usize, k: usize) -> usize
         left -= 1;
     }
     at
+}
+
+// The same, quick where k is great.
+pub fn skip_many(file: &[u8], from: usize, k: usize) -> usize
+    requires { ⌜ from ≤ length (now file) ⌝ }
+    ensures { λ r. ⌜ (r ≡ from + pastEnds k (drop from (now (file .entry)))) × (r ≤ length (now (file .entry))) ⌝ }
+{
+    let ahead = skip_blocks(file, from, k);
+    skip_lines(file, ahead.at, ahead.left)
 }
 
 // Lays out the 80 columns of the line that begins at byte `at`; blanks where no line begins there before byte `closing`.

@@ -1,11 +1,11 @@
 -- `layout::field_start` meets its contract.
-use Rattle.layout.specs.LayoutLaws.{fieldStart-past, fieldPast-inside}
-use native.Mathlib.Numerals.{add-one}
 use mathlib.Core.Path.{_≡_, refl, ap, _∙_}
 use Prim.Native.Nat.{ℕ, _≤_, _-_}
+use native.Mathlib.Numerals.{add-one}
 use Rattle.layout.specs.Columns.{fieldStart, fieldPast}
-use Rattle.layout.specs.Layout.{layoutOf}
 use Rattle.layout.specs.ColumnsLaws.{fieldStart-next}
+use Rattle.layout.specs.Layout.{layoutOf}
+use Rattle.layout.specs.LayoutLaws.{width-cell, fieldStart-past, fieldPast-inside}
 use borrow.Author.Needs.{needs}
 use native.Mathlib.Omega.{arith}
 use Rattle.layout.proofs.field_start.Statement.{statement}
@@ -17,10 +17,13 @@ record Going (case field at k : ℕ) : Type 0 where
   here : at ≡ fieldStart (layoutOf case .widths) k
 
 abbrev Inv-loop : tie.InvT-loop
-Inv-loop case field at₀ k₀ at k = Going case field at k
+Inv-loop case field widths at₀ k₀ at k = Going case field at k
 
 abbrev μ-loop : tie.MeasureT-loop
-μ-loop case field at₀ k₀ at k = field - k
+μ-loop case field widths at₀ k₀ at k = field - k
+
+line-widths-requires : tie.Need-line-widths-requires Inv-loop μ-loop
+line-widths-requires c κs = search needs
 
 loop-holds : tie.Need-loop-holds Inv-loop μ-loop
 unfolding fieldStart
@@ -31,14 +34,19 @@ returns c =
     let at-loop = c .before .before in
     at-loop .loop .inv .here ∙ fieldStart-past _ _ _ (c .if1 .taken) (at-loop .loop .inv .within)
 
-field-width-requires : tie.Need-field-width-requires Inv-loop μ-loop
-field-width-requires c κs = search needs
+array-read-index : tie.Need-array-read-index Inv-loop μ-loop
+array-read-index c = search needs
+
+index-requires : tie.Need-index-requires Inv-loop μ-loop
+index-requires c κs = search needs
 
 add-at : tie.Need-add-at Inv-loop μ-loop
 unfolding fieldPast
 add-at c =
-    let at-start = c .before .before .before .before in
-    omega (arith, fieldPast-inside (at-start .args .case) (c .before .before .before .loop .k), c .field-width .ensures)
+    let at-loop = c .before .before .before in
+    let at-widths = at-loop .before in
+    let width = c .index .ensures ∙ width-cell _ _ _ (at-widths .line-widths .ensures) (omega (arith, c .before .if1 .left)) in
+    omega (arith, at-loop .loop .inv .here, fieldPast-inside (at-widths .before .args .case) (at-loop .loop .k), width)
 
 add-k : tie.Need-add-k Inv-loop μ-loop
 add-k c = search needs
@@ -50,12 +58,15 @@ loop-again : tie.Need-loop-again Inv-loop μ-loop
 unfolding fieldPast
 loop-again c =
     let at-loop = c .before .before .before in
-    record { within = search needs; here = rw (add-one, fieldStart-next) (rw (at-loop .loop .inv .here, c .field-width .ensures) refl) }
+    let at-widths = at-loop .before in
+    let width = c .index .ensures ∙ width-cell _ _ _ (at-widths .line-widths .ensures) (omega (arith, c .before .if1 .left)) in
+    record { within = search needs; here = rw (add-one, fieldStart-next) (rw (at-loop .loop .inv .here, width) refl) }
 
 returns-2 : tie.Need-returns-2 Inv-loop μ-loop
 returns-2 c =
-    let at-start = c .before .before in
-    let e : c .before .loop .k ≡ at-start .args .field = omega arith in c .before .loop .inv .here ∙ ap (fieldStart (layoutOf (at-start .args .case) .widths)) e
+    let at-start = c .before .before .before in
+    let e : c .before .loop .k ≡ at-start .args .field = omega arith in
+    c .before .loop .inv .here ∙ ap (fieldStart (layoutOf (at-start .args .case) .widths)) e
 
 pub field-start-spec : {M : Type 1} → statement M
 field-start-spec =
@@ -63,9 +74,11 @@ field-start-spec =
     (tie.spec
     Inv-loop
     μ-loop
+    line-widths-requires
     loop-holds
     returns
-    field-width-requires
+    array-read-index
+    index-requires
     add-at
     add-k
     loop-less

@@ -39,8 +39,8 @@ div-full c =
     let some = fieldsOf-some _ (s .full .eight) in
     omega (arith, c .fields-of .ensures, rw (← case) at some)
 
-skip-lines-requires : tie.Need-skip-lines-requires
-skip-lines-requires c κs =
+skip-many-requires : tie.Need-skip-many-requires
+skip-many-requires c κs =
     let at-read = c .before .before .before in
     let s = at-read .before .before .pre in
     data-within _ _ s _ (at-read .read-seventh .ensures s)
@@ -56,8 +56,8 @@ padding-in-requires c κs =
     let own = at-read .read-seventh .ensures s in
     (omega (arith, case-own _ _ s _ own, s .full .eight), omega (arith, stored-own _ _ s _ own _ (at-numbers .numbers-of .ensures), s .full .some))
 
-skip-lines-requires-2 : tie.Need-skip-lines-requires-2
-skip-lines-requires-2 c κs =
+skip-lines-requires : tie.Need-skip-lines-requires
+skip-lines-requires c κs =
     let at-take = c .before .before in
     let at-skip = at-take .before .before in
     let at-fields = at-skip .before in
@@ -66,7 +66,7 @@ skip-lines-requires-2 c κs =
     let s = at-read .before .before .pre in
     let taken = at-take .take-line .ensures in
     closing-within _ _ s _ (at-read .read-seventh .ensures s) _ _ (at-numbers .numbers-of .ensures) (at-fields .fields-of .ensures) _ _ _
-    (at-skip .skip-lines .ensures .0) (taken .0) (taken .1)
+    (at-skip .skip-many .ensures .0) (taken .0) (taken .1)
 
 add-t13 : tie.Need-add-t13
 add-t13 c =
@@ -94,7 +94,7 @@ returns c =
     let at-read = at-numbers .before .before in
     let taken = at-take .take-line .ensures in
     λ s. function-own _ _ s _ (at-read .read-seventh .ensures s) _ _ (at-numbers .numbers-of .ensures) (at-fields .fields-of .ensures) _ _ _
-    (at-skip .skip-lines .ensures .0) (taken .0) (taken .1) _ _ (at-padding .padding-in .ensures) (c .skip-lines2 .ensures .0)
+    (at-skip .skip-many .ensures .0) (taken .0) (taken .1) _ _ (at-padding .padding-in .ensures) (c .skip-lines .ensures .0)
 
 pub function-at-spec : {M : Type 1} → statement M
 function-at-spec =
@@ -107,10 +107,10 @@ function-at-spec =
     sub-full
     fields-of-requires
     div-full
-    skip-lines-requires
+    skip-many-requires
     take-line-requires
     padding-in-requires
-    skip-lines-requires-2
+    skip-lines-requires
     add-t13
     add-t14
     returns)

@@ -1,7 +1,7 @@
 -- `parts::skip_lines` meets its contract.
 use native.Mathlib.Omega.{arith}
 use Rattle.parts.specs.Skip.{Skipped}
-use Rattle.parts.specs.SkipLaws.{skipped-line, skipped-open, skipped-done}
+use Rattle.parts.specs.SkipLaws.{skipped-start, skipped-line, skipped-open, skipped-done}
 use borrow.Author.Needs.{needs}
 use Rattle.parts.proofs.skip_lines.Statement.{statement}
 use Rattle.parts.proofs.skip_lines.Tie as tie
@@ -12,11 +12,8 @@ Inv-loop file from k at₀ left₀ at left = Skipped file from k at left
 abbrev μ-loop : tie.MeasureT-loop
 μ-loop file from k at₀ left₀ at left = left
 
-skip-blocks-requires : tie.Need-skip-blocks-requires Inv-loop μ-loop
-skip-blocks-requires c κs = search needs
-
 loop-holds : tie.Need-loop-holds Inv-loop μ-loop
-loop-holds c = c .skip-blocks .ensures
+loop-holds c = skipped-start _ _ _ (c .before .pre)
 
 find-end-requires : tie.Need-find-end-requires Inv-loop μ-loop
 find-end-requires c κs = search needs
@@ -51,7 +48,6 @@ skip-lines-spec =
     (tie.spec
     Inv-loop
     μ-loop
-    skip-blocks-requires
     loop-holds
     find-end-requires
     returns
