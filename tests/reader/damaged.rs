@@ -44,7 +44,8 @@ impl Run {
         }
     }
 
-    /// Each number of `numbers` in each field of the first, a middle, the last full and the last data line of every case.
+    /// Each number of `numbers` in each field of the first, a middle, the last full and the last data line of every case; in one writing each of
+    /// `odd_numbers` too.
     fn take_numbers(&mut self, share: &mut Share) {
         let random = &mut Random::new(0x5EED_0022_0021_0001);
         for case in 1..=8 {
@@ -53,7 +54,12 @@ impl Run {
                 let usual = usual::usual_in_path(random, case, 5, last, writing);
                 self.take_one_usual(&usual.name, &usual.file);
                 for line in [usual.data.start, usual.data.start + 2, usual.data.end - 2, usual.data.end - 1] {
-                    self.take_numbers_of_line(share, &usual, case, line);
+                    self.take_numbers_of_line(&usual, case, line, |width| {
+                        numbers(width).into_iter().filter(|_| share.picks_number()).collect()
+                    });
+                    if n == case % PLAIN_WRITINGS {
+                        self.take_numbers_of_line(&usual, case, line, |width| odd_numbers(width, &[-23, -22, 22, 23]));
+                    }
                 }
             }
             for _ in 0..share.count(4_000, 150) {
@@ -62,25 +68,23 @@ impl Run {
         }
     }
 
-    fn take_numbers_of_line(&mut self, share: &mut Share, usual: &usual::Usual, case: usize, line: usize) {
+    fn take_numbers_of_line(&mut self, usual: &usual::Usual, case: usize, line: usize, mut put: impl FnMut(usize) -> Vec<String>) {
         let mut at = usual.bytes_of(line).start;
         let shown = usual.file[usual.bytes_of(line)].trim_ascii_end().len();
         for (field, &width) in CASES[case - 1].2.iter().enumerate() {
             if at + width > usual.bytes_of(line).start + shown {
                 return;
             }
-            for number in numbers(width) {
-                if share.picks_number() {
-                    let mut file = usual.file.clone();
-                    file[at..at + width].copy_from_slice(number.as_bytes());
-                    self.take_one_usual(&format!("{}: {number:?} in field {field} of line {}", usual.name, line + 1), &file);
-                }
+            for number in put(width) {
+                let mut file = usual.file.clone();
+                file[at..at + width].copy_from_slice(number.as_bytes());
+                self.take_one_usual(&format!("{}: {number:?} in field {field} of line {}", usual.name, line + 1), &file);
             }
             at += width;
         }
     }
 
-    /// A set whose numbers are any of `numbers`, most of them in the exact path.
+    /// A set whose numbers are any of `numbers` and `odd_numbers`, most of them in the exact path.
     fn take_any_numbers(&mut self, random: &mut Random, case: usize) {
         let widths = CASES[case - 1].2;
         let last = [Last::Part, Last::Padded, Last::Full][random.below(3)];
@@ -92,7 +96,11 @@ impl Run {
             let past = at + usual.file[usual.bytes_of(line)].trim_ascii_end().len();
             for &width in widths {
                 if at + width <= past && random.one_in(4) {
-                    let all = if random.one_in(60) { numbers(width) } else { exact_numbers(width) };
+                    let all = match random.below(60) {
+                        0 => numbers(width),
+                        1..=20 => odd_numbers(width, &[-22, -7, 0, 22]),
+                        _ => exact_numbers(width),
+                    };
                     file[at..at + width].copy_from_slice(all[random.below(all.len())].as_bytes());
                 }
                 at += width;
@@ -157,5 +165,29 @@ fn numbers(width: usize) -> Vec<String> {
     ];
     odd.extend([".0E+00", "-.5E+00", "1.E+00", "-0.E-22", "+0.0E+23", "1.0E+000", "-1.0d-022", "1.0+101", "-1.5-005", "7.E+999"].map(String::from));
     all.extend(odd.into_iter().map(|text| format!("{text:>width$}")));
+    all
+}
+
+const LETTERS: [char; 4] = ['E', 'e', 'D', 'd'];
+
+/// Numbers of these scales in other spellings than the usual one: with no sign, a plus and a minus, the point before, among and after their digits, few or
+/// as many as the field has room for, and exponents of two digits and three with each letter, and of three without.
+fn odd_numbers(width: usize, scales: &[i32]) -> Vec<String> {
+    let mut all = Vec::new();
+    for &scale in scales {
+        for sign in ["", "+", "-"] {
+            for (form, letter) in ["", "E", "E"].iter().enumerate() {
+                let room = width - sign.len() - 1 - letter.len() - if form == 1 { 3 } else { 4 };
+                for (whole, part) in [(1, 0), (0, 1), (2, 3), (room, 0), (0, room), (room - 3, 3)] {
+                    let exponent = scale + part as i32;
+                    let exponent_sign = if exponent < 0 { '-' } else { '+' };
+                    let letter = letter.replace('E', &LETTERS[all.len() % 4].to_string());
+                    let size = if form == 1 { format!("{:02}", exponent.abs()) } else { format!("{:03}", exponent.abs()) };
+                    let number = format!("{sign}{}.{}{letter}{exponent_sign}{size}", &"907".repeat(5)[..whole], &"013".repeat(5)[..part]);
+                    all.push(format!("{number:>width$}"));
+                }
+            }
+        }
+    }
     all
 }

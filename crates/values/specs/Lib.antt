@@ -8,3 +8,7 @@ pub mod Each
 pub mod EachLaws
 pub mod Lines
 pub mod LinesLaws
+pub mod Scale
+pub mod ScaleLaws
+pub mod Accepted
+pub mod AcceptedLaws

@@ -4,7 +4,7 @@ use mathlib.Core.Bool.{Bool, true, false}
 use mathlib.Core.List.{List, _++_}
 use Prim.Native.Nat.{ℕ, _+_, _-_, _≤_, _<_, min}
 use lib.Ieee.{Float}
-use lib.ListN.{length, getD, take, drop}
+use lib.ListN.{length, getD, take, drop, set}
 use Rattle.laws.specs.Choice.{pick}
 use Rattle.laws.specs.Cut.{cut}
 use Rattle.laws.specs.Table.{tabulate}
@@ -14,6 +14,7 @@ use Rattle.layout.specs.Columns.{fieldStart, total}
 use Rattle.layout.specs.Layout.{layoutOf, fieldsOf, cellOf}
 use Rattle.parts.specs.Scan.{skipTo}
 use Rattle.reader.specs.declared.Data.{Data}
+use Rattle.reader.specs.declared.Read.{Read}
 use Rattle.reader.specs.Reader.{reads}
 use Rattle.reader.specs.Find.{realAt}
 use Rattle.usual_columns.specs.Cells.{Tables, Laid, tableCells}
@@ -23,7 +24,7 @@ use Rattle.values.specs.declared.Plan.{Plan}
 use Rattle.values.specs.declared.Spot.{Spot}
 use Rattle.values.specs.declared.Turn.{Turn}
 use Rattle.values.specs.Spot.{AtSpot}
-use Rattle.values.specs.Fill.{refusalIn, patternsPut}
+use Rattle.values.specs.Fill.{refusalOf, refusalIn, patternOr, patternsPut}
 
 -- the columns of a field
 abbrev pub field : List ℕ → ℕ → ℕ → List ℕ
@@ -78,8 +79,13 @@ pub record Gone (file : List ℕ) (d : Data) (put : Bool) (count j : ℕ) (befor
   pub same : refusalIn (reads (realAt file d) (t .number) (count - t .number)) ≡ refusalIn (reads (realAt file d) j (count - j))
   pub placed : filled put (realAt file d) count (t .number) after ≡ filled put (realAt file d) count j before
 
--- the refusal of the first so many numbers; where none is refused and they are to be put, their bit patterns are in the places
+-- a number is passed: put into place j where it is to be, which a refusal leaves, otherwise only looked at for its refusal
+pub record Passed (a : Read) (put : Bool) (j : ℕ) (before after : List ℕ) (r : ℕ) : Type 0 where
+  pub number-is : r ≡ pick put 0 (refusalOf a)
+  pub places : after ≡ pick put (set before j (patternOr (getD before j 0) a)) before
+
+-- the first so many numbers: the first refusal of them where they are only looked at, or their bit patterns in the places
 pub record AllRead (file : List ℕ) (d : Data) (put : Bool) (count : ℕ) (before after : List ℕ) (r : ℕ) : Type 0 where
-  pub number-is : r ≡ refusalIn (reads (realAt file d) 0 count)
+  pub number-is : put ≡ false → r ≡ refusalIn (reads (realAt file d) 0 count)
   pub kept : put ≡ false → after ≡ before
-  pub placed : put ≡ true → r ≡ 0 → after ≡ patternsPut (reads (realAt file d) 0 count) before
+  pub placed : put ≡ true → after ≡ patternsPut (reads (realAt file d) 0 count) before

@@ -31,7 +31,8 @@ use Rattle.reader.specs.declared.Read.{Read}
 use Rattle.reader.specs.declared.Read.the-variants as read
 use Rattle.reader.specs.Reader.{readIn, readOf, reads}
 use Rattle.reader.specs.Find.{lineAt, spanOf, realAt}
-use Rattle.usual_columns.specs.Cells.{tableCells, Wide, Tables, Laid, Passed}
+use Rattle.usual_columns.specs.Cells as Cells
+use Rattle.usual_columns.specs.Cells.{tableCells, Wide, Tables, Laid}
 use Rattle.usual_columns.specs.CellsLaws.{fits-length}
 use Rattle.usual_columns.specs.RowLaws.{Begun, wide-at, row-length, row-line, row-field, row-begun}
 use Rattle.usual_columns.specs.WidthsLaws.{layout-wide, layout-some}
@@ -45,8 +46,8 @@ use Rattle.values.specs.declared.Turn.{Turn}
 use Rattle.values.specs.Spot.{spot, spotOf, AtSpot}
 use Rattle.values.specs.SpotLaws.{skip-further}
 use Rattle.values.specs.Fill.{refusalIn, patternOr, patternsPut}
-use Rattle.values.specs.FillLaws.{refusal-next, patterns-none, patterns-next}
-use Rattle.values.specs.Lines.{field, plan, TablesFor, Planned, Lent, UsualLine, filled, Gone, AllRead}
+use Rattle.values.specs.FillLaws.{refusal-here, refusal-next, patterns-none, patterns-next}
+use Rattle.values.specs.Lines.{field, plan, TablesFor, Planned, Lent, UsualLine, filled, Gone, Passed, AllRead}
 
 pub some : (n : ℕ) → (n ≡ 0 → ⊥) → 0 < n
 some n h = ⊎-elim (λ (e : n ≡ 0). absurd (h e)) (λ (p : 0 < n). p) (eq-zero-or-pos n)
@@ -62,7 +63,9 @@ widthFits c k = eqb (getD (layoutOf c .widths) k 0) 13 || eqb (getD (layoutOf c 
 
 width-fits : (c k : ℕ) → c < 8 → k < fieldsOf c → widthFits c k ≡ true
 unfolding fieldsOf layoutOf layouts
-width-fits c k h l = in-range (widthFits c) true 0 (fieldsOf c) k (in-range (λ (i : ℕ). allAre (widthFits i) true 0 (fieldsOf i)) true 0 8 c refl (omega arith) (omega arith)) (omega arith) (omega arith)
+width-fits c k h l =
+    let all = in-range (λ (i : ℕ). allAre (widthFits i) true 0 (fieldsOf i)) true 0 8 c refl (omega arith) (omega arith) in
+    in-range (widthFits c) true 0 (fieldsOf c) k all (omega arith) (omega arith)
 
 pub width-either : (c k : ℕ) → c < 8 → k < fieldsOf c → (getD (layoutOf c .widths) k 0 ≡ 13) ⊎ (getD (layoutOf c .widths) k 0 ≡ 20)
 width-either c k h l = go (eqb (getD (layoutOf c .widths) k 0) 13) refl (width-fits c k h l)
@@ -102,7 +105,7 @@ pub tables-for : (d : Data) (l : List ℕ) (t : Tables) (b m c : ℕ) → l ≡ 
 tables-for d l t b m c own x e laid z = record { letter = b; letter-is = x; columns-are = e ∙ rw own (omega arith); laid = rw (own, z) at laid }
 
 -- a line that passes is usual, and the line past its LF is the next
-module _ (file : List ℕ) (d : Data) (t : Tables) (c at : ℕ) (eight : d .case < 8) (own : TablesFor d c t) (room : at + 80 ≤ length file) (passed : Passed t file at 80) where
+module _ (file : List ℕ) (d : Data) (t : Tables) (c at : ℕ) (eight : d .case < 8) (own : TablesFor d c t) (room : at + 80 ≤ length file) (passed : Cells.Passed t file at 80) where
   abbrev row : List ℕ
   row = layoutOf (d .case) .widths
 
@@ -232,23 +235,35 @@ module _ (file : List ℕ) (d : Data) (body : d .body ≤ length file) (eight : 
           rw (← z) (refusal-next (realAt file d) (j + k) count (omega arith) (read.Value (v .0)) 0 (sym (v .1)) refl (omega arith) ∙ go k (omega arith))
 
 -- after the usual lines one number more is put
-module _ {file : List ℕ} {d : Data} {put : Bool} {count j : ℕ} {before after : List ℕ} {t : Turn} (f : Gone file d put count j before after t) (a : Read) (l : List ℕ)
-    (e : l ≡ pick put (set after (t .number) (patternOr (getD after (t .number) 0) a)) after) where
+module _ {file : List ℕ} {d : Data} {put : Bool} {count j r : ℕ} {before after l : List ℕ} {t : Turn} (f : Gone file d put count j before after t)
+    {a : Read} (p : Passed a put (t .number) after l r) where
   pub gone-length : length l ≡ length before
-  gone-length = ap length e ∙ kept put ∙ f .long
+  gone-length = ap length (p .places) ∙ kept put ∙ f .long
     where
       kept : (q : Bool) → length (pick q (set after (t .number) (patternOr (getD after (t .number) 0) a)) after) ≡ length after
       kept true = simp length-set refl
       kept false = refl
 
-  pub gone-next : t .number < count → (put ≡ true → count ≤ length before) → a ≡ readOf (realAt file d (t .number))
-      → filled put (realAt file d) count (t .number + 1) l ≡ filled put (realAt file d) count j before
-  gone-next h n q = rw e (one put n) ∙ f .placed
-    where
-      one : (b : Bool) → (b ≡ true → count ≤ length before)
-          → filled b (realAt file d) count (t .number + 1) (pick b (set after (t .number) (patternOr (getD after (t .number) 0) a)) after) ≡ filled b (realAt file d) count (t .number) after
-      one true n = patterns-next (realAt file d) (t .number) count h after (omega (arith, f .long, n refl)) 0 _ (ap (patternOr (getD after (t .number) 0)) q)
-      one false n = refl
+  -- where it is put, none is answered
+  pub put-none : put ≡ true → r ≡ 0
+  put-none q = p .number-is ∙ rw q refl
+
+  module _ (own : a ≡ readOf (realAt file d (t .number))) where
+    pub gone-next : t .number < count → (put ≡ true → count ≤ length before) → filled put (realAt file d) count (t .number + 1) l ≡ filled put (realAt file d) count j before
+    gone-next h n = rw (p .places) (one put n) ∙ f .placed
+      where
+        one : (b : Bool) → (b ≡ true → count ≤ length before)
+            → filled b (realAt file d) count (t .number + 1) (pick b (set after (t .number) (patternOr (getD after (t .number) 0) a)) after) ≡ filled b (realAt file d) count (t .number) after
+        one true n = patterns-next (realAt file d) (t .number) count h after (omega (arith, f .long, n refl)) 0 _ (ap (patternOr (getD after (t .number) 0)) own)
+        one false n = refl
+
+    -- where it is only looked at: it is refused, or none up to it is
+    pub gone-refused : t .number < count → put ≡ false → 0 < r → r ≡ refusalIn (reads (realAt file d) j (count - j))
+    gone-refused h q some = refusal-here (realAt file d) (t .number) count h a r own (p .number-is ∙ rw q refl) some ∙ f .same
+
+    pub gone-same : t .number < count → put ≡ false → r ≤ 0
+        → refusalIn (reads (realAt file d) (t .number + 1) (count - (t .number + 1))) ≡ refusalIn (reads (realAt file d) j (count - j))
+    gone-same h q none = refusal-next (realAt file d) (t .number) count h a r own (p .number-is ∙ rw q refl) none ∙ f .same
 
 -- the places at the end
 module _ (file : List ℕ) (d : Data) (put : Bool) (count j : ℕ) (before after : List ℕ) (h : filled put (realAt file d) count j after ≡ filled put (realAt file d) count 0 before) where

@@ -21,11 +21,11 @@ use Rattle.parts.specs.PartsLaws.{lines-end}
 use Rattle.parts.specs.Scan.{skipTo}
 use Rattle.parts.specs.SetLaws.{skip-stops, skip-none, skip-next}
 use Rattle.reader.specs.declared.Data.{Data}
-use Rattle.reader.specs.declared.Read.{Read}
 use Rattle.reader.specs.Reader.{readIn, readOf}
 use Rattle.reader.specs.Find.{lineAt, spanOf, realAt}
 use Rattle.values.specs.declared.Spot.{Spot}
 use Rattle.values.specs.Spot.{spot, spotOf, nextSpot, AtSpot}
+use Rattle.values.specs.Accepted.{RealIn, AllReal}
 
 -- a line further is one line from there
 module _ (f : List ℕ) (stop : ℕ) where
@@ -105,12 +105,18 @@ module _ (file : List ℕ) (d : Data) (body : d .body ≤ length file) (eight : 
       let l : lineAt file d j ≤ length file = rw (at .spot-is) at (at .inside) in
       (field-six, rw past-own (omega arith))
 
-  -- what is read there is the number's
-  pub read-own : (r : Read) → r ≡ readOf (readIn file (s .first) (s .first + getD ws (s .field) 0)) → r ≡ readOf (realAt file d j)
+  -- what is read there is the number's, and it is a real where all are
+  pub read-own : readOf (readIn file (s .first) (s .first + getD ws (s .field) 0)) ≡ readOf (realAt file d j)
   unfolding spotOf
-  read-own r e =
-      e ∙ ap (λ (x : ℕ). readOf (readIn file (s .first) x)) past-own
+  read-own =
+      ap (λ (x : ℕ). readOf (readIn file (s .first) x)) past-own
       ∙ ap (λ (x : Spot). readOf (readIn file (x .first) (spanOf file d j .past))) (at .spot-is)
+
+  pub real-here : (count : ℕ) → AllReal file d count → j < count → RealIn file (s .first) (s .first + getD ws (s .field) 0)
+  unfolding spotOf
+  real-here count all h =
+      let first : s .first ≡ spanOf file d j .first = ap (λ (x : Spot). x .first) (at .spot-is) in
+      rw past-own (rw first (all .real j h))
 
   -- on the same line
   further : (m : ℕ) → m ≡ n → s .field + 1 < m → nextSpot file (d .closing) m ws s ≡ spotOf file d (j + 1)

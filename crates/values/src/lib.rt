@@ -3,25 +3,26 @@ ghost use mathlib.Core.Path.{_≡_};
 ghost use mathlib.Core.Bool.{true};
 ghost use mathlib.Core.Logic.{_⊎_};
 ghost use Prim.Native.Nat.{_+_, _≤_, _<_};
-ghost use lib.ListN.{length, getD, drop, set};
+ghost use lib.ListN.{length, getD, drop};
+ghost use Rattle.real.specs.Real.{realOf};
 ghost use Rattle.reader.specs.Reader.{readIn, readOf};
 ghost use Rattle.values.specs.Values.{allReply, allPlaces};
 ghost use Rattle.values.specs.Spot.{spot, spotOf, nextSpot, AtSpot};
-ghost use Rattle.laws.specs.Choice.{pick};
 ghost use Rattle.laws.specs.Cut.{lineLen};
 ghost use Rattle.layout.specs.Layout.{layoutOf, fieldsOf};
 ghost use Rattle.usual_columns.specs.Cells.{tables};
 ghost use Rattle.usual_values.specs.Usual.{UsualField};
 ghost use Rattle.usual_values.specs.Number.{PowersTo, UsualRead};
+ghost use Rattle.values.specs.Scale.{RealColumns, pointIn, exponentIn, sizeOf, mostSize};
+ghost use Rattle.values.specs.Accepted.{RealIn, AllReal};
 ghost use Rattle.values.specs.Fill.{refusalOf, patternOr};
-ghost use Rattle.values.specs.Lines.{field, plan, Planned, Lent, UsualLine, FilledTo, Gone, AllRead};
+ghost use Rattle.values.specs.Lines.{field, plan, Planned, Lent, UsualLine, FilledTo, Gone, Passed, AllRead};
 use judge::Reply;
 use laws::index;
 use parts::line_start;
 use reader::Data;
 use reader::Read;
 use reader::find_data;
-use reader::read_in;
 use reader::read_of;
 use usual_columns::passes;
 use usual_columns::put_tables;
@@ -98,23 +99,66 @@ fn next_spot(file: &[u8], closing: usize, fields: usize, widths: &[u8; 6], s: Sp
     }
 }
 
-// The f64 of the number there, or its refusal.
-fn read_here(file: &[u8], widths: &[u8; 6], s: Spot) -> Read
-    requires { ⌜ (s .field < 6) × (s .first + getD (now widths) (s .field) 0 ≤ length (now file) + 80) ⌝ }
-    ensures { λ r. ⌜ r ≡ readOf (readIn (now (file .entry)) (s .first) (s .first + getD (now (widths .entry)) (s .field) 0)) ⌝ }
+// The column that holds the point, the first that does.
+fn point_in(s: &[u8]) -> usize
+    requires { ⌜ pointIn (now s) < length (now s) ⌝ }
+    ensures { λ r. ⌜ r ≡ pointIn (now (s .entry)) ⌝ }
 {
-    let field = s.field;
-    read_of(read_in(file, s.first, s.first + index(widths[field])))
+    let mut i = 0;
+    while s[i] != 46 {
+        i += 1;
+    }
+    i
 }
 
-// The number of a refusal; 0 for a value.
-fn refusal_of(a: Read) -> u8
-    ensures { λ r. ⌜ r ≡ refusalOf a ⌝ }
+// The first column of a real's exponent: the fifth from the end where a letter stands there, otherwise the fourth.
+fn exponent_in(s: &[u8]) -> usize
+    requires { ⌜ 5 ≤ length (now s) ⌝ }
+    ensures { λ r. ⌜ r ≡ exponentIn (now (s .entry)) ⌝ }
 {
-    match a {
-        Read::Value(_) => 0,
-        Read::Refused(number) => number,
+    let fifth = s.len() - 5;
+    if real::is_letter(s[fifth]) {
+        return fifth;
     }
+    fifth + 1
+}
+
+// The size of a real's exponent, by the last three columns: a sign and two digits, or three digits.
+fn exponent_size(third: u8, second: u8, last: u8) -> usize
+    ensures { λ r. ⌜ r ≡ sizeOf third second last ⌝ }
+{
+    let size = index(second % 16) * 10 + index(last % 16);
+    if third < 48 {
+        return size;
+    }
+    index(third % 16) * 100 + size
+}
+
+// The greatest size of an exponent, of this sign, with which the scale of a real with so many digits after the point is in -22 to 22.
+fn most_size(down: bool, after: usize) -> usize
+    requires { ⌜ after ≤ 22 ⌝ }
+    ensures { λ r. ⌜ r ≡ mostSize down after ⌝ }
+{
+    if down {
+        return 22 - after;
+    }
+    22 + after
+}
+
+// The refusal of the real that these columns spell: 21 where its scale, its exponent less its digits after the point, is outside -22 to 22, otherwise 0. No
+// digit of its coefficient is looked at: there are at most 15.
+fn refusal_in(s: &[u8]) -> u8
+    requires { ⌜ RealColumns (now s) ⌝ }
+    ensures { λ r. ⌜ r ≡ refusalOf (readOf (realOf (now (s .entry)))) ⌝ }
+{
+    let width = s.len();
+    let after = exponent_in(s) - point_in(s) - 1;
+    let third = s[width - 3];
+    let most = most_size((third == 45) | (s[width - 4] == 45), after);
+    if most < exponent_size(third, s[width - 2], s[width - 1]) {
+        return 21;
+    }
+    0
 }
 
 // The bit pattern of a value; for a refusal what is given instead.
@@ -127,15 +171,22 @@ fn pattern_or(a: Read, instead: u64) -> u64
     }
 }
 
-// Puts the bit pattern of a value into place j where it is to be put; a refusal leaves the place.
-fn put_read(a: Read, j: usize, put: bool, out: &mut [u64])
+// Passes the number there: where it is to be put, its bit pattern goes into place j, which a refusal leaves, and 0 is answered; otherwise its refusal, 0
+// where it has none, and it is only looked at.
+fn pass_number(file: &[u8], widths: &[u8; 6], s: Spot, j: usize, put: bool, out: &mut [u64]) -> u8
+    requires { ⌜ (s .field < 6) × RealIn (now file) (s .first) (s .first + getD (now widths) (s .field) 0) ⌝ }
     requires { ⌜ (put ≡ true → j < length (now out)) ⌝ }
-    ensures { λ _. ⌜ now (out .exit) ≡ pick put (set (now (out .entry)) j (patternOr (getD (now (out .entry)) j 0) a)) (now (out .entry)) ⌝ }
+    ensures { λ r. ⌜ Passed (readOf (readIn (now (file .entry)) (s .first) (s .first + getD (now (widths .entry)) (s .field) 0))) put j (now (out .entry)) (now (out .exit)) r ⌝ }
 {
+    let field = s.field;
+    let first = s.first;
+    let past = first + index(widths[field]);
+    let columns = &file[first..past];
     if !put {
-        return;
+        return refusal_in(columns);
     }
-    out[j] = pattern_or(a, out[j]);
+    out[j] = pattern_or(read_of(real::real_field(columns)), out[j]);
+    0
 }
 
 // A plan by which no line is tried by tables.
@@ -314,8 +365,8 @@ fn pass_usual(
     at_line(j, line)
 }
 
-// The first refusal of a set's numbers, 0 where there is none. Where they are to be put, their bit patterns are put into the places lent, one after the
-// other, as far as the first refusal.
+// The first refusal of a set's numbers, all of them reals, 0 where there is none; they are only looked at. Where they are to be put, their bit patterns are
+// put into the places lent instead, one after the other, and 0 is answered.
 fn read_all(
     file: &[u8],
     d: Data,
@@ -329,7 +380,7 @@ fn read_all(
     out: &mut [u64],
 ) -> u8
     requires { ⌜ Lent (now file) d (now widths) (now tens) p × Planned (now file) d (tables (now lo) (now span) (now alt)) p ⌝ }
-    requires { ⌜ AtSpot (now file) d 0 (p .first) × (put ≡ true → p .stored ≤ length (now out)) ⌝ }
+    requires { ⌜ AtSpot (now file) d 0 (p .first) × (AllReal (now file) d (p .stored) × (put ≡ true → p .stored ≤ length (now out))) ⌝ }
     ensures { λ r. ⌜ AllRead (now (file .entry)) d put (p .stored) (now (out .entry)) (now (out .exit)) r ⌝ }
 {
     let mut s = p.first;
@@ -341,12 +392,10 @@ fn read_all(
         if p.stored <= number {
             return 0;
         }
-        let found = read_here(file, widths, t.spot);
-        let refusal = refusal_of(found);
+        let refusal = pass_number(file, widths, t.spot, number, put, out);
         if 0 < refusal {
             return refusal;
         }
-        put_read(found, number, put, out);
         s = next_spot(file, d.closing, p.fields, widths, t.spot);
         j = number + 1;
     }

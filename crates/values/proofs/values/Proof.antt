@@ -1,5 +1,5 @@
 -- `values::values` meets its contract.
-use mathlib.Core.Path.{_≡_, refl, sym, ap}
+use mathlib.Core.Path.{refl, sym, ap}
 use Prim.Native.Nat.{_*_, _≤_}
 use native.Mathlib.Omega.{arith}
 use lib.ListN.{length}
@@ -8,6 +8,7 @@ use Rattle.laws.specs.ChoiceLaws.{false-not-true}
 use Rattle.record.specs.ConditionLaws.{data-six}
 use Rattle.usual_columns.specs.WidthsLaws.{six-widths, fields-six}
 use Rattle.reader.specs.ReaderLaws.{start-most, data-inside}
+use Rattle.values.specs.AcceptedLaws.{accepted-real}
 use Rattle.values.specs.LinesLaws.{lent-for, read-count}
 use Rattle.values.specs.ValuesLaws.{refused-first, none-there, one-refused, too-few, all-filled}
 use borrow.Author.Needs.{needs}
@@ -95,14 +96,18 @@ read-all-requires c κs =
     let at-tables = at-powers .before in
     let at-first = at-tables .before .before .before .before in
     let at-widths = at-first .before .before in
-    let at-find-data = at-widths .before .before .before .before .before .before in
-    let at-start = at-find-data .before .before .before .before .before .before in
+    let at-numbers-of = at-widths .before .before in
+    let at-find-data = at-numbers-of .before .before .before .before in
+    let at-if1 = at-find-data .before in
+    let at-judge = at-if1 .before .before in
+    let at-start = at-judge .before .before .before in
     let inside = data-inside (at-start .args .file .now) _ _ (at-find-data .find-data .ensures) in
     let planned = at-tables .line-tables .ensures in
     let file = at-start .args .file .now in
     let widths = at-widths .line-widths .ensures in
     let lent = lent-for file (at-find-data .find-data .result) _ _ _ _ _ _ inside widths (at-powers .powers .ensures) planned (at-first .first-spot .ensures) in
-    (lent .0, (lent .1, λ q. false-not-true q))
+    let real = accepted-real file _ (at-judge .judge .ensures) (at-if1 .if1 .left) _ _ (at-find-data .find-data .ensures) _ _ (planned .0 .1) (at-numbers-of .numbers-of .ensures) in
+    (lent .0, (lent .1, (real, λ q. false-not-true q)))
 
 bare-reply-requires-2 : tie.Need-bare-reply-requires-2
 bare-reply-requires-2 c κs = search needs
@@ -123,7 +128,7 @@ returns-3 c =
     let args = at-judge .before .before .before .args in
     let refused = one-refused (args .file .now) (args .set) (args .out .now) _ (at-judge .judge .ensures) (at-if1 .if1 .left) _ (at-find-data .find-data .ensures) (at-if2 .if2 .left) in
     let read = read-count _ (at-tables .line-tables .ensures .0 .1) (at-read .read-all .ensures) in
-    rw (c .bare-reply2 .ensures, read .kept refl) (refused _ _ _ refl (at-numbers-of .numbers-of .ensures) (read .number-is) (at-if3 .if3 .taken))
+    rw (c .bare-reply2 .ensures, read .kept refl) (refused _ _ _ refl (at-numbers-of .numbers-of .ensures) (read .number-is refl) (at-if3 .if3 .taken))
 
 bare-reply-requires-3 : tie.Need-bare-reply-requires-3
 bare-reply-requires-3 c κs = search needs
@@ -146,7 +151,7 @@ returns-4 c =
     let few = too-few (args .file .now) (args .set) (args .out .now) _ (at-judge .judge .ensures) (at-if1 .if1 .left) _ (at-find-data .find-data .ensures) (at-if2 .if2 .left) in
     let read = read-count _ (at-tables .line-tables .ensures .0 .1) (at-read .read-all .ensures) in
     let kept = read .kept refl in
-    rw (c .bare-reply3 .ensures, kept) (few _ _ _ refl (at-numbers-of .numbers-of .ensures) (read .number-is) (at-if3 .if3 .left) (rw kept at (at-if4 .if4 .taken)))
+    rw (c .bare-reply3 .ensures, kept) (few _ _ _ refl (at-numbers-of .numbers-of .ensures) (read .number-is refl) (at-if3 .if3 .left) (rw kept at (at-if4 .if4 .taken)))
 
 read-all-requires-2 : tie.Need-read-all-requires-2
 read-all-requires-2 c κs =
@@ -156,14 +161,18 @@ read-all-requires-2 c κs =
     let at-tables = at-powers .before in
     let at-first = at-tables .before .before .before .before in
     let at-widths = at-first .before .before in
-    let at-find-data = at-widths .before .before .before .before .before .before in
-    let at-start = at-find-data .before .before .before .before .before .before in
+    let at-numbers-of = at-widths .before .before in
+    let at-find-data = at-numbers-of .before .before .before .before in
+    let at-if1 = at-find-data .before in
+    let at-judge = at-if1 .before .before in
+    let at-start = at-judge .before .before .before in
     let inside = data-inside (at-start .args .file .now) _ _ (at-find-data .find-data .ensures) in
     let planned = at-tables .line-tables .ensures in
     let file = at-start .args .file .now in
     let widths = at-widths .line-widths .ensures in
     let lent = lent-for file (at-find-data .find-data .result) _ _ _ _ _ _ inside widths (at-powers .powers .ensures) planned (at-first .first-spot .ensures) in
-    (lent .0, (lent .1, λ q. omega (arith, planned .0 .1, at-if4 .if4 .left)))
+    let real = accepted-real file _ (at-judge .judge .ensures) (at-if1 .if1 .left) _ _ (at-find-data .find-data .ensures) _ _ (planned .0 .1) (at-numbers-of .numbers-of .ensures) in
+    (lent .0, (lent .1, (real, λ q. omega (arith, planned .0 .1, at-if4 .if4 .left))))
 
 bare-reply-requires-4 : tie.Need-bare-reply-requires-4
 bare-reply-requires-4 c κs = search needs
@@ -189,9 +198,8 @@ returns-5 c =
     let read = read-count _ count (at-read .read-all .ensures) in
     let again = read-count _ count (at-again .read-all2 .ensures) in
     let kept = read .kept refl in
-    let none : at-again .read-all2 .result ≡ 0 = omega (arith, again .number-is, read .number-is, at-if3 .if3 .left) in
-    let all = filled _ _ _ refl (at-numbers-of .numbers-of .ensures) (read .number-is) (at-if3 .if3 .left) (rw kept at (at-if4 .if4 .left)) in
-    rw (c .bare-reply4 .ensures) (all _ (rw kept at (again .placed refl none)))
+    let all = filled _ _ _ refl (at-numbers-of .numbers-of .ensures) (read .number-is refl) (at-if3 .if3 .left) (rw kept at (at-if4 .if4 .left)) in
+    rw (c .bare-reply4 .ensures) (all _ (rw kept at (again .placed refl)))
 
 pub values-spec : {M : Type 1} → statement M
 values-spec =
