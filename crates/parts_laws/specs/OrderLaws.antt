@@ -20,6 +20,7 @@ use Rattle.theory.specs.Due.{linesFor}
 use Rattle.parts.specs.Parts as Parts
 use Rattle.parts.specs.Function as Function
 use Rattle.parts.specs.Padding.{paddingOf}
+use Rattle.parts.specs.Set.{Somewhere}
 use Rattle.parts_laws.specs.Holds.{Holds}
 use Rattle.parts_laws.specs.Declared.{setCase}
 use Rattle.parts_laws.specs.DeclaredLaws.{case-held}
@@ -130,6 +131,11 @@ module _ {s : Set} {p : Parts.Part} (h : Holds s p) (e : s .number ≡ 58) where
       (λ q. omega (arith, t .past, lines-apart p (headerLines + lineOf n i) (headerLines + lineOf n j) (t .line) (omega arith)))
       (λ q. rw (q .0) (omega (arith, q .1)))
       (stored-apart (layoutOf (Function.partCase p) .widths) i j m o)
+
+-- a stored number's columns are bytes of the text
+pub past-within : {s : Set} {p : Parts.Part} (bytes : List ℕ) (ps : List Parts.Part) → Somewhere bytes p ps → Holds s p → s .number ≡ 58 → (j : ℕ) → j < storedCount s
+    → Function.pastByte p j ≤ length bytes
+past-within bytes ps w h e j l = omega (arith, columns-inside h e j (omega arith) .1 .1, w .stands .later, w .stands .past)
 
 -- the first stored number begins the data lines
 pub first-column : (p : Parts.Part) → Function.firstByte p 0 ≡ Parts.lineStart p headerLines

@@ -33,7 +33,7 @@ use Rattle.parts_laws.specs.CaseLaws.{case-eight, declared-some}
 use Rattle.parts_laws.specs.Field.{Spelled}
 use Rattle.parts_laws.specs.ShownLaws.{stored-shown}
 use Rattle.parts_laws.specs.PaddingLaws.{stored-held}
-use Rattle.parts_laws.specs.OrderLaws.{columns-inside}
+use Rattle.parts_laws.specs.OrderLaws.{past-within}
 use Rattle.values.specs.Values.{allFrom, allValues}
 use Rattle.values.specs.Each.{Each}
 use Rattle.values.specs.EachLaws.{all-each, all-refused}
@@ -42,15 +42,12 @@ use Rattle.theorems.specs.ColumnsLaws.{value-number}
 
 -- a 58 of the list as it stands in a text
 module _ {s : Set} {p : Parts.Part} (bytes : List ℕ) (ps : List Parts.Part) (w : Somewhere bytes p ps) (h : Holds s p) (e : s .number ≡ 58) where
-  pub past-within : (j : ℕ) → j < storedCount s → Function.pastByte p j ≤ length bytes
-  past-within j l = omega (arith, columns-inside h e j (omega arith) .1 .1, w .stands .later, w .stands .past)
-
   -- what stands in a stored number's columns
   pub realIn-held : (j : ℕ) → j < storedCount s → realIn bytes p j ≡ realOfItem (storedItem s j)
   unfolding readIn
   realIn-held j l =
       let x : Spelled (storedItem s j) (take (Function.pastByte p j - Function.firstByte p j) (drop (Function.firstByte p j) bytes)) = stored-shown bytes ps w h e j l in
-      rw (le-leb (Function.pastByte p j) (length bytes) (past-within j l), realOf-complete (x .spelling), x .item) refl
+      rw (le-leb (Function.pastByte p j) (length bytes) (past-within bytes ps w h e j l), realOf-complete (x .spelling), x .item) refl
 
   -- its answer, by index
   pub number-answered : (j : ℕ) → j < storedCount s → numberFrom bytes (p ∷ ps) j ≡ shownOf (Function.firstByte p j) (Function.pastByte p j) (realOfItem (storedItem s j))

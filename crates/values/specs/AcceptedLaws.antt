@@ -28,7 +28,7 @@ use Rattle.parts_laws.specs.DeclaredLaws.{number-held}
 use Rattle.parts_laws.specs.Stored.{storedCount}
 use Rattle.parts_laws.specs.ShownLaws.{stored-shown}
 use Rattle.parts_laws.specs.PaddingLaws.{stored-held}
-use Rattle.parts_laws.specs.OrderLaws.{columns-inside}
+use Rattle.parts_laws.specs.OrderLaws.{past-within}
 use Rattle.judge_laws.specs.HeldLaws.{accepted-held}
 use Rattle.reader.specs.declared.Data.{Data}
 use Rattle.reader.specs.Reader.{setsFrom, readIn, readOf}
@@ -56,7 +56,7 @@ module _ (file : List ℕ) (p : Part) (ps : List Part) (w : Somewhere file p ps)
   real-in : (j : ℕ) → j < storedCount s → RealIn file (firstByte p j) (pastByte p j)
   real-in j l =
       let x = stored-shown file ps w h e j l in
-      let inside : pastByte p j ≤ length file = omega (arith, columns-inside h e j (omega arith) .1 .1, w .stands .later, w .stands .past) in
+      let inside : pastByte p j ≤ length file = past-within file ps w h e j l in
       let n = length-take-le (pastByte p j - firstByte p j) (drop (firstByte p j) file) (simp length-drop (omega arith)) in
       let c = field-columns p j eight in
       record {

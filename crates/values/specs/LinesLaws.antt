@@ -6,7 +6,7 @@ use mathlib.Core.List.{List}
 use Prim.Native.Nat.{ℕ, zero, suc, _+_, _-_, _*_, _/_, _%_, _≤_, _<_, min}
 use native.Mathlib.Nat.{sub-zero, eq-zero-or-pos, div-self, mod-self, div-eq-of-lt, mod-eq-of-lt, mul-add-div-right, mul-add-mod-self-right}
 use native.Mathlib.Omega.{arith}
-use borrow.Author.Tests.{le-leb, lt-ltb, eqb-true}
+use borrow.Author.Tests.{le-leb, eqb-true}
 use lib.Dec.{eqb}
 use lib.Ieee.{Float}
 use lib.ListN.{length, getD, drop, set, length-set}
@@ -16,13 +16,12 @@ use Rattle.laws.specs.Cut.{cut, lineLen}
 use Rattle.laws.specs.Ranges.{allAre}
 use Rattle.laws.specs.RangesLaws.{in-range}
 use Rattle.laws.specs.Table.{tabulate}
-use Rattle.laws.specs.TableLaws.{table-at}
 use Rattle.real.specs.Real.{isLetter, realOf}
 use Rattle.real.specs.ByteLaws.{isLetter-sound}
 use Rattle.layout.specs.Columns.{lineOf, fieldOf, fieldStart, fieldPast, total}
 use Rattle.layout.specs.ColumnsLaws.{stored-at}
 use Rattle.layout.specs.Layout.{layoutOf, layouts, fieldsOf, cellOf}
-use Rattle.layout.specs.LayoutLaws.{fieldsOf-some, widths-six, total-inside, field-inside, fieldPast-inside}
+use Rattle.layout.specs.LayoutLaws.{fieldsOf-some, width-cell, widths-six, total-inside, field-inside, fieldPast-inside}
 use Rattle.record_table.specs.TypedSets.{headerLines}
 use Rattle.parts.specs.Scan.{skipTo}
 use Rattle.parts.specs.SetLaws.{skip-next}
@@ -76,10 +75,8 @@ width-either c k h l = go (eqb (getD (layoutOf c .widths) k 0) 13) refl (width-f
 
 -- the code's widths are the layout's
 pub width-own : (c k : ℕ) (ws : List ℕ) → ws ≡ tabulate (cellOf c) 0 6 → k < fieldsOf c → getD ws k 0 ≡ getD (layoutOf c .widths) k 0
-unfolding cellOf fieldsOf
-width-own c k ws e h =
-    let six : k < 6 = omega (arith, widths-six c) in
-    table-at (cellOf c) ws 6 k 0 e six ∙ rw (lt-ltb k 6 six) refl
+unfolding fieldsOf
+width-own c k ws e h = width-cell c k ws e (omega (arith, widths-six c))
 
 -- the row of a case, for its tables
 module _ (c : ℕ) (l : List ℕ) (own : l ≡ layoutOf c .widths) where
