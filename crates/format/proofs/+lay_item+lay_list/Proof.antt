@@ -43,7 +43,9 @@ abbrev lay-list-below : ℕ → In 3 lay-list-kinds.ps
 lay-list-below t =
     and 3 lay-list-kinds.ps (falls 3 lay-list-kinds.ps _<_ μ-lay-list t) lay-list.Pre
 
-lay-item-returns : (t : ℕ) → lay-item-lts.Need-returns (
+-- what `lay_item` and those it calls ask and promise, calls back to it with fewer bytes left
+abbrev lay-item-claims : ℕ → lay-item-lts.Claims
+lay-item-claims t = (
   counted-reads.Asked,
   counted-reads.Learnt,
   byte-at-reads.Asked,
@@ -56,141 +58,39 @@ lay-item-returns : (t : ℕ) → lay-item-lts.Need-returns (
   plain-reads.Learnt,
   lay-leaf-reads.Asked,
   lay-leaf-reads.Learnt,
-) (lay-item-at t) lay-item.Post
+)
+
+lay-item-returns : (t : ℕ) → lay-item-lts.Need-returns (lay-item-claims t) (lay-item-at t) lay-item.Post
 lay-item-returns t c = item-zero _ _ _ _ _ (c .if1 .taken) (layingIn-none _ _ _ refl)
 
-lay-item-counted-requires : (t : ℕ) → lay-item-lts.Need-counted-requires (
-  counted-reads.Asked,
-  counted-reads.Learnt,
-  byte-at-reads.Asked,
-  byte-at-reads.Learnt,
-  lay-list-below t,
-  lay-list.Post,
-  lay-group-reads.Asked,
-  lay-group-reads.Learnt,
-  plain-reads.Asked,
-  plain-reads.Learnt,
-  lay-leaf-reads.Asked,
-  lay-leaf-reads.Learnt,
-) (lay-item-at t) lay-item.Post
+lay-item-counted-requires : (t : ℕ) → lay-item-lts.Need-counted-requires (lay-item-claims t) (lay-item-at t) lay-item.Post
 lay-item-counted-requires t c κs = search needs
 
-lay-item-returns-2 : (t : ℕ) → lay-item-lts.Need-returns-2 (
-  counted-reads.Asked,
-  counted-reads.Learnt,
-  byte-at-reads.Asked,
-  byte-at-reads.Learnt,
-  lay-list-below t,
-  lay-list.Post,
-  lay-group-reads.Asked,
-  lay-group-reads.Learnt,
-  plain-reads.Asked,
-  plain-reads.Learnt,
-  lay-leaf-reads.Asked,
-  lay-leaf-reads.Learnt,
-) (lay-item-at t) lay-item.Post
+lay-item-returns-2 : (t : ℕ) → lay-item-lts.Need-returns-2 (lay-item-claims t) (lay-item-at t) lay-item.Post
 lay-item-returns-2 t c =
     let at-counted = c .before .before in
     item-uncounted _ _ _ _ _ _ (at-counted .before .if1 .left) (at-counted .counted .ensures) (not-true _ (c .if2 .taken)) (layingIn-none _ _ _ refl)
 
-lay-item-byte-at-requires : (t : ℕ) → lay-item-lts.Need-byte-at-requires (
-  counted-reads.Asked,
-  counted-reads.Learnt,
-  byte-at-reads.Asked,
-  byte-at-reads.Learnt,
-  lay-list-below t,
-  lay-list.Post,
-  lay-group-reads.Asked,
-  lay-group-reads.Learnt,
-  plain-reads.Asked,
-  plain-reads.Learnt,
-  lay-leaf-reads.Asked,
-  lay-leaf-reads.Learnt,
-) (lay-item-at t) lay-item.Post
+lay-item-byte-at-requires : (t : ℕ) → lay-item-lts.Need-byte-at-requires (lay-item-claims t) (lay-item-at t) lay-item.Post
 lay-item-byte-at-requires t c κs = search needs
 
-lay-item-add-lay-list : (t : ℕ) → lay-item-lts.Need-add-lay-list (
-  counted-reads.Asked,
-  counted-reads.Learnt,
-  byte-at-reads.Asked,
-  byte-at-reads.Learnt,
-  lay-list-below t,
-  lay-list.Post,
-  lay-group-reads.Asked,
-  lay-group-reads.Learnt,
-  plain-reads.Asked,
-  plain-reads.Learnt,
-  lay-leaf-reads.Asked,
-  lay-leaf-reads.Learnt,
-) (lay-item-at t) lay-item.Post
+lay-item-add-lay-list : (t : ℕ) → lay-item-lts.Need-add-lay-list (lay-item-claims t) (lay-item-at t) lay-item.Post
 lay-item-add-lay-list t c =
     let at-if3 = c .before .before .before in
     let at-counted = at-if3 .before .before .before .before in
     let at-start = at-counted .before .before .before in
     omega (arith, in-text (at-start .args .s .now) (at-counted .counted .result .at) 39 (sym (at-if3 .before .byte-at .ensures) ∙ at-if3 .if3 .taken))
 
-lay-item-sub-lay-list : (t : ℕ) → lay-item-lts.Need-sub-lay-list (
-  counted-reads.Asked,
-  counted-reads.Learnt,
-  byte-at-reads.Asked,
-  byte-at-reads.Learnt,
-  lay-list-below t,
-  lay-list.Post,
-  lay-group-reads.Asked,
-  lay-group-reads.Learnt,
-  plain-reads.Asked,
-  plain-reads.Learnt,
-  lay-leaf-reads.Asked,
-  lay-leaf-reads.Learnt,
-) (lay-item-at t) lay-item.Post
+lay-item-sub-lay-list : (t : ℕ) → lay-item-lts.Need-sub-lay-list (lay-item-claims t) (lay-item-at t) lay-item.Post
 lay-item-sub-lay-list t c = search needs
 
-lay-item-lay-list-requires : (t : ℕ) → lay-item-lts.Need-lay-list-requires (
-  counted-reads.Asked,
-  counted-reads.Learnt,
-  byte-at-reads.Asked,
-  byte-at-reads.Learnt,
-  lay-list-below t,
-  lay-list.Post,
-  lay-group-reads.Asked,
-  lay-group-reads.Learnt,
-  plain-reads.Asked,
-  plain-reads.Learnt,
-  lay-leaf-reads.Asked,
-  lay-leaf-reads.Learnt,
-) (lay-item-at t) lay-item.Post
+lay-item-lay-list-requires : (t : ℕ) → lay-item-lts.Need-lay-list-requires (lay-item-claims t) (lay-item-at t) lay-item.Post
 lay-item-lay-list-requires t c κs = (omega arith, tt)
 
-lay-item-lay-group-requires : (t : ℕ) → lay-item-lts.Need-lay-group-requires (
-  counted-reads.Asked,
-  counted-reads.Learnt,
-  byte-at-reads.Asked,
-  byte-at-reads.Learnt,
-  lay-list-below t,
-  lay-list.Post,
-  lay-group-reads.Asked,
-  lay-group-reads.Learnt,
-  plain-reads.Asked,
-  plain-reads.Learnt,
-  lay-leaf-reads.Asked,
-  lay-leaf-reads.Learnt,
-) (lay-item-at t) lay-item.Post
+lay-item-lay-group-requires : (t : ℕ) → lay-item-lts.Need-lay-group-requires (lay-item-claims t) (lay-item-at t) lay-item.Post
 lay-item-lay-group-requires t c κs = search needs
 
-lay-item-returns-3 : (t : ℕ) → lay-item-lts.Need-returns-3 (
-  counted-reads.Asked,
-  counted-reads.Learnt,
-  byte-at-reads.Asked,
-  byte-at-reads.Learnt,
-  lay-list-below t,
-  lay-list.Post,
-  lay-group-reads.Asked,
-  lay-group-reads.Learnt,
-  plain-reads.Asked,
-  plain-reads.Learnt,
-  lay-leaf-reads.Asked,
-  lay-leaf-reads.Learnt,
-) (lay-item-at t) lay-item.Post
+lay-item-returns-3 : (t : ℕ) → lay-item-lts.Need-returns-3 (lay-item-claims t) (lay-item-at t) lay-item.Post
 lay-item-returns-3 t c =
     let at-list = c .before .before .before in
     let at-if3 = at-list .before .before .before .before in
@@ -199,52 +99,13 @@ lay-item-returns-3 t c =
     item-grouped _ _ _ _ _ _ _ (at-counted .before .if1 .left) (at-counted .counted .ensures) (not-false _ (at-byte .before .if2 .left))
     (sym (at-byte .byte-at .ensures) ∙ at-if3 .if3 .taken) (at-list .lay-list .ensures) (c .lay-group .ensures)
 
-lay-item-plain-requires : (t : ℕ) → lay-item-lts.Need-plain-requires (
-  counted-reads.Asked,
-  counted-reads.Learnt,
-  byte-at-reads.Asked,
-  byte-at-reads.Learnt,
-  lay-list-below t,
-  lay-list.Post,
-  lay-group-reads.Asked,
-  lay-group-reads.Learnt,
-  plain-reads.Asked,
-  plain-reads.Learnt,
-  lay-leaf-reads.Asked,
-  lay-leaf-reads.Learnt,
-) (lay-item-at t) lay-item.Post
+lay-item-plain-requires : (t : ℕ) → lay-item-lts.Need-plain-requires (lay-item-claims t) (lay-item-at t) lay-item.Post
 lay-item-plain-requires t c κs = search needs
 
-lay-item-lay-leaf-requires : (t : ℕ) → lay-item-lts.Need-lay-leaf-requires (
-  counted-reads.Asked,
-  counted-reads.Learnt,
-  byte-at-reads.Asked,
-  byte-at-reads.Learnt,
-  lay-list-below t,
-  lay-list.Post,
-  lay-group-reads.Asked,
-  lay-group-reads.Learnt,
-  plain-reads.Asked,
-  plain-reads.Learnt,
-  lay-leaf-reads.Asked,
-  lay-leaf-reads.Learnt,
-) (lay-item-at t) lay-item.Post
+lay-item-lay-leaf-requires : (t : ℕ) → lay-item-lts.Need-lay-leaf-requires (lay-item-claims t) (lay-item-at t) lay-item.Post
 lay-item-lay-leaf-requires t c κs = search needs
 
-lay-item-returns-4 : (t : ℕ) → lay-item-lts.Need-returns-4 (
-  counted-reads.Asked,
-  counted-reads.Learnt,
-  byte-at-reads.Asked,
-  byte-at-reads.Learnt,
-  lay-list-below t,
-  lay-list.Post,
-  lay-group-reads.Asked,
-  lay-group-reads.Learnt,
-  plain-reads.Asked,
-  plain-reads.Learnt,
-  lay-leaf-reads.Asked,
-  lay-leaf-reads.Learnt,
-) (lay-item-at t) lay-item.Post
+lay-item-returns-4 : (t : ℕ) → lay-item-lts.Need-returns-4 (lay-item-claims t) (lay-item-at t) lay-item.Post
 lay-item-returns-4 t c =
     let at-if3 = c .before .before .before .before in
     let at-byte = at-if3 .before in
@@ -252,100 +113,48 @@ lay-item-returns-4 t c =
     item-plain _ _ _ _ _ _ _ (at-counted .before .if1 .left) (at-counted .counted .ensures) (not-false _ (at-byte .before .if2 .left))
     (λ e. at-if3 .if3 .left (at-byte .byte-at .ensures ∙ e)) (c .before .plain .ensures) (c .lay-leaf .ensures)
 
-lay-list-returns : (t : ℕ) → lay-list-lts.Need-returns (
+-- what `lay_list` and those it calls ask and promise, calls back to it with fewer bytes left
+abbrev lay-list-claims : ℕ → lay-list-lts.Claims
+lay-list-claims t = (
   lay-item-below t,
   lay-item.Post,
   byte-at-reads.Asked,
   byte-at-reads.Learnt,
   lay-list-below t,
   lay-list.Post,
-) (lay-list-at t) lay-list.Post
+)
+
+lay-list-returns : (t : ℕ) → lay-list-lts.Need-returns (lay-list-claims t) (lay-list-at t) lay-list.Post
 lay-list-returns t c = list-zero _ _ _ _ _ (c .if1 .taken) (layingIn-none _ _ _ refl)
 
-lay-list-sub-lay-item : (t : ℕ) → lay-list-lts.Need-sub-lay-item (
-  lay-item-below t,
-  lay-item.Post,
-  byte-at-reads.Asked,
-  byte-at-reads.Learnt,
-  lay-list-below t,
-  lay-list.Post,
-) (lay-list-at t) lay-list.Post
+lay-list-sub-lay-item : (t : ℕ) → lay-list-lts.Need-sub-lay-item (lay-list-claims t) (lay-list-at t) lay-list.Post
 lay-list-sub-lay-item t c = search needs
 
-lay-list-lay-item-requires : (t : ℕ) → lay-list-lts.Need-lay-item-requires (
-  lay-item-below t,
-  lay-item.Post,
-  byte-at-reads.Asked,
-  byte-at-reads.Learnt,
-  lay-list-below t,
-  lay-list.Post,
-) (lay-list-at t) lay-list.Post
+lay-list-lay-item-requires : (t : ℕ) → lay-list-lts.Need-lay-item-requires (lay-list-claims t) (lay-list-at t) lay-list.Post
 lay-list-lay-item-requires t c κs = (omega arith, tt)
 
-lay-list-returns-2 : (t : ℕ) → lay-list-lts.Need-returns-2 (
-  lay-item-below t,
-  lay-item.Post,
-  byte-at-reads.Asked,
-  byte-at-reads.Learnt,
-  lay-list-below t,
-  lay-list.Post,
-) (lay-list-at t) lay-list.Post
+lay-list-returns-2 : (t : ℕ) → lay-list-lts.Need-returns-2 (lay-list-claims t) (lay-list-at t) lay-list.Post
 lay-list-returns-2 t c =
     let at-item = c .before .before in
     list-empty _ _ _ _ _ _ _ _ (at-item .before .before .before .if1 .left) (at-item .lay-item .ensures) (not-true _ (c .if2 .taken)) (layingIn-none _ _ _ refl)
 
-lay-list-byte-at-requires : (t : ℕ) → lay-list-lts.Need-byte-at-requires (
-  lay-item-below t,
-  lay-item.Post,
-  byte-at-reads.Asked,
-  byte-at-reads.Learnt,
-  lay-list-below t,
-  lay-list.Post,
-) (lay-list-at t) lay-list.Post
+lay-list-byte-at-requires : (t : ℕ) → lay-list-lts.Need-byte-at-requires (lay-list-claims t) (lay-list-at t) lay-list.Post
 lay-list-byte-at-requires t c κs = search needs
 
-lay-list-add-lay-list : (t : ℕ) → lay-list-lts.Need-add-lay-list (
-  lay-item-below t,
-  lay-item.Post,
-  byte-at-reads.Asked,
-  byte-at-reads.Learnt,
-  lay-list-below t,
-  lay-list.Post,
-) (lay-list-at t) lay-list.Post
+lay-list-add-lay-list : (t : ℕ) → lay-list-lts.Need-add-lay-list (lay-list-claims t) (lay-list-at t) lay-list.Post
 lay-list-add-lay-list t c =
     let at-if3 = c .before .before .before in
     let at-item = at-if3 .before .before .before .before in
     let at-start = at-item .before .before .before .before .before in
     omega (arith, in-text (at-start .args .s .now) (at-item .lay-item .result .at) 43 (sym (at-if3 .before .byte-at .ensures) ∙ at-if3 .if3 .taken))
 
-lay-list-sub-lay-list : (t : ℕ) → lay-list-lts.Need-sub-lay-list (
-  lay-item-below t,
-  lay-item.Post,
-  byte-at-reads.Asked,
-  byte-at-reads.Learnt,
-  lay-list-below t,
-  lay-list.Post,
-) (lay-list-at t) lay-list.Post
+lay-list-sub-lay-list : (t : ℕ) → lay-list-lts.Need-sub-lay-list (lay-list-claims t) (lay-list-at t) lay-list.Post
 lay-list-sub-lay-list t c = search needs
 
-lay-list-lay-list-requires : (t : ℕ) → lay-list-lts.Need-lay-list-requires (
-  lay-item-below t,
-  lay-item.Post,
-  byte-at-reads.Asked,
-  byte-at-reads.Learnt,
-  lay-list-below t,
-  lay-list.Post,
-) (lay-list-at t) lay-list.Post
+lay-list-lay-list-requires : (t : ℕ) → lay-list-lts.Need-lay-list-requires (lay-list-claims t) (lay-list-at t) lay-list.Post
 lay-list-lay-list-requires t c κs = (omega arith, tt)
 
-lay-list-returns-3 : (t : ℕ) → lay-list-lts.Need-returns-3 (
-  lay-item-below t,
-  lay-item.Post,
-  byte-at-reads.Asked,
-  byte-at-reads.Learnt,
-  lay-list-below t,
-  lay-list.Post,
-) (lay-list-at t) lay-list.Post
+lay-list-returns-3 : (t : ℕ) → lay-list-lts.Need-returns-3 (lay-list-claims t) (lay-list-at t) lay-list.Post
 lay-list-returns-3 t c =
     let at-if3 = c .before .before .before .before in
     let at-byte = at-if3 .before in
@@ -353,14 +162,7 @@ lay-list-returns-3 t c =
     list-comma _ _ _ _ _ _ _ _ (at-item .before .before .before .if1 .left) (at-item .lay-item .ensures) (not-false _ (at-byte .before .if2 .left))
     (sym (at-byte .byte-at .ensures) ∙ at-if3 .if3 .taken) (c .lay-list .ensures)
 
-lay-list-returns-4 : (t : ℕ) → lay-list-lts.Need-returns-4 (
-  lay-item-below t,
-  lay-item.Post,
-  byte-at-reads.Asked,
-  byte-at-reads.Learnt,
-  lay-list-below t,
-  lay-list.Post,
-) (lay-list-at t) lay-list.Post
+lay-list-returns-4 : (t : ℕ) → lay-list-lts.Need-returns-4 (lay-list-claims t) (lay-list-at t) lay-list.Post
 lay-list-returns-4 t c =
     let at-item = c .before .before .before .before in
     list-one _ _ _ _ _ _ _ (at-item .before .before .before .if1 .left) (at-item .lay-item .ensures) (not-false _ (c .before .before .if2 .left))
