@@ -161,20 +161,7 @@ list-returns-4 t c =
     list-one _ _ _ _ (at-item .before .if1 .left) (at-item .item .ensures) (not-false _ (c .before .before .if2 .left)) (λ e. c .if3 .left (c .before .byte-at .ensures ∙ e))
 
 pub +item+list-spec : {M : Type 1} → statement M
-+item+list-spec = close μ-item μ-list (λ t. item-lts.spec (
-  counted-reads.Asked,
-  counted-reads.Learnt,
-  byte-at-reads.Asked,
-  byte-at-reads.Learnt,
-  list-below t,
-  list.Post,
-  measure-group-reads.Asked,
-  measure-group-reads.Learnt,
-  plain-reads.Asked,
-  plain-reads.Learnt,
-  measure-plain-reads.Asked,
-  measure-plain-reads.Learnt,
-)
++item+list-spec = close μ-item μ-list (λ t. item-lts.spec (item-claims t)
     (item-at t)
     item.Post
     (item-returns t)
@@ -189,16 +176,7 @@ pub +item+list-spec : {M : Type 1} → statement M
     (item-plain-requires t)
     (item-measure-plain-requires t)
     (item-returns-4 t))
-    λ t. list-lts.spec (
-      item-below t,
-      item.Post,
-      byte-at-reads.Asked,
-      byte-at-reads.Learnt,
-      list-below t,
-      list.Post,
-      measure-more-reads.Asked,
-      measure-more-reads.Learnt,
-    )
+    λ t. list-lts.spec (list-claims t)
     (list-at t)
     list.Post
     (list-returns t)

@@ -169,20 +169,7 @@ lay-list-returns-4 t c =
     (λ e. c .if3 .left (c .before .byte-at .ensures ∙ e))
 
 pub +lay-item+lay-list-spec : {M : Type 1} → statement M
-+lay-item+lay-list-spec = close μ-lay-item μ-lay-list (λ t. lay-item-lts.spec (
-  counted-reads.Asked,
-  counted-reads.Learnt,
-  byte-at-reads.Asked,
-  byte-at-reads.Learnt,
-  lay-list-below t,
-  lay-list.Post,
-  lay-group-reads.Asked,
-  lay-group-reads.Learnt,
-  plain-reads.Asked,
-  plain-reads.Learnt,
-  lay-leaf-reads.Asked,
-  lay-leaf-reads.Learnt,
-)
++lay-item+lay-list-spec = close μ-lay-item μ-lay-list (λ t. lay-item-lts.spec (lay-item-claims t)
     (lay-item-at t)
     lay-item.Post
     (lay-item-returns t)
@@ -197,14 +184,7 @@ pub +lay-item+lay-list-spec : {M : Type 1} → statement M
     (lay-item-plain-requires t)
     (lay-item-lay-leaf-requires t)
     (lay-item-returns-4 t))
-    λ t. lay-list-lts.spec (
-      lay-item-below t,
-      lay-item.Post,
-      byte-at-reads.Asked,
-      byte-at-reads.Learnt,
-      lay-list-below t,
-      lay-list.Post,
-    )
+    λ t. lay-list-lts.spec (lay-list-claims t)
     (lay-list-at t)
     lay-list.Post
     (lay-list-returns t)
