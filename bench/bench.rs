@@ -278,6 +278,8 @@ fn values_tables() {
     columns_row("the same, signs and exponents vary", 5, &sets::signed(5, 65_536));
     columns_row("case 8, 65,536 values", 8, &sets::set(8, 65_536));
     columns_row("the same, signs and exponents vary", 8, &sets::signed(8, 65_536));
+    columns_row("case 1, every line odd", 1, &sets::odd(sets::set(1, 65_536), 1));
+    columns_row("case 5, every line odd", 5, &sets::odd(sets::set(5, 65_536), 1));
 
     heading("the judge and all values of the last of many sets", "file", &["Rust"]);
     values_row("case 1, 16 MB", &sets::many(1, LONGEST));

@@ -1,4 +1,4 @@
--- The sets of an accepted file, as they stand in it, are those of its list.
+-- The parts of an accepted file are the sets of its list, in order, and each holds one.
 use mathlib.Core.Path.{_≡_, sym, ap, subst, _∙_}
 use mathlib.Core.List.{List, [], _∷_}
 use Prim.Native.Nat.{ℕ, suc, _-_, _≤_}
@@ -24,7 +24,7 @@ proper-places {sets} {bytes} p =
     let c : CutInto (p .columns) bytes = ended-complete (p .ends) in
     lines-stand (p .lines) (ended-short (p .ends)) 0 0 (cut bytes .lines) (c .same)
 
--- each part is a set of the list
+-- each part holds a set
 pub part-held : {n at : ℕ} {ss : List Set} {ps : List Part} {ls : List (List ℕ)} (k : ℕ) (p : Part) (qs : List Part) → AtPlaces n at ss ps ls → drop k ps ≡ p ∷ qs → (s : Set) × Holds s p
 part-held {ss = ss} {ps = ps} k p qs a d =
     let l : length ps - k ≡ suc (length qs) = sym (length-drop k ps) ∙ ap length d in

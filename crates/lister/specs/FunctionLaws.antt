@@ -1,4 +1,4 @@
--- A full 58 of a file, by the LFs of its lines.
+-- A complete 58 of a file, by the LFs of its lines.
 use mathlib.Core.Path.{_≡_, refl, sym, ap, _∙_}
 use mathlib.Core.List.{List}
 use Prim.Native.Nat.{ℕ, _+_, _-_, _*_, _/_, _≤_, _<_}
@@ -18,8 +18,8 @@ use Rattle.parts.specs.Set.{Standing}
 use Rattle.parts.specs.SetLaws.{lines-bytes, line-text, line-within}
 use Rattle.parts.specs.Skip.{pastEnds}
 use Rattle.parts.specs.SkipLaws.{lineByte, byte-further, byte-start, byte-closing, byte-past, byte-line}
-use Rattle.lister.specs.declared.Seventh.{Seventh}
-use Rattle.lister.specs.Listed.{seventhOf, functionOf, At58}
+use Rattle.lister.specs.declared.DataForm.{DataForm}
+use Rattle.lister.specs.Listed.{dataFormOf, functionOf, At58}
 
 closing-bytes : (p : Part) → bytesIn (p .body) ≤ closingStart p
 unfolding closingStart
@@ -60,41 +60,41 @@ module _ (file : List ℕ) (body : ℕ) (s : At58 file body) where
     seven-byte = byte-further file set 0 6 body seven body-byte a
 
     eight-byte : eight ≡ lineByte file set 7
-    eight-byte = b ∙ byte-line file _ _ set _ standing 6 seven _ (omega (arith, s .full .lines)) seven-byte refl
+    eight-byte = b ∙ byte-line file _ _ set _ standing 6 seven _ (omega (arith, s .complete .lines)) seven-byte refl
 
     pub eight-within : eight ≤ length file
-    eight-within = rw eight-byte (byte-within 7 (omega (arith, s .full .lines)))
+    eight-within = rw eight-byte (byte-within 7 (omega (arith, s .complete .lines)))
 
     row-seven : row ≡ Parts.lineOf set lineSeven
-    row-seven = columns-at 6 seven row (omega (arith, s .full .lines)) seven-byte r
+    row-seven = columns-at 6 seven row (omega (arith, s .complete .lines)) seven-byte r
 
-    pub seventh-own : (c n v : ℕ) → c ≡ caseIn row → n ≡ countIn row → v ≡ eight + pastEnds 4 (drop eight file) → record { case = c; count = n; values = v } ≡ seventhOf set
-    unfolding seventhOf partCase countOf dataStart
-    seventh-own c n v e f g =
+    pub form-own : (c n v : ℕ) → c ≡ caseIn row → n ≡ countIn row → v ≡ eight + pastEnds 4 (drop eight file) → record { case = c; count = n; values = v } ≡ dataFormOf set
+    unfolding dataFormOf partCase countOf dataStart
+    form-own c n v e f g =
         let d : v ≡ lineByte file set 11 = byte-further file set 7 4 eight v eight-byte g in
-        let z : v ≡ lineStart set 11 = d ∙ byte-start file _ _ set _ standing 11 (omega (arith, s .full .lines)) in
+        let z : v ≡ lineStart set 11 = d ∙ byte-start file _ _ set _ standing 11 (omega (arith, s .complete .lines)) in
         rw (e, f, z, row-seven, s .function) refl
 
   -- what is declared, and then the last line and the closing delimiter
-  module _ (d : Seventh) (own : d ≡ seventhOf set) where
+  module _ (d : DataForm) (own : d ≡ dataFormOf set) where
     pub case-own : d .case ≡ partCase set
-    unfolding seventhOf
-    case-own = ap (λ (x : Seventh). x .case) own
+    unfolding dataFormOf
+    case-own = ap (λ (x : DataForm). x .case) own
 
     count-own : d .count ≡ countOf set
-    unfolding seventhOf
-    count-own = ap (λ (x : Seventh). x .count) own
+    unfolding dataFormOf
+    count-own = ap (λ (x : DataForm). x .count) own
 
     data-own : d .values ≡ dataStart set
-    unfolding seventhOf
-    data-own = ap (λ (x : Seventh). x .values) own
+    unfolding dataFormOf
+    data-own = ap (λ (x : DataForm). x .values) own
 
     data-byte : d .values ≡ lineByte file set 11
     unfolding dataStart
-    data-byte = data-own ∙ rw (s .function) (sym (byte-start file _ _ set _ standing 11 (omega (arith, s .full .lines))))
+    data-byte = data-own ∙ rw (s .function) (sym (byte-start file _ _ set _ standing 11 (omega (arith, s .complete .lines))))
 
     pub data-within : d .values ≤ length file
-    data-within = rw data-byte (byte-within 11 (omega (arith, s .full .lines)))
+    data-within = rw data-byte (byte-within 11 (omega (arith, s .complete .lines)))
 
     pub stored-own : (k : ℕ) → k ≡ numbersOf (d .case) → d .count * k ≡ storedOf set
     unfolding storedOf
@@ -109,7 +109,7 @@ module _ (file : List ℕ) (body : ℕ) (s : At58 file body) where
       unfolding lineOf
       full-lines =
           let z : full ≡ lineOf (fieldsOf (partCase set)) (storedOf set - 1) = rw (stored-own k e, g, case-own) refl in
-          omega (arith, s .full .lines)
+          omega (arith, s .complete .lines)
 
       pub full-most : full ≤ length file
       full-most = omega (arith, full-lines, lines-bytes (set .body), byte-within (length (set .body)) (omega arith), byte-closing file _ _ set _ standing, closing-bytes set)
@@ -135,6 +135,6 @@ module _ (file : List ℕ) (body : ℕ) (s : At58 file body) where
             → record { count = d .count; values = d .values; padding = p; past = e; lines = 11 + full + 1 } ≡ functionOf set
         unfolding functionOf paddingOf
         function-own p q h i =
-            let some = ne-eqb (storedOf set) 0 (λ (z : storedOf set ≡ 0). omega (arith, s .full .some)) in
+            let some = ne-eqb (storedOf set) 0 (λ (z : storedOf set ≡ 0). omega (arith, s .complete .some)) in
             let end : q ≡ pastOf set = byte-further file set (length (set .body)) 1 closing q closing-byte i ∙ byte-past file _ _ set _ standing in
             rw (h, end, row-last, full-lines, stored-own k e, case-own, count-own, data-own, some) refl

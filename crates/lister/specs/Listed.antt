@@ -11,7 +11,7 @@ use Rattle.parts.specs.Parts.{Part, datasetOf, lineStart, pastOf, throughOf, is
 use Rattle.parts.specs.Function.{partCase, countOf, storedOf, dataStart}
 use Rattle.parts.specs.Padding.{paddingOf}
 use Rattle.parts.specs.Set.{remaining, Standing, Somewhere}
-use Rattle.lister.specs.declared.Seventh.{Seventh}
+use Rattle.lister.specs.declared.DataForm.{DataForm}
 use Rattle.lister.specs.declared.Function.{Function}
 use Rattle.lister.specs.declared.Listed.{Listed}
 
@@ -32,23 +32,23 @@ unfoldable pub rowOf : Listed → List ℕ
 rowOf l = (l .lines + 1) ∷ l .number ∷ l .count ∷ l .first ∷ l .past ∷ l .values ∷ l .padding ∷ []
 
 -- what line 7 of a 58 declares, and where its data lines begin
-unfoldable pub seventhOf : Part → Seventh
-seventhOf p = record { case = partCase p; count = countOf p; values = dataStart p }
+unfoldable pub dataFormOf : Part → DataForm
+dataFormOf p = record { case = partCase p; count = countOf p; values = dataStart p }
 
 -- what the lines of a 58 say of it
 unfoldable pub functionOf : Part → Function
 functionOf p = record { count = countOf p; values = dataStart p; padding = paddingOf p; past = pastOf p; lines = length (p .body) }
 
 -- a 58 of one of the eight cases, with some value, and as many lines as hold its numbers
-pub record Full (p : Part) : Type 0 where
+pub record Complete (p : Part) : Type 0 where
   pub eight : partCase p < 8
   pub some : 0 < storedOf p
   pub lines : length (p .body) ≡ headerLines + suc (lineOf (fieldsOf (partCase p)) (storedOf p - 1))
 
 -- each 58 of these sets is one
-pub data AllFull : List Part → Type 0 where
-  none : AllFull []
-  more : {p : Part} {ps : List Part} → (isFunction p ≡ true → Full p) → AllFull ps → AllFull (p ∷ ps)
+pub data AllComplete : List Part → Type 0 where
+  none : AllComplete []
+  more : {p : Part} {ps : List Part} → (isFunction p ≡ true → Complete p) → AllComplete ps → AllComplete (p ∷ ps)
 
 -- such a 58 of a file, whose lines begin at a byte
 pub record At58 (file : List ℕ) (body : ℕ) : Type 0 where
@@ -56,7 +56,7 @@ pub record At58 (file : List ℕ) (body : ℕ) : Type 0 where
   pub others : List Part
   pub stands : Somewhere file part others
   pub function : isFunction part ≡ true
-  pub full : Full part
+  pub complete : Complete part
   pub begins : body ≡ lineStart part 0
 
 -- the numbers of a row are small, where the file has at most so many bytes
@@ -78,4 +78,4 @@ pub record Next (file : List ℕ) (n at : ℕ) (l : Listed) : Type 0 where
   pub within : l .past ≤ length file
   pub lines : l .through ≤ l .past
   pub rest : others ≡ remaining file (l .through) (l .past)
-  pub full : AllFull others
+  pub complete : AllComplete others

@@ -1,4 +1,4 @@
--- The 58s of an accepted file are full, and what is found of a set are its row's numbers.
+-- The 58s of an accepted file are complete, and what is found of a set are its row's numbers.
 use mathlib.Core.Path.{_≡_, refl, sym, _∙_}
 use mathlib.Core.Bool.{Bool, true, false}
 use mathlib.Core.List.{List, [], _∷_}
@@ -30,10 +30,10 @@ use Rattle.parts_laws.specs.OrderLaws.{body-length}
 use Rattle.judge_laws.specs.JudgeLaws.{zero-proper}
 use Rattle.judge_laws.specs.HeldLaws.{proper-places}
 use Rattle.lister.specs.Lister.{entry}
-use Rattle.lister.specs.Listed.{listedOf, rowOf, Full, AllFull, Small}
+use Rattle.lister.specs.Listed.{listedOf, rowOf, Complete, AllComplete, Small}
 
-held-full : {s : Set} {p : Part} → Holds s p → isFunction p ≡ true → Full p
-held-full {s} {p} h f =
+held-complete : {s : Set} {p : Part} → Holds s p → isFunction p ≡ true → Complete p
+held-complete {s} {p} h f =
     let e : s .number ≡ 58 = sym (number-held h) ∙ eqb-true (datasetOf p) 58 f in
     let c = case-held h e in
     let t = stored-held h in
@@ -45,23 +45,23 @@ held-full {s} {p} h f =
       lines = body-length h e ∙ rw (c, t, last-of _ _ (fieldsOf-some _ eight) some) refl;
     }
 
-all-full : {n at : ℕ} {ss : List Set} {ps : List Part} {ls : List (List ℕ)} → AtPlaces n at ss ps ls → AllFull ps
-all-full (AtPlaces.end b) = AllFull.none
-all-full (AtPlaces.more before after b i j h r) = AllFull.more (held-full h) (all-full r)
+all-complete : {n at : ℕ} {ss : List Set} {ps : List Part} {ls : List (List ℕ)} → AtPlaces n at ss ps ls → AllComplete ps
+all-complete (AtPlaces.end b) = AllComplete.none
+all-complete (AtPlaces.more before after b i j h r) = AllComplete.more (held-complete h) (all-complete r)
 
-pub accepted-full : (file : List ℕ) → judged file .number ≤ 0 → AllFull (partsOf file)
-accepted-full file z = all-full (proper-places (zero-proper file z .1))
+pub accepted-complete : (file : List ℕ) → judged file .number ≤ 0 → AllComplete (partsOf file)
+accepted-complete file z = all-complete (proper-places (zero-proper file z .1))
 
 -- the first of some sets
 pub some-first : (ps : List Part) → 0 < length ps → (p : Part) × ((qs : List Part) × (ps ≡ p ∷ qs))
 some-first [] h = absurd (omega arith)
 some-first (p ∷ qs) h = (p, (qs, refl))
 
-pub full-first : {ps : List Part} (p : Part) (qs : List Part) → AllFull ps → ps ≡ p ∷ qs → (isFunction p ≡ true → Full p) × AllFull qs
-full-first p qs a e = by (rw e at a)
+pub complete-first : {ps : List Part} (p : Part) (qs : List Part) → AllComplete ps → ps ≡ p ∷ qs → (isFunction p ≡ true → Complete p) × AllComplete qs
+complete-first p qs a e = by (rw e at a)
   where
-    by : AllFull (p ∷ qs) → (isFunction p ≡ true → Full p) × AllFull qs
-    by (AllFull.more f r) = (f, r)
+    by : AllComplete (p ∷ qs) → (isFunction p ≡ true → Complete p) × AllComplete qs
+    by (AllComplete.more f r) = (f, r)
 
 -- the row of a set, as it is found
 pub row-own : (p : Part) → rowOf (listedOf p) ≡ entry p

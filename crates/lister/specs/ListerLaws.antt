@@ -16,8 +16,8 @@ use Rattle.parts.specs.SetLaws.{standing}
 use Rattle.parts.specs.TurnLaws.{closing-from}
 use Rattle.lister.specs.declared.Listed.{Listed}
 use Rattle.lister.specs.Lister.{rowNumbers, listReply, listRows, entry, rowsOf}
-use Rattle.lister.specs.Listed.{listedOf, listedFirst, rowOf, AllFull, Small, Next}
-use Rattle.lister.specs.ListedLaws.{some-first, full-first, row-own, small-own}
+use Rattle.lister.specs.Listed.{listedOf, listedFirst, rowOf, AllComplete, Small, Next}
+use Rattle.lister.specs.ListedLaws.{some-first, complete-first, row-own, small-own}
 
 -- seven numbers laid out in a row
 pub seven : (l : List ℕ) (a b c d e f g : ℕ) → length l ≡ rowNumbers
@@ -50,9 +50,9 @@ listed-past : (l : Listed) (p : Part) → l ≡ listedOf p → (l .past ≡ past
 unfolding listedOf
 listed-past l p e = (ap (λ (x : Listed). x .past) e, ap (λ (x : Listed). x .through) e)
 
-pub next-set : (file : List ℕ) (n at : ℕ) (l : Listed) → at ≤ length file → n ≤ at → AllFull (remaining file n at) → 0 < length (remaining file n at)
+pub next-set : (file : List ℕ) (n at : ℕ) (l : Listed) → at ≤ length file → n ≤ at → AllComplete (remaining file n at) → 0 < length (remaining file n at)
     → l ≡ listedFirst (remaining file n at) → Next file n at l
-next-set file n at l a few full h q =
+next-set file n at l a few complete h q =
     let first = some-first (remaining file n at) h in
     let p = first .0 in
     let e = first .1 .1 in
@@ -70,7 +70,7 @@ next-set file n at l a few full h q =
       within = omega (arith, by .0, s .past);
       lines = omega (arith, by .0, by .1, s .count, s .from, s .later);
       rest = s .rest ∙ rw (by .0, by .1) refl;
-      full = full-first p _ full e .1;
+      complete = complete-first p _ complete e .1;
     }
 
 pub next-small : {file : List ℕ} {n at : ℕ} {l : Listed} (most : ℕ) → length file ≤ most → n ≤ at → Next file n at l → Small most l
@@ -133,9 +133,9 @@ pub rows-count : (file : List ℕ) → 0 + rowNumbers * length (remaining file 0
 unfolding partsOf
 rows-count file = zero-add (rowNumbers * length (remaining file 0 0))
 
-pub rows-full : (file : List ℕ) → AllFull (partsOf file) → AllFull (remaining file 0 0)
+pub rows-complete : (file : List ℕ) → AllComplete (partsOf file) → AllComplete (remaining file 0 0)
 unfolding partsOf
-rows-full file a = a
+rows-complete file a = a
 
 -- its places are lent for a row
 pub row-length : (rows : List ℕ) (i : ℕ) → i + rowNumbers ≤ length rows → length (take (i + rowNumbers - i) (drop i rows)) ≡ rowNumbers

@@ -19,8 +19,8 @@ use Rattle.parts.specs.Set.{remaining, Standing}
 use Rattle.parts.specs.SetLaws.{standing}
 use Rattle.lister.specs.declared.Function.{Function}
 use Rattle.lister.specs.declared.Listed.{Listed}
-use Rattle.lister.specs.Listed.{listed, listedOf, listedFirst, functionOf, AllFull, At58}
-use Rattle.lister.specs.ListedLaws.{some-first, full-first}
+use Rattle.lister.specs.Listed.{listed, listedOf, listedFirst, functionOf, AllComplete, At58}
+use Rattle.lister.specs.ListedLaws.{some-first, complete-first}
 
 listed-is : (ps : List Part) (p : Part) (qs : List Part) (l : Listed) → ps ≡ p ∷ qs → l ≡ listedOf p → l ≡ listedFirst ps
 unfolding listedFirst
@@ -40,7 +40,7 @@ function-lines : (f : Function) (p : Part) → f ≡ functionOf p → f .lines �
 unfolding functionOf
 function-lines f p e = ap (λ (x : Function). x .lines) e
 
-module _ (file : List ℕ) (n at : ℕ) (a : at ≤ length file) (few : n ≤ at) (full : AllFull (remaining file n at)) (some : 0 < length (remaining file n at))
+module _ (file : List ℕ) (n at : ℕ) (a : at ≤ length file) (few : n ≤ at) (complete : AllComplete (remaining file n at)) (some : 0 < length (remaining file n at))
     (m : Mark) (q : m ≡ marked file n at) (e : ℕ) (r : e ≡ m .past + lineLen (drop (m .past) file)) where
   abbrev p : Part
   p = some-first (remaining file n at) some .0
@@ -83,7 +83,7 @@ module _ (file : List ℕ) (n at : ℕ) (a : at ≤ length file) (few : n ≤ at
           others = ps;
           stands = record { before = n; from = at; stands = stands };
           function = function-is k;
-          full = full-first p ps full first .0 (function-is k);
+          complete = complete-first p ps complete first .0 (function-is k);
           begins = begun .body;
         }
 

@@ -7,7 +7,7 @@ ghost use Rattle.laws.specs.Cut.{lineLen};
 ghost use Rattle.parts.specs.Parts.{columnsIn, partsOf};
 ghost use Rattle.parts.specs.Set.{remaining};
 ghost use Rattle.lister.specs.Lister.{rowNumbers, rowsOf, listReply, listRows};
-ghost use Rattle.lister.specs.Listed.{listedFirst, rowOf, seventhOf, functionOf, AllFull, At58, Small};
+ghost use Rattle.lister.specs.Listed.{listedFirst, rowOf, dataFormOf, functionOf, AllComplete, At58, Small};
 ghost use Rattle.lister.specs.Count.{Counted};
 use judge::Reply;
 use parts::find_delimiter;
@@ -28,7 +28,7 @@ pub struct Judged {
 }
 
 // What line 7 of a 58 declares, its case and its count, and the first byte of its data lines.
-pub struct Seventh {
+pub struct DataForm {
     pub case: usize,
     pub count: u32,
     pub values: usize,
@@ -96,14 +96,14 @@ fn take_line(row: &mut [u8; 80], file: &[u8], at: usize) -> usize
 }
 
 // What line 7 of a 58 of an accepted file declares, and the first byte of its data lines; its lines begin at byte `body`.
-fn read_seventh(file: &[u8], body: usize) -> Seventh
+fn read_data_form(file: &[u8], body: usize) -> DataForm
     requires { ⌜ At58 (now file) body ⌝ }
-    ensures { λ r. ⌜ ((s : At58 (now (file .entry)) body) → r ≡ seventhOf (s .part)) ⌝ }
+    ensures { λ r. ⌜ ((s : At58 (now (file .entry)) body) → r ≡ dataFormOf (s .part)) ⌝ }
 {
     let mut row = [32u8; 80];
     let seven = skip_lines(file, body, LINE_SEVEN);
     let eight = take_line(&mut row, file, seven);
-    Seventh {
+    DataForm {
         case: walk::case_in(&row),
         count: walk::count_in(&row),
         values: skip_lines(file, eight, HEADER_LINES - LINE_SEVEN - 1),
@@ -115,7 +115,7 @@ fn function_at(file: &[u8], body: usize) -> Function
     requires { ⌜ At58 (now file) body ⌝ }
     ensures { λ r. ⌜ ((s : At58 (now (file .entry)) body) → r ≡ functionOf (s .part)) ⌝ }
 {
-    let d = read_seventh(file, body);
+    let d = read_data_form(file, body);
     let stored = (d.count as usize) * layout::numbers_of(d.case);
     let full = (stored - 1) / layout::fields_of(d.case);
     let last = skip_many(file, d.values, full);
@@ -132,7 +132,7 @@ fn function_at(file: &[u8], body: usize) -> Function
 
 // The next set of an accepted file that has one, from byte `from` on, outside sets, after so many lines.
 fn next_listed(file: &[u8], from: usize, before: usize) -> Listed
-    requires { ⌜ (from ≤ length (now file)) × ((before ≤ from) × (AllFull (remaining (now file) before from) × (0 < length (remaining (now file) before from)))) ⌝ }
+    requires { ⌜ (from ≤ length (now file)) × ((before ≤ from) × (AllComplete (remaining (now file) before from) × (0 < length (remaining (now file) before from)))) ⌝ }
     ensures { λ r. ⌜ r ≡ listedFirst (remaining (now (file .entry)) before from) ⌝ }
 {
     let opening = find_delimiter(file, from, before);
@@ -182,7 +182,7 @@ fn put_row(row: &mut [u32], l: Listed)
 
 // Lays out the rows of an accepted file's sets, of which there are so many.
 fn put_rows(file: &[u8], sets: usize, rows: &mut [u32])
-    requires { ⌜ (length (now file) ≤ 16777216) × ((sets ≡ length (partsOf (now file))) × (AllFull (partsOf (now file)) × (rowNumbers * sets ≤ length (now rows)))) ⌝ }
+    requires { ⌜ (length (now file) ≤ 16777216) × ((sets ≡ length (partsOf (now file))) × (AllComplete (partsOf (now file)) × (rowNumbers * sets ≤ length (now rows)))) ⌝ }
     ensures { λ _. ⌜ now (rows .exit) ≡ rowsOf (partsOf (now (file .entry))) ++ drop (rowNumbers * length (partsOf (now (file .entry)))) (now (rows .entry)) ⌝ }
 {
     let mut i = 0;

@@ -1,4 +1,4 @@
-// The sets of a file as they stand in it, parted by its delimiters alone.
+// The sets of a file as they stand in it, parted by its delimiters, and its lines, skipped by their LFs.
 ghost use mathlib.Core.Path.{_≡_};
 ghost use Prim.Native.Nat.{_+_, _≤_, _<_};
 ghost use Rattle.delimiter.specs.Kind.{datasetNumber};
@@ -40,7 +40,7 @@ pub struct Spot {
 }
 
 // A byte, and how many LFs are to be passed from it on.
-pub struct Ahead {
+pub struct Onward {
     pub at: usize,
     pub left: usize,
 }
@@ -294,26 +294,26 @@ pub fn line_start(file: &[u8], from: usize, closing: usize, k: usize) -> usize
 }
 
 // Past blocks of bytes that hold fewer LFs than are to be passed.
-fn skip_blocks(file: &[u8], from: usize, k: usize) -> Ahead
+fn skip_blocks(file: &[u8], from: usize, k: usize) -> Onward
     requires { ⌜ from ≤ length (now file) ⌝ }
     ensures { λ r. ⌜ Skipped (now (file .entry)) from k (r .at) (r .left) ⌝ }
 {
     let mut at = from;
     let mut left = k;
     if file.len() < 64 {
-        return Ahead { at, left };
+        return Onward { at, left };
     }
     let last = file.len() - 64;
     while at <= last {
         let past = at + 64;
         let ends = index(ends_in(&file[at..past]));
         if left <= ends {
-            return Ahead { at, left };
+            return Onward { at, left };
         }
         left -= ends;
         at = past;
     }
-    Ahead { at, left }
+    Onward { at, left }
 }
 
 // The byte past k LFs from byte `from` on, which is the first of line k, from 0, of the lines that begin there; the end of the file where

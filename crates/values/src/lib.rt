@@ -366,7 +366,7 @@ fn pass_usual(
 }
 
 // The first refusal of a set's numbers, all of them reals, 0 where there is none; they are only looked at. Where they are to be put, their bit patterns are
-// put into the places lent instead, one after the other, and 0 is answered.
+// put into the places lent instead, one after the other, and what is answered says nothing.
 fn read_all(
     file: &[u8],
     d: Data,

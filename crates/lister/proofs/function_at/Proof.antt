@@ -8,8 +8,8 @@ use borrow.Author.Needs.{needs}
 use Rattle.lister.proofs.function_at.Statement.{statement}
 use Rattle.lister.proofs.function_at.Tie as tie
 
-read-seventh-requires : tie.Need-read-seventh-requires
-read-seventh-requires c κs = search needs
+read-data-form-requires : tie.Need-read-data-form-requires
+read-data-form-requires c κs = search needs
 
 cast-stored : tie.Need-cast-stored
 cast-stored c = search needs
@@ -19,14 +19,14 @@ numbers-of-requires c κs = search needs
 
 mul-stored : tie.Need-mul-stored
 mul-stored c =
-    let d = c .before .before .read-seventh .result in
+    let d = c .before .before .read-data-form .result in
     let few : d .count * c .numbers-of .result ≤ d .count * 3 = stored-most _ _ _ (c .numbers-of .ensures) in search needs
 
 sub-full : tie.Need-sub-full
 sub-full c =
     let at-read = c .before .before in
     let s = at-read .before .before .pre in
-    omega (arith, stored-own _ _ s _ (at-read .read-seventh .ensures s) _ (c .numbers-of .ensures), s .full .some)
+    omega (arith, stored-own _ _ s _ (at-read .read-data-form .ensures s) _ (c .numbers-of .ensures), s .complete .some)
 
 fields-of-requires : tie.Need-fields-of-requires
 fields-of-requires c κs = search needs
@@ -35,15 +35,15 @@ div-full : tie.Need-div-full
 div-full c =
     let at-read = c .before .before .before in
     let s = at-read .before .before .pre in
-    let case = case-own _ _ s _ (at-read .read-seventh .ensures s) in
-    let some = fieldsOf-some _ (s .full .eight) in
+    let case = case-own _ _ s _ (at-read .read-data-form .ensures s) in
+    let some = fieldsOf-some _ (s .complete .eight) in
     omega (arith, c .fields-of .ensures, rw (← case) at some)
 
 skip-many-requires : tie.Need-skip-many-requires
 skip-many-requires c κs =
     let at-read = c .before .before .before in
     let s = at-read .before .before .pre in
-    data-within _ _ s _ (at-read .read-seventh .ensures s)
+    data-within _ _ s _ (at-read .read-data-form .ensures s)
 
 take-line-requires : tie.Need-take-line-requires
 take-line-requires c κs = search needs
@@ -53,8 +53,8 @@ padding-in-requires c κs =
     let at-numbers = c .before .before .before .before .before in
     let at-read = at-numbers .before .before in
     let s = at-read .before .before .pre in
-    let own = at-read .read-seventh .ensures s in
-    (omega (arith, case-own _ _ s _ own, s .full .eight), omega (arith, stored-own _ _ s _ own _ (at-numbers .numbers-of .ensures), s .full .some))
+    let own = at-read .read-data-form .ensures s in
+    (omega (arith, case-own _ _ s _ own, s .complete .eight), omega (arith, stored-own _ _ s _ own _ (at-numbers .numbers-of .ensures), s .complete .some))
 
 skip-lines-requires : tie.Need-skip-lines-requires
 skip-lines-requires c κs =
@@ -65,7 +65,7 @@ skip-lines-requires c κs =
     let at-read = at-numbers .before .before in
     let s = at-read .before .before .pre in
     let taken = at-take .take-line .ensures in
-    closing-within _ _ s _ (at-read .read-seventh .ensures s) _ _ (at-numbers .numbers-of .ensures) (at-fields .fields-of .ensures) _ _ _
+    closing-within _ _ s _ (at-read .read-data-form .ensures s) _ _ (at-numbers .numbers-of .ensures) (at-fields .fields-of .ensures) _ _ _
     (at-skip .skip-many .ensures .0) (taken .0) (taken .1)
 
 add-t13 : tie.Need-add-t13
@@ -74,7 +74,7 @@ add-t13 c =
     let at-numbers = at-fields .before in
     let at-read = at-numbers .before .before in
     let s = at-read .before .before .pre in
-    let most = full-most _ _ s _ (at-read .read-seventh .ensures s) _ _ (at-numbers .numbers-of .ensures) (at-fields .fields-of .ensures) in search needs
+    let most = full-most _ _ s _ (at-read .read-data-form .ensures s) _ _ (at-numbers .numbers-of .ensures) (at-fields .fields-of .ensures) in search needs
 
 add-t14 : tie.Need-add-t14
 add-t14 c =
@@ -82,7 +82,7 @@ add-t14 c =
     let at-numbers = at-fields .before in
     let at-read = at-numbers .before .before in
     let s = at-read .before .before .pre in
-    let most = full-most _ _ s _ (at-read .read-seventh .ensures s) _ _ (at-numbers .numbers-of .ensures) (at-fields .fields-of .ensures) in search needs
+    let most = full-most _ _ s _ (at-read .read-data-form .ensures s) _ _ (at-numbers .numbers-of .ensures) (at-fields .fields-of .ensures) in search needs
 
 returns : tie.Need-returns
 returns c =
@@ -93,14 +93,14 @@ returns c =
     let at-numbers = at-fields .before in
     let at-read = at-numbers .before .before in
     let taken = at-take .take-line .ensures in
-    λ s. function-own _ _ s _ (at-read .read-seventh .ensures s) _ _ (at-numbers .numbers-of .ensures) (at-fields .fields-of .ensures) _ _ _
+    λ s. function-own _ _ s _ (at-read .read-data-form .ensures s) _ _ (at-numbers .numbers-of .ensures) (at-fields .fields-of .ensures) _ _ _
     (at-skip .skip-many .ensures .0) (taken .0) (taken .1) _ _ (at-padding .padding-in .ensures) (c .skip-lines .ensures .0)
 
 pub function-at-spec : {M : Type 1} → statement M
 function-at-spec =
     tie.close
     (tie.spec
-    read-seventh-requires
+    read-data-form-requires
     cast-stored
     numbers-of-requires
     mul-stored

@@ -1,6 +1,6 @@
 -- `lister::list` meets its contract.
 use Rattle.judge.specs.JudgeLaws.{judged-short}
-use Rattle.lister.specs.ListedLaws.{accepted-full}
+use Rattle.lister.specs.ListedLaws.{accepted-complete}
 use Rattle.lister.specs.ListerLaws.{list-refused, list-short, list-done}
 use borrow.Author.Needs.{needs}
 use Rattle.lister.proofs.list.Statement.{statement}
@@ -37,7 +37,7 @@ put-rows-requires c κs =
     let accepted = at-if1 .if1 .left in
     let file = at-start .args .file .now in
     let zero = rw (counted .reply) at accepted in
-    (judged-short file zero, (counted .sets accepted, (accepted-full file zero, c .before .if2 .left)))
+    (judged-short file zero, (counted .sets accepted, (accepted-complete file zero, c .before .if2 .left)))
 
 bare-reply-requires-2 : tie.Need-bare-reply-requires-2
 bare-reply-requires-2 c κs = search needs

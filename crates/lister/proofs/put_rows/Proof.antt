@@ -8,8 +8,8 @@ use Rattle.parts.specs.Parts.{partsOf}
 use Rattle.parts.specs.Set.{remaining}
 use Rattle.lister.specs.declared.Listed.{Listed}
 use Rattle.lister.specs.Lister.{rowNumbers, rowsOf}
-use Rattle.lister.specs.Listed.{listedFirst, AllFull, Next}
-use Rattle.lister.specs.ListerLaws.{next-set, next-small, rows-count, rows-start, rows-full, rows-left, rows-turn, rows-kept, rows-done, row-length}
+use Rattle.lister.specs.Listed.{listedFirst, AllComplete, Next}
+use Rattle.lister.specs.ListerLaws.{next-set, next-small, rows-count, rows-start, rows-complete, rows-left, rows-turn, rows-kept, rows-done, row-length}
 use borrow.Author.Needs.{needs}
 use native.Mathlib.Omega.{arith}
 use Rattle.lister.proofs.put_rows.Statement.{statement}
@@ -19,7 +19,7 @@ use Rattle.lister.proofs.put_rows.Tie as tie
 record Laid (file rows₀ rows : List ℕ) (i lines at : ℕ) : Type 0 where
   within : at ≤ length file
   few : lines ≤ at
-  full : AllFull (remaining file lines at)
+  complete : AllComplete (remaining file lines at)
   same : length rows ≡ length rows₀
   left : i + rowNumbers * length (remaining file lines at) ≡ rowNumbers * length (partsOf file)
   laid : take i rows ++ rowsOf (remaining file lines at) ≡ rowsOf (partsOf file)
@@ -28,7 +28,7 @@ record Laid (file rows₀ rows : List ℕ) (i lines at : ℕ) : Type 0 where
 -- the set that is found next
 laid-next : {file rows₀ rows : List ℕ} {i lines at : ℕ} (l : Listed) → Laid file rows₀ rows i lines at → i < rowNumbers * length (partsOf file)
     → l ≡ listedFirst (remaining file lines at) → Next file lines at l
-laid-next l inv h e = next-set _ _ _ l (inv .within) (inv .few) (inv .full) (omega (arith, inv .left)) e
+laid-next l inv h e = next-set _ _ _ l (inv .within) (inv .few) (inv .complete) (omega (arith, inv .left)) e
 
 abbrev Inv-loop : tie.InvT-loop
 Inv-loop file sets rows₀ i₀ at₀ lines₀ rows i at lines = Laid file rows₀ rows i lines at
@@ -43,7 +43,7 @@ loop-holds c =
     record {
       within = omega arith;
       few = omega arith;
-      full = rows-full file (at-start .pre .1 .1 .0);
+      complete = rows-complete file (at-start .pre .1 .1 .0);
       same = refl;
       left = rows-count file;
       laid = rows-start file (at-start .args .rows .now);
@@ -57,7 +57,7 @@ next-listed-requires : tie.Need-next-listed-requires Inv-loop μ-loop
 next-listed-requires c κs =
     let at-start = c .before .before .before .before in
     let inv = c .before .loop .inv in
-    (inv .within, (inv .few, (inv .full, omega (arith, c .loop-test .taken, at-start .pre .1 .0, inv .left))))
+    (inv .within, (inv .few, (inv .complete, omega (arith, c .loop-test .taken, at-start .pre .1 .0, inv .left))))
 
 add-past : tie.Need-add-past Inv-loop μ-loop
 add-past c =
@@ -121,7 +121,7 @@ loop-again c =
     record {
       within = next .within;
       few = next .lines;
-      full = rw (next .rest) at (next .full);
+      complete = rw (next .rest) at (next .complete);
       same = same-len-mid {X = ℕ} i (i + rowNumbers - i) rows (at-put .put-row .last .0) (at-put .put-row .kept .0) ∙ inv .same;
       left = rows-left i next ∙ inv .left;
       laid = rows-turn _ _ _ _ _ _ _ next room row ∙ inv .laid;

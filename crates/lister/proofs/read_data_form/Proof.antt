@@ -1,8 +1,8 @@
--- `lister::read_seventh` meets its contract.
-use Rattle.lister.specs.FunctionLaws.{body-within, eight-within, seventh-own}
+-- `lister::read_data_form` meets its contract.
+use Rattle.lister.specs.FunctionLaws.{body-within, eight-within, form-own}
 use borrow.Author.Needs.{needs}
-use Rattle.lister.proofs.read_seventh.Statement.{statement}
-use Rattle.lister.proofs.read_seventh.Tie as tie
+use Rattle.lister.proofs.read_data_form.Statement.{statement}
+use Rattle.lister.proofs.read_data_form.Tie as tie
 
 skip-lines-requires : tie.Need-skip-lines-requires
 skip-lines-requires c κs = body-within _ _ (c .before .pre)
@@ -36,11 +36,11 @@ returns c =
     let at-take = at-case .before .before in
     let at-skip = at-take .before .before in
     let taken = at-take .take-line .ensures in
-    λ s. seventh-own _ _ s _ _ _ (at-skip .skip-lines .ensures .0) (taken .0) (taken .1) _ _ _ (at-case .case-in .ensures) (c .before .count-in .ensures)
+    λ s. form-own _ _ s _ _ _ (at-skip .skip-lines .ensures .0) (taken .0) (taken .1) _ _ _ (at-case .case-in .ensures) (c .before .count-in .ensures)
     (c .skip-lines2 .ensures .0)
 
-pub read-seventh-spec : {M : Type 1} → statement M
-read-seventh-spec =
+pub read-data-form-spec : {M : Type 1} → statement M
+read-data-form-spec =
     tie.close
     (tie.spec
     skip-lines-requires
