@@ -1,4 +1,6 @@
 // The forms of a field and the codes that records list, as decisions with ranges.
+#![tactic(auto)]
+
 ghost use Rattle.std.specs.Prelude.{◌≡◌, false, pos};
 ghost use Rattle.codes.specs.Rule.{keeps, span, takes_minus};
 ghost use Rattle.codes.specs.Form.{function_type, direction, ordinate_type, data_type};

@@ -1,4 +1,6 @@
 // The lines that part a file into sets: blank lines, delimiters and number lines, each given by its 80 columns.
+#![tactic(auto)]
+
 ghost use Rattle.std.specs.Prelude.{◌≡◌};
 ghost use Rattle.text.specs.Blank.{all_blank};
 ghost use Rattle.delimiter.specs.Kind.{is_delimiter, positive, dataset_number};

@@ -1,5 +1,7 @@
 // Runs test vectors: for each line of standard input one line with the library's answer.
 // A test line is a letter, two digits, one blank and what is tested; a line that begins with # is a heading and comes back.
+#![tactic(auto)]
+
 use exact::Exact;
 use integer::Integer;
 use libc::{STDIN_FILENO, STDOUT_FILENO};

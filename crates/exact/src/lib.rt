@@ -1,4 +1,6 @@
 // The f64 of a decimal number, and its bit pattern.
+#![tactic(auto)]
+
 ghost use Rattle.std.specs.Prelude.{◌≡◌, ◌<◌, ◌≤◌};
 ghost use Rattle.exact.specs.Exact.{ten_of, magnitude_of, exact_of};
 ghost use Rattle.exact.specs.Bits.{bits_of};

@@ -1,5 +1,7 @@
 // FORMAT texts (document 02, C-15): the fields that a text lays into a line. A text is measured first, as deep as its brackets lie and however large its
 // counts are; only one that fits is unfolded.
+#![tactic(auto)]
+
 ghost use Rattle.std.specs.Prelude.{◌≡◌, ◌+◌, ◌-◌, ◌*◌, ◌≤◌, eqb, length, drop, get_or};
 ghost use Rattle.laws.specs.Choice.{pick};
 ghost use Rattle.laws.specs.Run.{run};

@@ -1,4 +1,6 @@
 // A line's fields by a printed FORMAT: the question of C-15.
+#![tactic(auto)]
+
 ghost use Rattle.std.specs.Prelude.{◌≡◌, ◌≤◌, ◌+◌, length, map};
 ghost use Rattle.codes.specs.Form.{form_of};
 ghost use Rattle.layout.specs.Columns.{total};

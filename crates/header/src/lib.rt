@@ -1,4 +1,6 @@
 // The writer's header: eleven lines of a 58, judged as lines 1 to 11 of a set.
+#![tactic(auto)]
+
 ghost use Rattle.std.specs.Prelude.{◌≡◌, true, ◌≤◌};
 ghost use Rattle.judge.specs.Judge.{going, reply_at};
 ghost use Rattle.line.specs.Line.{columns, line_fault};

@@ -1,4 +1,6 @@
 // The calls for C hosts. Lent buffers do not overlap; a null pointer with count 0 is an empty slice.
+#![tactic(auto)]
+
 ghost use Rattle.std.specs.Prelude.{◌≡◌, [], ◌∷◌, ◌++◌, ◌≤◌, length, drop};
 ghost use Rattle.host.specs.Packed.{column_bits, word, packed};
 ghost use Rattle.host.specs.Answer.{twos_complement, number_bytes, number_answer, value_answer, field_answer, reply_for, bytes_after};

@@ -1,4 +1,6 @@
 // Integer fields of any width.
+#![tactic(auto)]
+
 ghost use Rattle.std.specs.Prelude.{◌≡◌};
 ghost use Rattle.integer.specs.Integer.{push, step_integer, end_integer, integer_of};
 

@@ -1,4 +1,6 @@
 // The judge: a whole file, number and place.
+#![tactic(auto)]
+
 ghost use Rattle.std.specs.Prelude.{◌≡◌, true, ◌+◌, ◌-◌, ◌≤◌, ◌<◌, length};
 ghost use Rattle.judge.specs.Judge.{judged, reply, reply_at, line_step, going, run_end};
 ghost use Rattle.judge.specs.Plain.{plain_delimiter, PlainNumber};

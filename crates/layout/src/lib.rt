@@ -1,4 +1,6 @@
 // The layout of 58's data lines: the eight cases as one table, and the columns computed from it.
+#![tactic(auto)]
+
 ghost use Rattle.std.specs.Prelude.{◌≡◌, eqb, get_or};
 ghost use Rattle.laws.specs.Choice.{pick};
 ghost use Rattle.laws.specs.Table.{tabulate};

@@ -1,4 +1,6 @@
 // Lines: where they end, what is refused of a line by itself, and its 80 columns.
+#![tactic(auto)]
+
 ghost use Rattle.std.specs.Prelude.{◌≡◌, ◌+◌, min, length, drop};
 ghost use Rattle.laws.specs.Cut.{line_len};
 ghost use Rattle.line.specs.Line.{is_allowed, all_allowed, columns, first_bad, line_fault, filled};

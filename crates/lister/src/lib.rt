@@ -1,4 +1,6 @@
 // Document 01's lister: where the sets of a file stand.
+#![tactic(auto)]
+
 ghost use Rattle.std.specs.Prelude.{◌≡◌, ◌++◌, ◌+◌, ◌*◌, ◌≤◌, ◌<◌, length, take, drop};
 ghost use Rattle.laws.specs.Cut.{line_len};
 ghost use Rattle.parts.specs.Parts.{columns_in, parts_of};

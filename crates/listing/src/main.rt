@@ -1,4 +1,6 @@
 // The listing program of document 01: the sets of the file on standard input, one line each, or the file's refusal.
+#![tactic(auto)]
+
 ghost use Rattle.std.specs.Prelude.{◌*◌, ◌≤◌, ◌≡◌, length};
 ghost use Rattle.lister.specs.Lister.{row_numbers};
 

@@ -1,4 +1,6 @@
 // The sets of a file as they stand in it, parted by its delimiters, and its lines, skipped by their LFs.
+#![tactic(auto)]
+
 ghost use Rattle.std.specs.Prelude.{◌≡◌, ◌+◌, ◌≤◌, ◌<◌, length, drop};
 ghost use Rattle.delimiter.specs.Kind.{dataset_number};
 ghost use Rattle.laws.specs.Cut.{cut};

@@ -1,4 +1,6 @@
 // The reader: a stored number of a 58, and a value.
+#![tactic(auto)]
+
 ghost use Rattle.std.specs.Prelude.{◌≡◌, ◌≤◌, ◌<◌, length, drop, [], ◌∷◌};
 ghost use Rattle.laws.specs.Choice.{pick};
 ghost use Rattle.parts.specs.Parts.{parts_of};

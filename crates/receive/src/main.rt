@@ -1,4 +1,6 @@
 // The receiving program of request C-11: standard input judged while it arrives, in bursts of 512 bytes.
+#![tactic(auto)]
+
 use libc::{STDIN_FILENO, STDOUT_FILENO};
 use stream::{Answer, Stream};
 

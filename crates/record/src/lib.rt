@@ -1,4 +1,6 @@
 // A line checked against its record's row: the first refusal, number and column.
+#![tactic(auto)]
+
 ghost use Rattle.std.specs.Prelude.{◌≡◌, ◌≤◌, ◌<◌, ◌+◌, ◌-◌, length, take, drop};
 ghost use Rattle.text.specs.Blank.{all_blank};
 ghost use Rattle.codes.specs.Form.{form_of};

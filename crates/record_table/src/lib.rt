@@ -1,4 +1,6 @@
 // The records of 58, 82, 151, 164 and 1815, one constant each.
+#![tactic(auto)]
+
 ghost use Rattle.record_table.specs.Tabled.{Tabled};
 
 use codes::{

@@ -1,4 +1,6 @@
 // The rewriter: the sets of a file spelled plainly, into a lent buffer.
+#![tactic(auto)]
+
 ghost use Rattle.std.specs.Prelude.{◌≡◌, ◌+◌, ◌≤◌, leb, length};
 ghost use Rattle.judge.specs.Judge.{judged};
 ghost use Rattle.rewriter.specs.Rewriter.{digit_or_blank, plain_number, kept_of, head_text, rewritten_file, rewrite_reply, rewrite_out};

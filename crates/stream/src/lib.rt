@@ -1,4 +1,6 @@
 // A file judged while it arrives: one standing record, brought up to date by each burst.
+#![tactic(auto)]
+
 ghost use Rattle.std.specs.Prelude.{◌≡◌, ◌+◌, ◌-◌, ◌≤◌, min, length, take, drop, ltb};
 ghost use Rattle.laws.specs.Choice.{pick};
 ghost use Rattle.line.specs.Line.{first_bad};

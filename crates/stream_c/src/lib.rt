@@ -3,6 +3,8 @@
 // case, left, second), 6 the sets opened, 7 the lines, 8 the refusal's number, 9 the total, 10 how many bytes the open line has, 11 whether
 // the end was asked (0: no), 12 the column of the refusal, or of the open line's first byte not allowed, 13 to 15 nothing yet. The line: the first 80
 // bytes of the open one, then its last one, then 15 bytes that are nothing yet. What is nothing yet is laid as 0 and not read.
+#![tactic(auto)]
+
 ghost use Rattle.std.specs.Prelude.{◌≡◌, ◌∷◌, ◌++◌, ◌||◌, ◌≤◌, ltb, length, drop};
 ghost use Rattle.laws.specs.Choice.{pick};
 ghost use Rattle.stream_c.specs.Lent.{numbers_room, line_room, byte_of, due_of, place_of, stream_of, place_numbers, unused_numbers, unused_bytes, Fits, numbers_after, line_after, start_reply, start_numbers, start_line, end_of, end_numbers, same, Burst};

@@ -1,4 +1,6 @@
 // The standing record lent to a burst and to the end, and both with the record by value.
+#![tactic(auto)]
+
 ghost use Rattle.std.specs.Prelude.{◌≡◌};
 ghost use Rattle.stream.specs.Stream.{seen, Stepped, answer_of, end_reply, closed};
 

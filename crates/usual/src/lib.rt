@@ -1,4 +1,6 @@
 // Whole lines at once: full data lines of a 58 in their usual spelling, tested by their columns and taken in a run.
+#![tactic(auto)]
+
 ghost use Rattle.std.specs.Prelude.{◌≡◌, ◌+◌, ◌-◌, ◌≤◌, ◌<◌, length};
 ghost use Rattle.usual_columns.specs.Cells.{tables};
 ghost use Rattle.usual.specs.Taken.{Ends, Shaped, Ready, run, Ran, NoneAhead, RanAhead, in_data};

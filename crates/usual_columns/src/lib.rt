@@ -1,4 +1,6 @@
 // The columns of lines in their usual spelling: tables of what each column takes, the test of a line against them, and 58's records by it.
+#![tactic(auto)]
+
 ghost use Rattle.std.specs.Prelude.{◌≡◌, ◌+◌, ◌-◌, ◌<◌, ◌≤◌, true, [], ◌∷◌, length, take, drop, replicate};
 ghost use Rattle.layout.specs.Columns.{total};
 ghost use Rattle.line.specs.Line.{passed};

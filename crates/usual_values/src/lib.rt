@@ -1,4 +1,6 @@
 // Numbers in the usual spelling: the bit pattern of the f64 that each is read as.
+#![tactic(auto)]
+
 ghost use Rattle.std.specs.Prelude.{◌≡◌, ◌+◌, ◌≤◌, min, length};
 ghost use Rattle.exact.specs.Bits.{bits_of};
 ghost use Rattle.exact.specs.Exact.{with_sign};

@@ -1,4 +1,6 @@
 // All values of a 58 at once.
+#![tactic(auto)]
+
 ghost use Rattle.std.specs.Prelude.{◌≡◌, true, ◌⊎◌, ◌+◌, ◌≤◌, ◌<◌, length, get_or, drop};
 ghost use Rattle.real.specs.Real.{real_of};
 ghost use Rattle.reader.specs.Reader.{read_in, read_of};

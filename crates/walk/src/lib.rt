@@ -1,4 +1,6 @@
 // The walk over a file's lines: the state, and the step of one line. It is the only place that knows what is due.
+#![tactic(auto)]
+
 ghost use Rattle.std.specs.Prelude.{◌≡◌, List, ℕ, ◌≤◌, ◌<◌, length, get_or};
 ghost use Rattle.line.specs.Line.{refusal};
 ghost use Rattle.delimiter.specs.Kind.{Delimiter};

@@ -1,5 +1,7 @@
 // The writer: one whole set of a 58, from its header lines and its numbers, into a lent buffer.
 // A number is given by a coefficient and a scale: coefficient × 10^scale.
+#![tactic(auto)]
+
 ghost use Rattle.std.specs.Prelude.{◌≡◌, ◌+◌, ◌-◌, ◌≤◌, ◌<◌, leb, length};
 ghost use Rattle.output.specs.Output.{placed};
 ghost use Rattle.writer.specs.Writer.{decimals_of, width_at, first_unfit, data_text, written_set, write_reply, write_out};
