@@ -57,8 +57,24 @@ def blocks(text):
     return out
 
 
+def clauses():
+    """The names of each function's clauses, in their order: {(function, kind): [name, ..]}."""
+    out = {}
+    for path in glob.glob("crates/*/src/**/*.rt", recursive=True):
+        text = open(path, encoding="utf-8").read()
+        for m in re.finditer(r"\bfn (\w+)", text):
+            end = re.search(r"^\s*\{$|;$", text[m.end() :], re.M)
+            head = text[m.end() : m.end() + end.start()] if end else ""
+            for kind in ("requires", "ensures"):
+                found = re.findall(rf"^\s+{kind} (\w+) \{{", head, re.M)
+                if found:
+                    out[m[1], kind] = found
+    return out
+
+
 class Function:
-    def __init__(self, names, said):
+    def __init__(self, names, said, name="", named=None):
+        self.name, self.named = name, named or {}
         self.places = {}
         for place, parent, step, *_ in names["places"]:
             self.places[place] = (parent, tuple(step))
@@ -120,14 +136,24 @@ class Function:
                 self.said.append(f"{who}: a whole place is passed along: {m[0]}")
                 return m[0]
             if steps[0] in ("args", "requires", "ranges"):
-                return ".".join(["c", *steps])
+                return ".".join(["c", *self.clause(self.name, steps)])
             new = self.step(place, count, steps[0])
             if new is None:
                 self.said.append(f"{who}: no step {m[0]}")
                 return m[0]
-            return ".".join(["c", new, *steps[1:]])
+            return ".".join(["c", new, *self.clause(new, steps[1:])])
 
-        return PATH.sub(path, body)
+        body = PATH.sub(path, body)
+        # what a negated test says is now said of the term itself
+        return re.sub(rf"\b(?:not-true|not-false) (?:\([^()]*\)|\S+) (c\.{NAME}(?:\.{NAME})*\.(?:true|false))", r"\1", body)
+
+    def clause(self, step, steps):
+        """A clause by its name, where the older proof has its number."""
+        for k in range(len(steps) - 1):
+            names = self.named.get((step if step == self.name else step.split("-")[0], steps[k]))
+            if names and steps[k + 1].isdigit() and int(steps[k + 1]) < len(names):
+                return [*steps[: k + 1], names[int(steps[k + 1])], *steps[k + 2 :]]
+        return steps
 
     def invariant(self, loop, params, body):
         new, live, changed = self.loops[norm(loop)]
@@ -162,12 +188,12 @@ def comment_lines(lines):
     return "".join(l + "\n" for l in lines)
 
 
-def convert(crate, folder, names, said):
+def convert(crate, folder, names, said, named):
     path = os.path.join(folder, "Proof.antt")
     who = f"{crate}/{os.path.basename(folder)}"
     text = open(path, encoding="utf-8").read()
     module = os.path.basename(folder)
-    f = Function(names, said)
+    f = Function(names, said, module, named)
     imports, head, invariants, answers, helpers = [], [], [], [], []
     for name, comment, lines in blocks(text):
         if name == "use":
@@ -250,7 +276,7 @@ def convert(crate, folder, names, said):
 
 
 def main(crates):
-    said = []
+    said, named = [], clauses()
     for crate in crates:
         top = os.path.join("crates", crate)
         proofs = sorted(glob.glob(os.path.join(top, "proofs", "**", "Proof.antt"), recursive=True))
@@ -272,7 +298,7 @@ def main(crates):
             if f not in by_function:
                 said.append(f"{crate}/{f}: no such function; there are {', '.join(sorted(by_function))}")
                 continue
-            convert(crate, folder, by_function[f], said)
+            convert(crate, folder, by_function[f], said, named)
     print("\n".join("left: " + s for s in said))
     return 0
 

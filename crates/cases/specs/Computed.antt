@@ -29,7 +29,7 @@ use Rattle.record_table.specs.Row.{Row, first_not_above, breach}
 use Rattle.record_table.specs.Records.{records, record_of, data_row}
 use Rattle.record_table.specs.TypedSets.{kind_of, is_typed, typed_sets, sequence, following}
 use Rattle.record.specs.Check.{fields_fault, first_non_blank, stray, items_of, condition_fault, fields_refusal, taken, taken_refusal, row_refusal}
-use Rattle.record.specs.Declared.{number_in, case_in, count_in, natural_at, case_by, count_by, stored_by}
+use Rattle.record.specs.Declares.{number_in, case_in, count_in, natural_at, case_by, count_by, stored_by}
 use Rattle.walk.specs.declared.Due.{Due}
 use Rattle.walk.specs.declared.State.{State}
 use Rattle.walk.specs.declared.Outcome.{Outcome}

@@ -42,6 +42,10 @@ mul_rounded (fin s m e) (fin t n d) a b (s0, p) (t0, q) =
     rw (s0, t0)
     (round_same binary64 false _ _ (a * b) 1 (mul-pos (down_pos e) (down_pos d)) (omega arith)
     (rw (p', q') (simp (mul-one, mul_assoc, mul_left_comm))))
+mul_rounded nan y a b x3 _ = elim x3 [ ]
+mul_rounded (inf _) y a b x5 _ = elim x5 [ ]
+mul_rounded (fin s m e) nan a b _ x8 = elim x8 [ ]
+mul_rounded (fin s m e) (inf _) a b _ x10 = elim x10 [ ]
 
 div_rounded : (x y : Float) (a b : ℕ) → 0 < b → Is x a → Is y b → div binary64 x y ≡ round binary64 false a b
 unfolding div
@@ -52,6 +56,10 @@ div_rounded (fin s m e) (fin t n d) a b h (s0, p) (t0, q) =
     rw (s0, t0, ne_eqb n 0 (λ z. let w : 0 < 0 * up d = rw z at g in omega (arith, zero-mul (up d))))
     (round_same binary64 false _ _ a b (mul-pos g (down_pos e)) h
     (rw (p', q') (simp (mul_assoc, mul_comm, mul_left_comm))))
+div_rounded nan y a b h x4 _ = elim x4 [ ]
+div_rounded (inf _) y a b h x6 _ = elim x6 [ ]
+div_rounded (fin s m e) nan a b h _ x10 = elim x10 [ ]
+div_rounded (fin s m e) (inf _) a b h _ x12 = elim x12 [ ]
 
 -- a power of ten times ten, by its bits, is the next one itself: up to 10^22 nothing is rounded away
 pub ten_of_next : {x : Float} (k : ℕ) → k < 22 → x ≡ ten_of k → mul binary64 x (of_bits binary64 0x4024000000000000) ≡ ten_of (k + 1)
@@ -84,7 +92,7 @@ odd_number d s (suc q) k l = refl
 
 units_number : (f : Format) (s : Bool) (q k : ℕ) → is_nan (units f s q k) ≡ false
 unfolding units is_nan
-units_number f s q k = go (ltb (q * 2 ^ k) (2 ^ (low f + suc (emax f)))) (odd (suc (prec f)) s q k (low f)) (odd_number _ s q k _)
+units_number f s q k = go (ltb (q * 2 ^ k) (2 ^ (low f + suc (emax f)))) (odd (suc (prec f)) s q k (low f)) (odd_number (suc (prec f)) s q k (low f))
   where
     go : (t : Bool) (x : Float) → is_nan x ≡ false → is_nan (cond t x (inf s)) ≡ false
     go true x h = h

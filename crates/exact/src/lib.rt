@@ -6,7 +6,7 @@ ghost use Rattle.exact.specs.Exact.{ten_of, magnitude_of, exact_of};
 ghost use Rattle.exact.specs.Bits.{bits_of};
 
 // The f64 of a number, or that the number is outside the exact path (document 01's term).
-#[derive(Drop)]
+#[derive(Clone, Copy)]
 pub enum Exact {
     Value(f64),
     Outside,

@@ -15,7 +15,7 @@ use text::is_digit;
 
 // The fields of a FORMAT text in order: `count` of them, each with its kind (0: columns of X, 1: a text, 2: an integer, 3: a real) and its width, and
 // zeros past them. `number` is 0, or 26 for a malformed text and 27 for one too large, with no fields.
-#[derive(Drop)]
+#[derive(Clone, Copy)]
 pub struct Fields {
     pub number: u8,
     pub count: usize,
@@ -24,14 +24,14 @@ pub struct Fields {
 }
 
 // A number in the text, 81 for any above 80, and where it ends; where there is none it is 0 and ends where it began.
-#[derive(Drop)]
+#[derive(Clone, Copy)]
 pub struct Figure {
     pub value: u8,
     pub at: usize,
 }
 
 // A count, 81 for any above 80, whether it is left out (then it is 1), and where it ends.
-#[derive(Drop)]
+#[derive(Clone, Copy)]
 pub struct Tally {
     pub found: bool,
     pub bare: bool,
@@ -40,7 +40,7 @@ pub struct Tally {
 }
 
 // An item without brackets: its kind, count and width, and where it ends.
-#[derive(Drop)]
+#[derive(Clone, Copy)]
 pub struct Leaf {
     pub found: bool,
     pub kind: u8,
@@ -51,7 +51,7 @@ pub struct Leaf {
 
 // An item or a list: where it ends, how deep its groups lie (4 for any deeper than 3), also without brackets around the whole, and how many columns it
 // takes (81 for any more than 80).
-#[derive(Drop)]
+#[derive(Clone, Copy)]
 pub struct Measure {
     pub found: bool,
     pub at: usize,
@@ -413,7 +413,7 @@ fn list(s: &[u8], at: usize, left: usize) -> Measure
 }
 
 // Where an item or a list ends, and how many fields there are with those that it adds.
-#[derive(Drop)]
+#[derive(Clone, Copy)]
 pub struct Laid {
     pub found: bool,
     pub count: u8,

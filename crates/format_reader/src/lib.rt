@@ -20,7 +20,7 @@ use reader::Stored;
 use real::{Real, real_field};
 
 // What the question answers: a text or an integer by the first and past byte of its columns, a real as a stored number, or a refusal.
-#[derive(Drop)]
+#[derive(Clone, Copy)]
 pub enum FieldAnswer {
     Text(usize, usize),
     Integer(usize, usize),

@@ -13,7 +13,7 @@ use record_table::{HEADER_LINES, KIND_58};
 use walk::{Due, Place, State};
 
 // The reply; where its number is 0, the case of the 58 from 0, and how many numbers it stores.
-#[derive(Drop)]
+#[derive(Clone, Copy)]
 pub struct Header {
     pub reply: Reply,
     pub case: usize,

@@ -8,7 +8,7 @@ use laws::wide;
 use text::{blanks_before, is_digit};
 
 // How far a field is read. Phase 0: only blanks so far; 1: a sign; 2: digits; 3: malformed.
-#[derive(Drop)]
+#[derive(Clone, Copy)]
 pub struct Scan {
     pub phase: u8,
     pub minus: bool,
@@ -16,7 +16,7 @@ pub struct Scan {
 }
 
 // What an integer field holds. A value is whether a minus stands before it, and its size; -0 is 0.
-#[derive(Drop)]
+#[derive(Clone, Copy)]
 pub enum Integer {
     Blank,
     Malformed,

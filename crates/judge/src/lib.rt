@@ -11,7 +11,7 @@ use line::Refusal;
 use walk::{Due, Outcome, Place, State};
 
 // Document 01's number and place; for an accepted file 0 and the number of its lines. The column, from 1, of a line's refusal; any other reply's is 0.
-#[derive(Drop)]
+#[derive(Clone, Copy)]
 pub struct Reply {
     pub number: u8,
     pub place: usize,
@@ -42,7 +42,7 @@ pub fn reply_at(number: u8, place: usize, column: usize) -> Reply
 
 // How far finished lines are judged: while `number` is 0, the state after `lines` of them and the byte where the rest begins; otherwise
 // line `lines` + 1 is refused with that number, at that column.
-#[derive(Drop)]
+#[derive(Clone, Copy)]
 pub struct Lines {
     pub state: State,
     pub lines: usize,

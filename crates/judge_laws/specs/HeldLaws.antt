@@ -11,7 +11,7 @@ use Rattle.line_laws.specs.EndsLaws.{ended_complete}
 use Rattle.line_laws.specs.ShortLaws.{ended_short}
 use Rattle.parts_laws.specs.Holds.{Holds, AtPlaces}
 use Rattle.parts_laws.specs.HoldsLaws.{lines_stand}
-use Rattle.parts_laws.specs.DeclaredLaws.{as_many, stand_at}
+use Rattle.parts_laws.specs.DeclaresLaws.{as_many, stand_at}
 use Rattle.judge_laws.specs.JudgeLaws.{zero_proper}
 
 pub proper_places : {sets : List Set} {bytes : List ℕ} → Proper sets bytes → AtPlaces 0 0 sets (parts_of bytes) (cut bytes).lines

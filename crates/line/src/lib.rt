@@ -6,7 +6,7 @@ ghost use Rattle.laws.specs.Cut.{line_len};
 ghost use Rattle.line.specs.Line.{is_allowed, all_allowed, columns, first_bad, line_fault, filled};
 
 // A refusal of a line: document 01's number and the column, from 1. Number 0 and column 0 where nothing is wrong.
-#[derive(Drop)]
+#[derive(Clone, Copy)]
 pub struct Refusal {
     pub number: u8,
     pub column: usize,

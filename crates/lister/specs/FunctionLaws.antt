@@ -7,7 +7,7 @@ use Rattle.laws.specs.Cut.{line_len}
 use Rattle.layout.specs.Columns.{line_of}
 use Rattle.layout.specs.Layout.{fields_of, numbers_of}
 use Rattle.record_table.specs.TypedSets.{line_seven}
-use Rattle.record.specs.Declared.{case_in, count_in}
+use Rattle.record.specs.Declares.{case_in, count_in}
 use Rattle.parts.specs.Parts as Parts
 use Rattle.parts.specs.Parts.{Part, columns_in, bytes_in, line_start, last_line, closing_start, past_of}
 use Rattle.parts.specs.Function.{part_case, count_of, stored_of, data_start}

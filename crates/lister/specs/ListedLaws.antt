@@ -17,7 +17,7 @@ use Rattle.parts.specs.SetLaws.{line_before}
 use Rattle.parts.specs.TurnLaws.{closing_from}
 use Rattle.theory.specs.Sets.{Set}
 use Rattle.parts_laws.specs.Holds.{Holds, AtPlaces}
-use Rattle.parts_laws.specs.DeclaredLaws.{number_held, case_held}
+use Rattle.parts_laws.specs.DeclaresLaws.{number_held, case_held}
 use Rattle.parts_laws.specs.CaseLaws.{case_eight}
 use Rattle.parts_laws.specs.PaddingLaws.{stored_held, last_of}
 use Rattle.parts_laws.specs.PaddedLaws.{stored_some}

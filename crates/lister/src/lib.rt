@@ -18,14 +18,14 @@ use walk::{Place, State};
 pub const ROW_NUMBERS: usize = 7;
 
 // The judge's reply, and for an accepted file how many sets it has.
-#[derive(Drop)]
+#[derive(Clone, Copy)]
 pub struct Judged {
     pub reply: Reply,
     pub sets: u32,
 }
 
 // What line 7 of a 58 declares, its case and its count, and the first byte of its data lines.
-#[derive(Drop)]
+#[derive(Clone, Copy)]
 pub struct DataForm {
     pub case: usize,
     pub count: u32,
@@ -34,7 +34,7 @@ pub struct DataForm {
 
 // What the lines of a 58 say of it: the declared count, the first byte of its data lines, how many numbers are padding, the byte past its
 // closing line, and how many lines it has of its own.
-#[derive(Drop)]
+#[derive(Clone, Copy)]
 pub struct Function {
     pub count: u32,
     pub values: usize,
@@ -44,7 +44,7 @@ pub struct Function {
 }
 
 // A set: how many lines come before it, its row's other numbers, and how many lines there are up to the end of it.
-#[derive(Drop)]
+#[derive(Clone, Copy)]
 pub struct Listed {
     pub lines: usize,
     pub number: u32,

@@ -2,7 +2,7 @@
 use Rattle.std.specs.Prelude.{List, ℕ, eqb}
 use Rattle.laws.specs.Choice.{pick}
 use Rattle.record_table.specs.TypedSets.{line_seven}
-use Rattle.record.specs.Declared.{case_in, stored_in}
+use Rattle.record.specs.Declares.{case_in, stored_in}
 use Rattle.parts.specs.declared.Extent.{Extent}
 use Rattle.parts.specs.declared.Declared.{Declared}
 use Rattle.parts.specs.declared.Counted.{Counted}

@@ -10,7 +10,7 @@ use Rattle.layout.specs.ColumnsLaws.{field_start_next, field_start_total, field_
 use Rattle.layout.specs.Layout.{layout_of, fields_of, numbers_of}
 use Rattle.layout.specs.LayoutLaws.{fields_of_some, widths_six, total_inside}
 use Rattle.record_table.specs.TypedSets.{line_seven}
-use Rattle.record.specs.Declared.{case_in, count_in, stored_in}
+use Rattle.record.specs.Declares.{case_in, count_in, stored_in}
 use Rattle.walk.specs.DueLaws.{numbers_of_few}
 use Rattle.parts.specs.declared.Extent.{Extent}
 use Rattle.parts.specs.declared.Declared.{Declared}

@@ -5,7 +5,7 @@ use Rattle.laws.specs.Choice.{pick}
 use Rattle.layout.specs.Columns as Columns
 use Rattle.layout.specs.Layout.{layout_of, fields_of, numbers_of}
 use Rattle.record_table.specs.TypedSets.{header_lines, line_seven}
-use Rattle.record.specs.Declared.{case_in, count_in}
+use Rattle.record.specs.Declares.{case_in, count_in}
 use Rattle.parts.specs.Parts.{Part, is_function, line_start, line_of}
 
 -- its case, from its line 7, from 0

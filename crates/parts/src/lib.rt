@@ -6,7 +6,7 @@ ghost use Rattle.delimiter.specs.Kind.{dataset_number};
 ghost use Rattle.laws.specs.Cut.{cut};
 ghost use Rattle.parts.specs.Parts.{shown, columns_in, closes, outside, parts_from};
 ghost use Rattle.record_table.specs.TypedSets.{line_seven};
-ghost use Rattle.record.specs.Declared.{case_in, count_in};
+ghost use Rattle.record.specs.Declares.{case_in, count_in};
 ghost use Rattle.parts.specs.Scan.{line_from, first_of, skip_to, columns_at};
 ghost use Rattle.parts.specs.Mark.{quiet, ends_in, marked, Passed, LastLine};
 ghost use Rattle.parts.specs.Skip.{past_ends, Skipped};
@@ -18,7 +18,7 @@ use layout::{field_start, fields_of};
 use text::is_blank;
 
 // A delimiter: whether there is one, how many lines come before it, its first byte and the byte past its line.
-#[derive(Drop)]
+#[derive(Clone, Copy)]
 pub struct Mark {
     pub found: bool,
     pub lines: usize,
@@ -35,14 +35,14 @@ const NO_MARK: Mark = Mark {
 };
 
 // A byte, and how many lines come before the line that it is in.
-#[derive(Drop)]
+#[derive(Clone, Copy)]
 pub struct Spot {
     pub at: usize,
     pub lines: usize,
 }
 
 // A byte, and how many LFs are to be passed from it on.
-#[derive(Drop)]
+#[derive(Clone, Copy)]
 pub struct Onward {
     pub at: usize,
     pub left: usize,
@@ -50,7 +50,7 @@ pub struct Onward {
 
 // Where a set stands: whether there is one, how many lines and bytes come before it, its number, the first byte of its lines,
 // of the last of them and of its closing delimiter, the byte past it, and how many lines there are up to that.
-#[derive(Drop)]
+#[derive(Clone, Copy)]
 pub struct Extent {
     pub found: bool,
     pub lines: usize,
@@ -77,7 +77,7 @@ const NOWHERE: Extent = Extent {
 };
 
 // What a 58 declares: its case, and how many numbers it stores.
-#[derive(Drop)]
+#[derive(Clone, Copy)]
 pub struct Declared {
     pub case: usize,
     pub stored: usize,
@@ -85,7 +85,7 @@ pub struct Declared {
 
 // The line of a set of which only counted columns are kept, by its first byte, and the column past them. Where there is none, the first
 // byte of the closing delimiter and 0.
-#[derive(Drop)]
+#[derive(Clone, Copy)]
 pub struct Counted {
     pub line: usize,
     pub past: usize,

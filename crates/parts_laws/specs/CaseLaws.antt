@@ -14,11 +14,11 @@ use Rattle.record_table.specs.Records.{I, X, records, record_of, data_form}
 use Rattle.record_table.specs.TypedSets.{line_seven}
 use Rattle.record_laws.specs.FieldsInLaws.{own_fields}
 use Rattle.record.specs.Written.{Stands, a_text, a_identification, an_integer, a_blank, a_real, FieldsIn, rest, skipped, stands, Written}
-use Rattle.record.specs.Declared.{natural_at, case_by, count_by}
+use Rattle.record.specs.Declares.{natural_at, case_by, count_by}
 use Rattle.theory.specs.Sets.{Set}
 use Rattle.theory.specs.Proper.{SetLines}
-use Rattle.parts_laws.specs.Declared.{declared, set_case}
-use Rattle.parts_laws.specs.DeclaredLaws.{seventh, typed_58}
+use Rattle.parts_laws.specs.Declares.{declared, set_case}
+use Rattle.parts_laws.specs.DeclaresLaws.{seventh, typed_58}
 
 -- 1 for an integer that may not be blank, 0 for any other form
 abbrev due : Form → ℕ

@@ -2,8 +2,8 @@ pub mod Holds
 pub mod HoldsLaws
 pub mod Text
 pub mod TextLaws
-pub mod Declared
-pub mod DeclaredLaws
+pub mod Declares
+pub mod DeclaresLaws
 pub mod CaseLaws
 pub mod Stored
 pub mod Field

@@ -25,8 +25,8 @@ use Rattle.parts.specs.Function as Function
 use Rattle.parts.specs.Padding.{padding_of}
 use Rattle.parts.specs.Set.{Somewhere}
 use Rattle.parts_laws.specs.Holds.{Holds}
-use Rattle.parts_laws.specs.Declared.{set_case}
-use Rattle.parts_laws.specs.DeclaredLaws.{case_held}
+use Rattle.parts_laws.specs.Declares.{set_case}
+use Rattle.parts_laws.specs.DeclaresLaws.{case_held}
 use Rattle.parts_laws.specs.Stored.{stored_count, own_columns}
 use Rattle.parts_laws.specs.StoredLaws.{stored_case, set_data}
 use Rattle.parts_laws.specs.PaddedLaws.{stored_some, number_line, number_spelled}

@@ -33,8 +33,8 @@ use Rattle.parts.specs.Parts.{Part}
 use Rattle.parts.specs.Parts as Parts
 use Rattle.parts.specs.Padding.{last_field, counted_past, remainder, padding_in, padding_of}
 use Rattle.parts_laws.specs.Holds.{Holds}
-use Rattle.parts_laws.specs.Declared.{set_case}
-use Rattle.parts_laws.specs.DeclaredLaws.{case_held, line_of_columns}
+use Rattle.parts_laws.specs.Declares.{set_case}
+use Rattle.parts_laws.specs.DeclaresLaws.{case_held, line_of_columns}
 use Rattle.parts_laws.specs.CaseLaws.{numbers_of_some, case_eight, declared_some}
 use Rattle.parts_laws.specs.Stored.{stored_count, stored_item, own_columns}
 use Rattle.parts_laws.specs.Field.{Spelled}

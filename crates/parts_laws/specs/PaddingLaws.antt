@@ -33,8 +33,8 @@ use Rattle.parts.specs.Function as Function
 use Rattle.parts.specs.Padding.{last_field, counted_past, remainder, padding_in, padding_of}
 use Rattle.parts.specs.CountedLaws.{past_inside}
 use Rattle.parts_laws.specs.Holds.{Holds}
-use Rattle.parts_laws.specs.Declared.{declared, set_case}
-use Rattle.parts_laws.specs.DeclaredLaws.{case_held, declared_held}
+use Rattle.parts_laws.specs.Declares.{declared, set_case}
+use Rattle.parts_laws.specs.DeclaresLaws.{case_held, declared_held}
 use Rattle.parts_laws.specs.Stored.{stored_count}
 use Rattle.parts_laws.specs.StoredLaws.{number_rows_at, number_rows_length, line_enough, data_row_lem, data_field_lem, lists_58, set_data, stored_case}
 

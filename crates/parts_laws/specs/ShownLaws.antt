@@ -14,7 +14,7 @@ use Rattle.parts.specs.Function as Function
 use Rattle.parts.specs.Set.{Somewhere}
 use Rattle.parts.specs.SetLaws.{line_bytes}
 use Rattle.parts_laws.specs.Holds.{Holds}
-use Rattle.parts_laws.specs.DeclaredLaws.{case_held}
+use Rattle.parts_laws.specs.DeclaresLaws.{case_held}
 use Rattle.parts_laws.specs.Stored.{stored_count, stored_item, own_columns}
 use Rattle.parts_laws.specs.StoredLaws.{stored_spelled}
 use Rattle.parts_laws.specs.Field.{Spelled}

@@ -11,7 +11,7 @@ use Rattle.record_table.specs.TypedSets.{header_lines}
 use Rattle.record.specs.Written.{Written}
 use Rattle.theory.specs.Sets.{Set}
 use Rattle.theory.specs.Due.{lines_for}
-use Rattle.parts_laws.specs.Declared.{declared, set_case}
+use Rattle.parts_laws.specs.Declares.{declared, set_case}
 use Rattle.parts.specs.Parts as Parts
 
 -- how many there are

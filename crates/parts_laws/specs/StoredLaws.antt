@@ -16,15 +16,15 @@ use Rattle.record_table.specs.Row.{Field, Row, span, first_fields}
 use Rattle.record_table.specs.TypedSets.{kind_of, sequence, typed_sets, header_lines, kind58, following}
 use Rattle.record_table.specs.Records.{E, plain, record_of, data_row}
 use Rattle.record.specs.Written.{FieldsIn, InColumns, Written}
-use Rattle.record.specs.Declared.{stored_by}
+use Rattle.record.specs.Declares.{stored_by}
 use Rattle.walk.specs.DueLaws.{data_row_length}
 use Rattle.theory.specs.Sets.{Set}
 use Rattle.theory.specs.Due.{lines_for, number_rows, rows_holding, lists_of, set_rows}
 use Rattle.theory.specs.Proper.{TypedLines, SetLines}
 use Rattle.parts.specs.Parts as Parts
 use Rattle.parts_laws.specs.Holds.{Holds}
-use Rattle.parts_laws.specs.Declared.{declared, set_case}
-use Rattle.parts_laws.specs.DeclaredLaws.{typed_line, typed_length, typed_58, line_of_columns}
+use Rattle.parts_laws.specs.Declares.{declared, set_case}
+use Rattle.parts_laws.specs.DeclaresLaws.{typed_line, typed_length, typed_58, line_of_columns}
 use Rattle.parts_laws.specs.Stored.{stored_count, stored_item, own_columns, DataLines}
 use Rattle.parts_laws.specs.Field.{Spelled}
 use Rattle.parts_laws.specs.FieldLaws.{field_at}

@@ -5,7 +5,7 @@ use Rattle.theory.specs.Sets.{Set}
 use Rattle.theory.specs.Due.{lines_for}
 use Rattle.parts.specs.Parts as Parts
 use Rattle.parts.specs.Function as Function
-use Rattle.parts_laws.specs.Declared.{set_case}
+use Rattle.parts_laws.specs.Declares.{set_case}
 use Rattle.parts_laws.specs.Stored.{stored_count}
 
 -- how many fields a 58's data lines have, all full

@@ -25,8 +25,8 @@ use Rattle.parts.specs.Padding.{last_field, counted_past, padding_of}
 use Rattle.parts.specs.Set.{Somewhere}
 use Rattle.parts.specs.SetLaws.{line_bytes, line_end_lem}
 use Rattle.parts_laws.specs.Holds.{columns_of, Holds}
-use Rattle.parts_laws.specs.Declared.{set_case}
-use Rattle.parts_laws.specs.DeclaredLaws.{case_held}
+use Rattle.parts_laws.specs.Declares.{set_case}
+use Rattle.parts_laws.specs.DeclaresLaws.{case_held}
 use Rattle.parts_laws.specs.Stored.{stored_count}
 use Rattle.parts_laws.specs.StoredLaws.{set_data}
 use Rattle.parts_laws.specs.PaddingLaws.{last_of}

@@ -5,7 +5,7 @@ use Rattle.std.proofs.Common.{sym, ◌∙◌, subst, arith, drop-drop}
 use borrow.Author.Tests.{eq-eqb, ne_eqb, lt-ltb, le-ltb}
 use Rattle.std.proofs.Math.Seq.{drop-nil}
 use Rattle.record_table.specs.TypedSets.{line_seven}
-use Rattle.record.specs.Declared.{case_in, count_in}
+use Rattle.record.specs.Declares.{case_in, count_in}
 use Rattle.parts.specs.declared.Extent.{Extent}
 use Rattle.parts.specs.Parts.{Part, parts_of, dataset_of, is_function, line_of, closing_start}
 use Rattle.parts.specs.Scan.{line_from, first_of, First}

@@ -16,7 +16,7 @@ use real::{Real, real_field};
 
 // A stored number: the first and the past byte of its own columns, its sign, its coefficient, and its scale by whether it is
 // below zero and its size.
-#[derive(Drop)]
+#[derive(Clone, Copy)]
 pub struct Stored {
     pub first: usize,
     pub past: usize,
@@ -27,14 +27,14 @@ pub struct Stored {
 }
 
 // What a question for a stored number answers.
-#[derive(Drop)]
+#[derive(Clone, Copy)]
 pub enum NumberAnswer {
     Number(Stored),
     Refused(Reply),
 }
 
 // What a question for a value answers; `At`: with its abscissa, which comes first.
-#[derive(Drop)]
+#[derive(Clone, Copy)]
 pub enum ValueAnswer {
     Real(f64),
     Complex(f64, f64),
@@ -44,14 +44,14 @@ pub enum ValueAnswer {
 }
 
 // The f64 of a stored number, or the number of its refusal.
-#[derive(Drop)]
+#[derive(Clone, Copy)]
 pub enum Read {
     Value(f64),
     Refused(u8),
 }
 
 // Where a 58 has its numbers: the first byte of its lines, that of its closing delimiter, its case, and how many values it has.
-#[derive(Drop)]
+#[derive(Clone, Copy)]
 pub struct Data {
     pub body: usize,
     pub closing: usize,
@@ -68,7 +68,7 @@ const NOTHING: Data = Data {
 };
 
 // The first and the past byte of a number's columns.
-#[derive(Drop)]
+#[derive(Clone, Copy)]
 pub struct Span {
     pub first: usize,
     pub past: usize,

@@ -64,7 +64,7 @@ pub const LINE_SEVEN: usize = 6;
 pub const MOST_RECORDS: usize = 24;
 
 // A record's fields: their forms, and their widths, which a width of 0 ends.
-#[derive(Drop)]
+#[derive(Clone, Copy)]
 pub struct RowNumbers {
     pub forms: [u8; 12],
     pub widths: [u8; 12],

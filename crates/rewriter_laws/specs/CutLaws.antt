@@ -17,15 +17,15 @@ use Rattle.field.specs.Item.{Item}
 use Rattle.record_table.specs.Row.{Row, span, first_fields}
 use Rattle.record_table.specs.Records.{plain, data_row}
 use Rattle.record_table.specs.TypedSets.{header_lines}
-use Rattle.record.specs.Declared.{count_by}
+use Rattle.record.specs.Declares.{count_by}
 use Rattle.record.specs.Written.{InColumns, Written}
 use Rattle.record.specs.CutLaws.{in_columns_cut}
 use Rattle.theory.specs.Sets.{Set}
 use Rattle.theory.specs.Proper.{TypedLines, SetLines}
 use Rattle.line_laws.specs.Short.{Short}
 use Rattle.parts.specs.Padding.{last_field, counted_past}
-use Rattle.parts_laws.specs.Declared.{set_case, seventh_of, declared}
-use Rattle.parts_laws.specs.DeclaredLaws.{typed_58}
+use Rattle.parts_laws.specs.Declares.{set_case, seventh_of, declared}
+use Rattle.parts_laws.specs.DeclaresLaws.{typed_58}
 use Rattle.parts_laws.specs.Stored.{stored_count}
 use Rattle.parts_laws.specs.StoredLaws.{stored_case}
 use Rattle.parts_laws.specs.PaddingLaws.{last_line_lem, last_row, counted_span, data_inside, blank_past_lem}

@@ -13,7 +13,7 @@ use Rattle.delimiter.specs.Kind.{dataset_number}
 use Rattle.layout.specs.Layout.{fields_of}
 use Rattle.layout.specs.LayoutLaws.{fields_of_some}
 use Rattle.record_table.specs.TypedSets.{header_lines, line_seven}
-use Rattle.record.specs.Declared.{case_in}
+use Rattle.record.specs.Declares.{case_in}
 use Rattle.theory.specs.Sets.{Set}
 use Rattle.theory.specs.Proper.{BlankLines}
 use Rattle.theory.specs.Due.{lines_for}
@@ -22,8 +22,8 @@ use Rattle.parts.specs.Parts.{Part, through_of, dataset_of, line_of}
 use Rattle.parts.specs.Function.{part_case, stored_of, count_of}
 use Rattle.parts.specs.Padding.{counted_past}
 use Rattle.parts_laws.specs.Holds.{columns_of, Holds, AtPlaces}
-use Rattle.parts_laws.specs.Declared.{set_case}
-use Rattle.parts_laws.specs.DeclaredLaws.{number_held, case_held, line_of_columns}
+use Rattle.parts_laws.specs.Declares.{set_case}
+use Rattle.parts_laws.specs.DeclaresLaws.{number_held, case_held, line_of_columns}
 use Rattle.parts_laws.specs.Stored.{stored_count}
 use Rattle.parts_laws.specs.StoredLaws.{stored_case, set_data, line_enough}
 use Rattle.parts_laws.specs.PaddingLaws.{stored_held}

@@ -12,7 +12,7 @@ use Rattle.theory.specs.Sets.{Set}
 use Rattle.line_laws.specs.NoDelimiter.{NoDelimiter}
 use Rattle.theory.specs.Proper.{BlankLines, Ended}
 use Rattle.parts.specs.Padding.{counted_past}
-use Rattle.parts_laws.specs.Declared.{set_case}
+use Rattle.parts_laws.specs.Declares.{set_case}
 use Rattle.parts_laws.specs.Stored.{stored_count}
 
 -- The rewritten form.

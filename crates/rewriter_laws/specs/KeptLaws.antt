@@ -20,8 +20,8 @@ use Rattle.parts.specs.Parts.{Part}
 use Rattle.parts.specs.Function.{part_case, stored_of}
 use Rattle.parts.specs.Padding.{counted_past, padding_of}
 use Rattle.parts_laws.specs.Holds.{columns_of, Holds}
-use Rattle.parts_laws.specs.Declared.{set_case}
-use Rattle.parts_laws.specs.DeclaredLaws.{case_held}
+use Rattle.parts_laws.specs.Declares.{set_case}
+use Rattle.parts_laws.specs.DeclaresLaws.{case_held}
 use Rattle.parts_laws.specs.Stored.{stored_count}
 use Rattle.parts_laws.specs.PaddingLaws.{stored_held, ended_unpadded}
 use Rattle.rewriter.specs.Rewriter.{kept_of, cut_last, unpadded}

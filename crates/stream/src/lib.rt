@@ -16,7 +16,7 @@ use walk::{Outcome, Place, State};
 // `pending` and the last one after them, and the column of the first that is not allowed (0: none). Otherwise line `lines` + 1 is refused with that
 // number, at that column. `total` is the number of bytes so far, or 16,777,217 once there are more than 16,777,216. A fresh one starts a file; one made
 // up otherwise is safe.
-#[derive(Drop)]
+#[derive(Clone, Copy)]
 pub struct Stream {
     pub state: State,
     pub lines: usize,
@@ -29,7 +29,7 @@ pub struct Stream {
 }
 
 // What a burst answers: the number of finished lines so far, or document 01's refusal.
-#[derive(Drop)]
+#[derive(Clone, Copy)]
 pub enum Answer {
     SoFar(usize),
     Refused(Reply),

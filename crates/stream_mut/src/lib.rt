@@ -8,14 +8,14 @@ use judge::Reply;
 use stream::{Answer, Stream};
 
 // A record, and what a burst answered.
-#[derive(Drop)]
+#[derive(Clone, Copy)]
 pub struct AfterBurst {
     pub stream: Stream,
     pub answer: Answer,
 }
 
 // A record, and what the end answered.
-#[derive(Drop)]
+#[derive(Clone, Copy)]
 pub struct AfterEnd {
     pub stream: Stream,
     pub reply: Reply,

@@ -33,7 +33,7 @@ use Rattle.parts_laws.specs.Holds.{columns_of, Holds, AtPlaces}
 use Rattle.parts_laws.specs.HoldsLaws.{held_part}
 use Rattle.parts_laws.specs.Text.{lines_of}
 use Rattle.parts_laws.specs.TextLaws.{joined_length, stand_cut, part_bytes, part_cut}
-use Rattle.parts_laws.specs.Declared.{declared}
+use Rattle.parts_laws.specs.Declares.{declared}
 use Rattle.parts_laws.specs.CaseLaws.{declared_some}
 use Rattle.parts_laws.specs.Stored.{stored_count, stored_item}
 use Rattle.theorems.specs.Answers.{real_of_item, value_said, all_said}

@@ -17,7 +17,7 @@ use Rattle.values.specs.Values.{all_values}
 use Rattle.rewriter.specs.Rewriter.{rewrite_reply}
 use Rattle.host.specs.Packed.{word}
 use Rattle.theory.specs.Sets.{Set}
-use Rattle.parts_laws.specs.Declared.{declared, set_case}
+use Rattle.parts_laws.specs.Declares.{declared, set_case}
 use Rattle.parts_laws.specs.Stored.{stored_count, stored_item}
 
 -- an item that is a real, as a number; no stored number is any other item

@@ -21,8 +21,8 @@ use Rattle.reader.specs.Reader.{said, refused, read_in, real_in, shown_of, numbe
 use Rattle.reader.specs.ReaderLaws.{reads_same}
 use Rattle.theory.specs.Sets.{Set}
 use Rattle.parts_laws.specs.Holds.{Holds}
-use Rattle.parts_laws.specs.Declared.{declared, set_case}
-use Rattle.parts_laws.specs.DeclaredLaws.{declared_held, case_held}
+use Rattle.parts_laws.specs.Declares.{declared, set_case}
+use Rattle.parts_laws.specs.DeclaresLaws.{declared_held, case_held}
 use Rattle.parts_laws.specs.Stored.{stored_count, stored_item}
 use Rattle.parts_laws.specs.CaseLaws.{case_eight, declared_some}
 use Rattle.parts_laws.specs.Field.{Spelled}

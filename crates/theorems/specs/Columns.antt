@@ -6,7 +6,7 @@ use Rattle.theory.specs.Sets.{Set}
 use Rattle.parts.specs.Parts.{Part, closing_start}
 use Rattle.parts.specs.Function.{part_case, count_of, data_start, first_byte, past_byte}
 use Rattle.parts.specs.Padding.{padding_of}
-use Rattle.parts_laws.specs.Declared.{declared, set_case}
+use Rattle.parts_laws.specs.Declares.{declared, set_case}
 use Rattle.parts_laws.specs.Stored.{stored_count, stored_item}
 use Rattle.parts_laws.specs.Field.{Spelled}
 use Rattle.theorems.specs.Answers.{own_bytes}

@@ -16,8 +16,8 @@ use Rattle.parts.specs.Parts as Parts
 use Rattle.parts.specs.Function.{part_case, data_start, first_byte, past_byte}
 use Rattle.parts.specs.Padding.{padding_in, padding_of}
 use Rattle.parts_laws.specs.Holds.{Holds}
-use Rattle.parts_laws.specs.Declared.{declared, set_case}
-use Rattle.parts_laws.specs.DeclaredLaws.{number_held, case_held, declared_held}
+use Rattle.parts_laws.specs.Declares.{declared, set_case}
+use Rattle.parts_laws.specs.DeclaresLaws.{number_held, case_held, declared_held}
 use Rattle.parts_laws.specs.Stored.{stored_count, own_columns}
 use Rattle.parts_laws.specs.Field.{Spelled}
 use Rattle.parts_laws.specs.Whole.{Owned}

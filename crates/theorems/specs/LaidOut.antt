@@ -16,7 +16,7 @@ use Rattle.writer_laws.specs.DataLines.{lent_file}
 use Rattle.writer_laws.specs.Back.{Back}
 use Rattle.theory.specs.Sets.{Set}
 use Rattle.theory.specs.Proper.{Proper}
-use Rattle.parts_laws.specs.Declared.{set_case}
+use Rattle.parts_laws.specs.Declares.{set_case}
 use Rattle.parts_laws.specs.Stored.{stored_count, stored_item}
 
 -- the text that the writer lays out, in the header's case

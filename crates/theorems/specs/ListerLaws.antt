@@ -19,8 +19,8 @@ use Rattle.line_laws.specs.Ends.{joined}
 use Rattle.parts_laws.specs.Holds.{Holds, AtPlaces}
 use Rattle.parts_laws.specs.Text.{lines_of}
 use Rattle.parts_laws.specs.TextLaws.{part_bytes}
-use Rattle.parts_laws.specs.Declared.{declared}
-use Rattle.parts_laws.specs.DeclaredLaws.{number_held, declared_held, all_held, as_many, stand_at}
+use Rattle.parts_laws.specs.Declares.{declared}
+use Rattle.parts_laws.specs.DeclaresLaws.{number_held, declared_held, all_held, as_many, stand_at}
 use Rattle.theorems.specs.Stands.{SetAt}
 use Rattle.judge_laws.specs.HeldLaws.{proper_places}
 use Rattle.judge_laws.specs.JudgeLaws.{proper_accepted}

@@ -15,7 +15,7 @@ use Rattle.record_table.specs.Records.{data_row, no_record}
 use Rattle.record_table.specs.TypedSets.{kind_of, is_typed, untyped, sequence, Following, nothing, list, lists, data_lines, following}
 use Rattle.record_table.specs.TypedSetsLaws.{is_counted, is_counted_lem, typed_sound, following_past}
 use Rattle.record.specs.Check.{taken, row_refusal}
-use Rattle.record.specs.Declared.{natural_at, case_by, count_by, stored_by}
+use Rattle.record.specs.Declares.{natural_at, case_by, count_by, stored_by}
 use Rattle.walk.specs.Due.{due, opening, record_due, list_row, may_close, may_continue, row_due, settled, next, count_place, counted, items_due, after_record, after_list, after_items, after}
 use Rattle.walk.specs.Step.{state, unless, opened, outside_step, number_step, plain_step, typed_step, place_step, step_of}
 use Rattle.walk.specs.declared.Due.{Due}

@@ -18,7 +18,7 @@ use Rattle.reader.specs.Reader.{refused, sets_from, shown_of, stored_number, val
 use Rattle.theory.specs.Sets.{Set}
 use Rattle.theory.specs.Proper.{Proper}
 use Rattle.parts_laws.specs.Holds.{Holds}
-use Rattle.parts_laws.specs.Declared.{declared, set_case}
+use Rattle.parts_laws.specs.Declares.{declared, set_case}
 use Rattle.parts_laws.specs.Stored.{stored_count, stored_item}
 use Rattle.theorems.specs.Stands.{SetAt, At58}
 use Rattle.theorems.specs.Answers.{Answered, NoSuch, AsJudged, real_of_item, value_said, own_bytes}

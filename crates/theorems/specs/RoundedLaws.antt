@@ -19,7 +19,7 @@ use Rattle.reader.specs.declared.Read.TheVariants as read
 use Rattle.reader.specs.Reader.{Said, said, refused, on_exact, read_of, reads, whole, value_kind, value_with, value_of}
 use Rattle.theory.specs.Sets.{Set}
 use Rattle.theory.specs.Proper.{Proper}
-use Rattle.parts_laws.specs.Declared.{declared, set_case}
+use Rattle.parts_laws.specs.Declares.{declared, set_case}
 use Rattle.parts_laws.specs.Stored.{stored_count, stored_item}
 use Rattle.theorems.specs.Stands.{At58}
 use Rattle.theorems.specs.Answers.{real_of_item, value_said}

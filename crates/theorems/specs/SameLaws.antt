@@ -17,7 +17,7 @@ use Rattle.rewriter.specs.Rewriter.{rewritten_file, rewrite_reply, rewrite_out}
 use Rattle.lister.specs.Lister.{entry, list_reply}
 use Rattle.theory.specs.Sets.{Set}
 use Rattle.theory.specs.Proper.{Proper}
-use Rattle.parts_laws.specs.Declared.{declared}
+use Rattle.parts_laws.specs.Declares.{declared}
 use Rattle.parts_laws.specs.Stored.{stored_count, stored_item}
 use Rattle.rewriter_laws.specs.Differ.{PaddingAside}
 use Rattle.rewriter_laws.specs.RewritingLaws.{aside_rewritten, aside_opening, aside_lines}

@@ -41,7 +41,7 @@ use Rattle.theory.specs.Proper.{Proper}
 use Rattle.line_laws.specs.Ends as Ends
 use Rattle.parts_laws.specs.Holds.{AtPlaces}
 use Rattle.parts_laws.specs.Text.{lines_of}
-use Rattle.parts_laws.specs.Declared.{declared, set_case}
+use Rattle.parts_laws.specs.Declares.{declared, set_case}
 use Rattle.parts_laws.specs.Stored.{stored_count, stored_item}
 use Rattle.parts_laws.specs.Field.{Spelled}
 use Rattle.rewriter_laws.specs.Form.{InForm, KeepsSpellings}

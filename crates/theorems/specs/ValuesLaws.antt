@@ -13,7 +13,7 @@ use Rattle.reader.specs.ReaderLaws.{start_most}
 use Rattle.values.specs.Values.{all_values, all_reply, all_places}
 use Rattle.theory.specs.Sets.{Set}
 use Rattle.theory.specs.Proper.{Proper}
-use Rattle.parts_laws.specs.Declared.{declared, set_case}
+use Rattle.parts_laws.specs.Declares.{declared, set_case}
 use Rattle.parts_laws.specs.Stored.{stored_count}
 use Rattle.parts_laws.specs.CaseLaws.{case_eight, declared_most}
 use Rattle.theorems.specs.Stands.{At58}

@@ -4,7 +4,7 @@ use Rattle.field.specs.Item.{Item}
 use Rattle.record_table.specs.Row.{Row, first_fields}
 use Rattle.record_table.specs.TypedSets.{kind_of, sequence, Following, nothing, list, lists, data_lines, following}
 use Rattle.record_table.specs.Records.{record_of, data_row}
-use Rattle.record.specs.Declared.{case_by, stored_by}
+use Rattle.record.specs.Declares.{case_by, stored_by}
 use Rattle.theory.specs.Sets.{number_at}
 
 -- how many lines hold this many numbers, of n in a full line

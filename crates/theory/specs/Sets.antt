@@ -2,7 +2,7 @@
 -- are blank) and reals (sign, coefficient, scale) or a plain set's lines").
 use Rattle.std.specs.Prelude.{List, [], ℕ, get_or}
 use Rattle.field.specs.Item.{Item}
-use Rattle.record.specs.Declared.{natural_at}
+use Rattle.record.specs.Declares.{natural_at}
 
 -- a set: its number, and the items of its lines; a plain set's line is one text
 pub record Set : Type 0 where

@@ -12,7 +12,7 @@ use walk::{Due, Place, State};
 
 // The lines of a run: the case of their 58 and its fields, the letter of their exponents, how many columns they have, and how many bytes with
 // their end, of which `mark` is the first.
-#[derive(Drop)]
+#[derive(Clone, Copy)]
 pub struct Shape {
     pub case: usize,
     pub fields: usize,
@@ -23,7 +23,7 @@ pub struct Shape {
 }
 
 // Lines taken in one go: how many, the byte past them, and how many numbers are left.
-#[derive(Drop)]
+#[derive(Clone, Copy)]
 pub struct Run {
     pub lines: usize,
     pub at: usize,
@@ -31,7 +31,7 @@ pub struct Run {
 }
 
 // Lines taken in one go: the state after them, how many, the byte past them, and for how many lines it need not be tried again.
-#[derive(Drop)]
+#[derive(Clone, Copy)]
 pub struct Ahead {
     pub state: State,
     pub lines: usize,

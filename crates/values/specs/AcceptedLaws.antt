@@ -21,7 +21,7 @@ use Rattle.judge.specs.declared.Reply.{Reply}
 use Rattle.judge.specs.Judge.{judged}
 use Rattle.theory.specs.Sets.{Set}
 use Rattle.parts_laws.specs.Holds.{Holds}
-use Rattle.parts_laws.specs.DeclaredLaws.{number_held}
+use Rattle.parts_laws.specs.DeclaresLaws.{number_held}
 use Rattle.parts_laws.specs.Stored.{stored_count}
 use Rattle.parts_laws.specs.ShownLaws.{stored_shown}
 use Rattle.parts_laws.specs.PaddingLaws.{stored_held}

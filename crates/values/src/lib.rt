@@ -23,7 +23,7 @@ use reader::{Data, Read, find_data, read_of};
 use usual_columns::{passes, put_tables};
 
 // Where a stored number is: the first byte of its line, its field, and the first byte of its columns.
-#[derive(Drop)]
+#[derive(Clone, Copy)]
 pub struct Spot {
     pub line: usize,
     pub field: usize,
@@ -31,7 +31,7 @@ pub struct Spot {
 }
 
 // A stored number, from 0, and where it is.
-#[derive(Drop)]
+#[derive(Clone, Copy)]
 pub struct Turn {
     pub number: usize,
     pub spot: Spot,
@@ -39,7 +39,7 @@ pub struct Turn {
 
 // How the numbers of a set are read: where the first is, how many there are, how many fields a line has, how many columns these have together, and the byte
 // up to which lines are tried by the tables of the usual spelling; 0 where none is.
-#[derive(Drop)]
+#[derive(Clone, Copy)]
 pub struct Plan {
     pub first: Spot,
     pub stored: usize,

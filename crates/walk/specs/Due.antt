@@ -6,7 +6,7 @@ use Rattle.record_table.specs.Row.{Row, first_fields}
 use Rattle.record_table.specs.Records.{record_of, data_row, no_record}
 use Rattle.record_table.specs.TypedSets.{sequence, Following, nothing, list, lists, data_lines, following}
 use Rattle.record.specs.Check.{items_of}
-use Rattle.record.specs.Declared.{natural_at, case_by, stored_by}
+use Rattle.record.specs.Declares.{natural_at, case_by, stored_by}
 use Rattle.walk.specs.declared.Due.{Due}
 
 -- kind of set; lines taken of its records; case of a 58; numbers left in the list that follows them; numbers of a second list

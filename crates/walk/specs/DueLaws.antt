@@ -24,8 +24,8 @@ use Rattle.record.specs.Check.{or_else, otherwise, stray_fault, fields_fault, st
 use Rattle.record.specs.TakenLaws.{taken_is, taken_first}
 use Rattle.record_table.specs.TypedSetsLaws.{is_counted, is_counted_lem, typed_sound, sequence_past, following_past}
 use Rattle.record_table.specs.TabledLaws.{record_of_past}
-use Rattle.record.specs.Declared.{natural_at, number_in, case_in, stored_in}
-use Rattle.record.specs.DeclaredLaws.{declares_items}
+use Rattle.record.specs.Declares.{natural_at, number_in, case_in, stored_in}
+use Rattle.record.specs.DeclaresLaws.{declares_items}
 use Rattle.walk.specs.declared.Due.{Due}
 use Rattle.walk.specs.Due.{due, record_due, list_row, row_due, settled, after_list, full_row, count_place, next, items_due, after_record, after_items, after, may_close, may_continue}
 

@@ -7,7 +7,7 @@ ghost use Rattle.delimiter.specs.Kind.{Delimiter};
 ghost use Rattle.record_table.specs.Records.{no_record};
 ghost use Rattle.record_table.specs.TypedSets.{kind58, kind82, kind1815, before_axes, most_records, kind_of, is_typed};
 ghost use Rattle.record.specs.Check.{row_refusal};
-ghost use Rattle.record.specs.Declared.{number_in, case_in, count_in, stored_in};
+ghost use Rattle.record.specs.Declares.{number_in, case_in, count_in, stored_in};
 ghost use Rattle.walk.specs.Due.{due, next, record_due, list_row, row_due, may_close, may_continue, settled, items_due, after_record, after_list, after};
 ghost use Rattle.walk.specs.Step.{state, opened, outside_step, number_step, plain_step, typed_step, step_of};
 
@@ -21,7 +21,7 @@ use record_table::{
 
 // What is due in a typed set: the kind of set, how many of its records have come, the case of a
 // 58 from 0, how many numbers are left in the list that follows the records, and how many a second list has.
-#[derive(Drop)]
+#[derive(Clone, Copy)]
 pub struct Due {
     pub kind: usize,
     pub at: usize,
@@ -31,7 +31,7 @@ pub struct Due {
 }
 
 // Where a file stands between two lines.
-#[derive(Drop)]
+#[derive(Clone, Copy)]
 pub enum Place {
     // Outside sets.
     Outside,
@@ -44,14 +44,14 @@ pub enum Place {
 }
 
 // The place, and how many sets have opened.
-#[derive(Drop)]
+#[derive(Clone, Copy)]
 pub struct State {
     pub place: Place,
     pub sets: u32,
 }
 
 // What a line does: the file goes on, or is refused.
-#[derive(Drop)]
+#[derive(Clone, Copy)]
 pub enum Outcome {
     Next(State),
     Refused(Refusal),

@@ -14,7 +14,7 @@ use Rattle.field.specs.Item.{Item}
 use Rattle.record_table.specs.Records.{no_record, record_of, data_row}
 use Rattle.record_table.specs.TypedSets.{Following, nothing, list, lists, data_lines, untyped, sequence, following}
 use Rattle.record_table.specs.TypedSetsLaws.{is_counted, is_counted_lem, typed_sound}
-use Rattle.record.specs.Declared.{natural_at, case_by, count_by, stored_by}
+use Rattle.record.specs.Declares.{natural_at, case_by, count_by, stored_by}
 use Rattle.theory.specs.Sets.{number_at}
 use Rattle.theory.specs.Due.{rows_after, lists_of}
 use Rattle.walk.specs.Due.{due, opening, record_due, list_row, may_close, row_due, settled, count_place, counted, next, after_record, after_items}

@@ -33,8 +33,8 @@ use Rattle.theory.specs.Due.{lists_of, set_rows}
 use Rattle.theory.specs.Proper.{SetLines}
 use Rattle.parts.specs.Parts as Parts
 use Rattle.parts_laws.specs.Holds.{Holds}
-use Rattle.parts_laws.specs.Declared.{set_case}
-use Rattle.parts_laws.specs.DeclaredLaws.{typed_line, typed_58, line_of_columns, number_held, case_held}
+use Rattle.parts_laws.specs.Declares.{set_case}
+use Rattle.parts_laws.specs.DeclaresLaws.{typed_line, typed_58, line_of_columns, number_held, case_held}
 use Rattle.parts_laws.specs.Stored.{stored_count, stored_item, own_columns}
 use Rattle.parts_laws.specs.StoredLaws.{stored_spelled}
 use Rattle.parts_laws.specs.PaddingLaws.{stored_held}

@@ -4,7 +4,7 @@ use Rattle.laws.specs.Cut.{cut, over}
 use Rattle.line.specs.declared.Refusal.{Refusal}
 use Rattle.record_table.specs.TypedSets.{header_lines, before_axes, line_seven, kind58}
 use Rattle.record.specs.Check.{row_refusal}
-use Rattle.record.specs.Declared.{case_in, stored_in}
+use Rattle.record.specs.Declares.{case_in, stored_in}
 use Rattle.walk.specs.declared.Due.{Due}
 use Rattle.walk.specs.declared.Place.TheVariants.{Typed}
 use Rattle.walk.specs.Due.{row_due, after}

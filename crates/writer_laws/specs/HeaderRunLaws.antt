@@ -18,7 +18,7 @@ use Rattle.record_table.specs.Row.{span, with_padding}
 use Rattle.record_table.specs.Records.{records, record_of, no_record, data_form}
 use Rattle.record_table.specs.TypedSets.{typed_sets, sequence, header_lines, before_axes, kind58, line_seven}
 use Rattle.record.specs.Check.{row_refusal, items_of}
-use Rattle.record.specs.Declared.{case_in, stored_in, case_by, count_by, stored_by}
+use Rattle.record.specs.Declares.{case_in, stored_in, case_by, count_by, stored_by}
 use Rattle.walk.specs.declared.Due.{Due}
 use Rattle.walk.specs.declared.Place.TheVariants.{Typed}
 use Rattle.walk.specs.declared.Outcome.TheVariants.{Refused}
@@ -37,7 +37,7 @@ use Rattle.rewriter.specs.RewriterLaws.{fair_passed}
 use Rattle.judge.specs.RefusalLaws.{no_fault}
 use Rattle.line.specs.LineLaws.{filled_length}
 use Rattle.layout.specs.Columns.{total}
-use Rattle.record.specs.DeclaredLaws.{declares_items}
+use Rattle.record.specs.DeclaresLaws.{declares_items}
 use Rattle.record.specs.Written.{Written}
 use Rattle.record_laws.specs.RowGroupLaws.{record_of_readable}
 use Rattle.record_laws.specs.LineReadingLaws.{written_sound}

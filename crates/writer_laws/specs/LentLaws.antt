@@ -20,7 +20,7 @@ use Rattle.layout.specs.Columns.{field_of}
 use Rattle.layout.specs.Layout.{layout_of, fields_of, numbers_of}
 use Rattle.layout.specs.LayoutLaws.{fields_of_some}
 use Rattle.record_table.specs.TypedSets.{kind_of, is_typed, sequence, typed_sets, header_lines, kind58, line_seven}
-use Rattle.record.specs.Declared.{case_in, count_in, stored_in}
+use Rattle.record.specs.Declares.{case_in, count_in, stored_in}
 use Rattle.walk.specs.declared.Due.{Due}
 use Rattle.walk.specs.declared.State.{State}
 use Rattle.walk.specs.declared.Place.TheVariants.{Outside, Number, Typed}

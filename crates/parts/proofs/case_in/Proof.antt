@@ -1,6 +1,6 @@
 -- `parts::case_in` meets its contract.
 use mathlib.Core.Path.{ap, ◌∙◌}
-use Rattle.record.specs.Declared.{case_in}
+use Rattle.record.specs.Declares.{case_in}
 use borrow.Author.Rules.{rules}
 use Rattle.parts.proofs.case_in.Statement.{statement}
 use Rattle.parts.proofs.case_in.Tie as tie

@@ -1,6 +1,6 @@
 -- `parts::count_in` meets its contract.
 use mathlib.Core.Path.{ap, ◌∙◌}
-use Rattle.record.specs.Declared.{count_in}
+use Rattle.record.specs.Declares.{count_in}
 use borrow.Author.Rules.{rules}
 use Rattle.parts.proofs.count_in.Statement.{statement}
 use Rattle.parts.proofs.count_in.Tie as tie

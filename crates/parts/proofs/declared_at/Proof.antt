@@ -4,7 +4,7 @@ use borrow.Author.Tests.{eq-eqb, ne_eqb}
 use Prim.Native.Nat.{◌*◌, ◌≤◌}
 use Rattle.parts.specs.Counted.{declared_at}
 use Rattle.parts.specs.CountedLaws.{stored_most}
-use Rattle.record.specs.Declared.{stored_in}
+use Rattle.record.specs.Declares.{stored_in}
 use borrow.Author.Rules.{rules}
 use Rattle.parts.proofs.declared_at.Statement.{statement}
 use Rattle.parts.proofs.declared_at.Tie as tie

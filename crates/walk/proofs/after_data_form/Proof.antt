@@ -3,7 +3,7 @@ use mathlib.Core.Path.{refl}
 use Prim.Native.Nat.{◌≤◌}
 use native.Mathlib.Nat.{mul-le-mul_left}
 use native.Mathlib.Omega.{arith}
-use Rattle.record.specs.Declared.{stored_in}
+use Rattle.record.specs.Declares.{stored_in}
 use Rattle.walk.specs.DueLaws.{numbers_of_few}
 use borrow.Author.Rules.{rules}
 use Rattle.walk.proofs.after_data_form.Statement.{statement}

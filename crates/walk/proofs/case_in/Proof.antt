@@ -1,6 +1,6 @@
 -- `walk::case_in` meets its contract.
 use mathlib.Core.Path.{refl, ◌∙◌}
-use Rattle.record.specs.Declared.{case_in}
+use Rattle.record.specs.Declares.{case_in}
 use borrow.Author.Rules.{rules}
 use Rattle.walk.proofs.case_in.Statement.{statement}
 use Rattle.walk.proofs.case_in.Tie as tie

@@ -1,5 +1,5 @@
 -- `walk::count_in` meets its contract.
-use Rattle.record.specs.Declared.{count_in}
+use Rattle.record.specs.Declares.{count_in}
 use borrow.Author.Rules.{rules}
 use Rattle.walk.proofs.count_in.Statement.{statement}
 use Rattle.walk.proofs.count_in.Tie as tie

@@ -1,6 +1,6 @@
 -- `walk::number_in` meets its contract.
 use mathlib.Core.Path.{refl, sym, ◌∙◌}
-use Rattle.record.specs.Declared.{number_in}
+use Rattle.record.specs.Declares.{number_in}
 use Rattle.walk.specs.DueLaws.{natural_positive}
 use borrow.Author.Rules.{rules}
 use Rattle.walk.proofs.number_in.Statement.{statement}
