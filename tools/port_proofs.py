@@ -22,7 +22,7 @@ PATH = re.compile(rf"(?<![\w.'₀-₉-])({NAME})((?:\.{NAME})+)")
 
 
 def norm(name):
-    name = re.sub(r"[-_]", "", name).lower()
+    name = re.sub(r"[-_]", "", name.removesuffix("_lem")).lower()
     return name[len("overflow") :] if name.startswith("overflow") else name
 
 

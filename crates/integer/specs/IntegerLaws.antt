@@ -137,7 +137,7 @@ after_byte p n m k b l false g h e a = refused (rw (step_integer_other p n k b g
 
 after_digits : (n : Bool) (m k : ℕ) (l : List ℕ) → After m (scan 2 n k) l
 after_digits n m k [] = digits no_digit
-after_digits n m k (b ∷ l) = after_byte 2 n m k b l (is_digit b) (omega arith) (omega arith) refl (after_digits n _ _ l)
+after_digits n m k (b ∷ l) = after_byte 2 n m k b l (is_digit b) (omega arith) (omega arith) refl (after_digits n (m * 10 + (b - 48)) _ l)
 
 -- what the columns are, by what is read in them
 data Columns (l : List ℕ) : Integer → Type 0 where

@@ -1,0 +1,10 @@
+-- `real::odd_field` meets its contract.
+use mathlib.Core.Path.{sym, ◌∙◌}
+use mathlib.Core.Logic.{⊎_elim}
+use Rattle.real.specs.EndLaws.{malformed_value}
+use Rattle.real.proofs.odd_field.Goals as goal
+
+pub returns-in-Value : goal.returns-in-Value
+returns-in-Value c =
+    let v = c.r-1.given.1 in
+    ⊎_elim (λ q. malformed_value (sym q ∙ v)) (λ q. sym v ∙ q) c.shifted_field-r.ensures
