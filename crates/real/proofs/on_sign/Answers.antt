@@ -13,12 +13,8 @@ returns-then-s-eq3 c = simp (c.after_coefficient.ensures, eq-eqb _ _ c.if-s-eq3.
 
 pub returns-then-s-eq4 : goal.returns-then-s-eq4
 unfolding on_sign
-returns-then-s-eq4 c =
-    let at-if1 = at-4-back in
-    simp (eq-eqb _ _ c.if-s-eq4.true, ne_eqb _ _ c.if-s-eq3.false, ne_eqb _ _ at-if1.if1.false)
+returns-then-s-eq4 c = simp (eq-eqb _ _ c.if-s-eq4.true, ne_eqb _ _ c.if-s-eq3.false, ne_eqb _ _ c.if-s-eq0.false)
 
 pub returns : goal.returns
 unfolding on_sign
-returns c =
-    let at-if1 = at-5-back in
-    simp (c.malformed.ensures, ne_eqb _ _ c.if-s-eq4.false, ne_eqb _ _ c.if-s-eq3.false, ne_eqb _ _ at-if1.if1.false)
+returns c = simp (c.malformed.ensures, ne_eqb _ _ c.if-s-eq4.false, ne_eqb _ _ c.if-s-eq3.false, ne_eqb _ _ c.if-s-eq0.false)

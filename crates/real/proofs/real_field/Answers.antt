@@ -6,5 +6,5 @@ use Rattle.real.proofs.real_field.Goals as goal
 
 pub returns-in-Value : goal.returns-in-Value
 returns-in-Value c =
-    let v = c.r-1.given.1 in
+    let v = c.in-Value.is in
     ⊎_elim (λ q. malformed_value (sym q ∙ v)) (λ q. sym v ∙ q) c.plain_field-r.ensures
