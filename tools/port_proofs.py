@@ -176,7 +176,7 @@ class Function:
 
         body = PATH.sub(path, body)
         # what a negated test says is now said of the term itself
-        return re.sub(rf"\b(?:not-true|not-false) (?:\([^()]*\)|\S+) (c\.{NAME}(?:\.{NAME})*\.(?:true|false))", r"\1", body)
+        return re.sub(rf"\b(?:not[-_]true|not[-_]false) (?:\([^()]*\)|\S+) (c\.{NAME}(?:\.{NAME})*\.(?:true|false))", r"\1", body)
 
     def clause(self, step, steps):
         """A clause by its name, where the older proof has its number."""
