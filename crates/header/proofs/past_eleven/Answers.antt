@@ -1,0 +1,33 @@
+use mathlib.Core.Path.{refl}
+use Prim.Native.Nat.{◌-◌}
+use Rattle.laws.specs.Cut.{cut}
+use Rattle.header.specs.HeaderLaws.{lines_to_lem, rest_to, all_few}
+use native.Mathlib.Omega.{arith}
+use borrow.Author.Rules.{rules}
+use Rattle.header.proofs.past_eleven.Goals as goal
+
+pub loop-lines-init : goal.loop-lines-init
+unfolding cut
+loop-lines-init c = record { within = search rules; few = search rules; lines_are = refl; whole = refl }
+
+pub returns-then-header-end : goal.returns-then-header-end
+returns-then-header-end c =
+    let inv = c.loop-lines.invariant in
+    let below = c.loop-lines-test.true in
+    all_few c.args.header.now _ _ inv.within c.find_end-end.ensures inv.whole c.if-header-end.true (omega (arith, inv.lines_are, below))
+
+pub loop-lines-preserved : goal.loop-lines-preserved
+loop-lines-preserved c =
+    let inv = c.loop-lines.invariant in
+    let one_more = lines_to_lem c.args.header.now _ _ inv.within c.find_end-end.ensures inv.whole c.if-header-end.false in
+    record {
+      within = search rules;
+      few = search rules;
+      lines_are = omega (arith, inv.lines_are, one_more);
+      whole = rest_to c.args.header.now _ _ inv.within c.find_end-end.ensures inv.whole c.if-header-end.false;
+    }
+
+pub returns : goal.returns
+returns c =
+    let inv = c.loop-lines.invariant in
+    record { within = inv.within; few = omega (arith, inv.few, inv.lines_are); full = λ l. omega (arith, inv.lines_are, c.loop-lines-test.false) }
