@@ -74,7 +74,7 @@ def clauses():
 
 class Function:
     def __init__(self, names, said, name="", named=None):
-        self.name, self.named = name, named or {}
+        self.name, self.named, self.joins = name, named or {}, set()
         self.places = {}
         for place, parent, step, *_ in names["places"]:
             self.places[place] = (parent, tuple(step))
@@ -175,8 +175,18 @@ class Function:
             return ".".join(["c", new, *self.clause(new, steps[1:])])
 
         body = PATH.sub(path, body)
+        # where branches join
+        body = re.sub(
+            rf"⊎_elim\s+\(λ ({NAME})\. ((?:[^()]|\((?:[^()]|\((?:[^()]|\([^()]*\))*\))*\))*)\)\s+\(λ ({NAME})\. ((?:[^()]|\((?:[^()]|\((?:[^()]|\([^()]*\))*\))*\))*)\)\s+c\.if-({NAME})\.branch",
+            lambda m: f"elim c.if-{m[5]}.branch [ then-{m[5]} {m[1]} ↦ {self.branch(m[1], m[5], m[2])} | else-{m[5]} {m[3]} ↦ {self.branch(m[3], m[5], m[4])} ]",
+            body,
+        )
         # what a negated test says is now said of the term itself
         return re.sub(rf"\b(?:not[-_]true|not[-_]false) (?:\([^()]*\)|\S+) (c\.{NAME}(?:\.{NAME})*\.(?:true|false))", r"\1", body)
+
+    def branch(self, w, test, body):
+        self.joins.update((f"then-{test}", f"else-{test}"))
+        return re.sub(rf"(?<![\w.'-]){re.escape(w)}\.0\.(taken|true|left|false)", lambda m: f"{w}.if-{test}." + ("true" if m[1] in ("taken", "true") else "false"), body)
 
     def clause(self, step, steps):
         """A clause by its name, where the older proof has its number."""
@@ -193,7 +203,7 @@ class Function:
         if len(meant) != len(params):
             self.said.append(f"{loop}: {len(params)} parameters, {len(meant)} meant")
         to = dict(zip(params, meant))
-        return new, re.sub(rf"(?<![\w.'-])({NAME})", lambda m: to.get(m[1], m[1]), body)
+        return new, re.sub(rf"(?<![\w.'-])({NAME})(?! =)", lambda m: to.get(m[1], m[1]), body)
 
 
 def used(name, text):
@@ -302,6 +312,8 @@ def convert(crate, folder, names, said, named):
         if of_invariants:
             top.append(f"use {here}.Invariants.{{{', '.join(of_invariants)}}}")
         top.append(f"use {here}.Goals as goal")
+        if f.joins:
+            top.append(f"use {here}.Goals.{{{', '.join(sorted(f.joins))}}}")
         with open(os.path.join(folder, "Answers.antt"), "w", encoding="utf-8") as it:
             it.write(comment_lines(head if not invariants else []) + "\n".join(top) + "\n\n" + out.rstrip() + "\n")
     os.remove(path)

@@ -122,6 +122,14 @@ module _ (k n at : ℕ) (l : List ℕ) (t : State) where
   place_step_lem Number (opened m b o) (number g) h = number_step_lem m b o g h
   place_step_lem Plain (inside m b o v ls) (plain x y) h = plain_step_lem m b o v ls x y h
   place_step_lem (Typed d) (inside m b o v ls) (typed x y) h = typed_step_lem m b o v ls x y d h
+  place_step_lem Outside (opened m b o) x4 h = elim x4 [ ]
+  place_step_lem Outside (inside m b o v ls) x5 h = elim x5 [ ]
+  place_step_lem Number outside x4 h = elim x4 [ ]
+  place_step_lem Number (inside m b o v ls) x5 h = elim x5 [ ]
+  place_step_lem Plain outside x5 h = elim x5 [ ]
+  place_step_lem Plain (opened m b o) x6 h = elim x6 [ ]
+  place_step_lem (Typed d) outside x6 h = elim x6 [ ]
+  place_step_lem (Typed d) (opened m b o) x7 h = elim x7 [ ]
 
 -- a line's own refusals come before
 own_by : (s t : State) (f : Refusal) (cs : List ℕ) (j : ℕ) → f.number ≡ j → line_outcome s f cs ≡ Next t → step_of s (filled cs) ≡ Next t
