@@ -83,6 +83,11 @@ class Function:
             self.goals.setdefault(norm(old), (new, place))
         for (old, new), (place, _) in zip(names["needs"], names["asked_at"]):
             self.goals.setdefault(norm(new), (new, place))
+        # what an arm of a match says, by the step and the path of the older proof: {place: {(step, path): path of today}}
+        self.arms = {}
+        for (place, *_), arm in zip(names["places"], names["arms"]):
+            if arm:
+                self.arms[place] = {(norm(old), tuple(path)): f"{arm[0]}.{new}" for new, old, path in arm[2]}
         self.loops = {}
         for ((old, new), live), changed in zip(names["loops"], names["changed"]):
             self.loops[norm(old)] = self.loops[norm(new)] = (new, live, changed)
@@ -114,8 +119,22 @@ class Function:
                 return new
         return None
 
+    def arm(self, at, count, steps):
+        """What an arm says, by today's path, and the rest of the steps; None where no arm says it, and a part of a path where it ends too early."""
+        tries = [self.place_before(at, count)] + [place for place, _ in self.above(at)]
+        for place in tries:
+            found = self.arms.get(place, {})
+            for n in range(len(steps), 0, -1):
+                new = found.get((norm(steps[0]), tuple(steps[1:n])))
+                if new:
+                    return new, steps[n:]
+        return None
+
+    def is_part(self, at, steps):
+        return any(old == norm(steps[0]) and path[: len(steps) - 1] == tuple(steps[1:]) and len(path) > len(steps) - 1 for place, _ in self.above(at) for old, path in self.arms.get(place, {}))
+
     def turn(self, body, at, who):
-        env = {"c": (at, 0)}
+        env, parts = {"c": (at, 0)}, {}
         while True:
             m = next((m for m in LET.finditer(body) if m[2] in env and (m[3] or m[2] == "c")), None)
             if m is None:
@@ -123,12 +142,21 @@ class Function:
             place, count = env[m[2]]
             env[m[1]] = (place, count + m[3].count(".before"))
             body = body[: m.start()] + body[m.end() :]
+        for m in list(re.finditer(rf"let ({NAME}) =\s+({NAME})((?:\.before)*)((?:\.{NAME})+) in\s*", body)):
+            if m[2] in env and self.is_part(at, m[4][1:].split(".")):
+                place, count = env[m[2]]
+                parts[m[1]] = (place, count + m[3].count(".before"), m[4][1:].split("."))
+                body = body.replace(m[0], "", 1)
 
         def path(m):
-            if m[1] not in env:
+            if m[1] in parts:
+                place, count, first = parts[m[1]]
+                steps = first + m[2][1:].split(".")
+            elif m[1] in env:
+                place, count = env[m[1]]
+                steps = m[2][1:].split(".")
+            else:
                 return m[0]
-            place, count = env[m[1]]
-            steps = m[2][1:].split(".")
             while steps and steps[0] == "before":
                 count += 1
                 steps.pop(0)
@@ -137,6 +165,9 @@ class Function:
                 return m[0]
             if steps[0] in ("args", "requires", "ranges"):
                 return ".".join(["c", *self.clause(self.name, steps)])
+            arm = self.arm(place, count, steps)
+            if arm:
+                return ".".join(["c", arm[0], *arm[1]])
             new = self.step(place, count, steps[0])
             if new is None:
                 self.said.append(f"{who}: no step {m[0]}")

@@ -1,7 +1,7 @@
 -- The fields of a format: how many columns they take, and that each takes one.
-use Rattle.std.specs.Prelude.{◌≡◌, refl, List, [], ◌∷◌, ◌++◌, ℕ, zero, suc, ◌+◌, ◌*◌, ◌≤◌, ◌<◌, length}
+use Rattle.std.specs.Prelude.{◌≡◌, List, [], ◌∷◌, ◌++◌, ℕ, zero, suc, ◌+◌, ◌*◌, ◌≤◌, length}
 use Rattle.std.proofs.Common.{sym, ap, ◌∙◌, mul-pos, arith}
-use Rattle.format.specs.Format.{Kind, skip, text, integer, real, Field, field, Count, once, times, number, Format, plain, group, join, Counted, left_out, written, Width, width, Plain, skips, texts, integers, reals, Sort, Spelled, counted, scaled, brackets, last, more, repeated, fields_for, fields_of, span, columns, Wide, Wide.none as no_field, Wide.more as wider}
+use Rattle.format.specs.Format.{Kind, skip, text, integer, real, Field, field, Count, number, Format, plain, group, join, Counted, left_out, written, width, Plain, skips, texts, integers, reals, Sort, Spelled, counted, scaled, brackets, last, more, repeated, fields_for, fields_of, span, columns, Wide, Wide.none as no_field, Wide.more as wider}
 
 pub span_append : (fs gs : List Field) → span (fs ++ gs) ≡ span fs + span gs
 unfolding span

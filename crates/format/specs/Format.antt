@@ -1,6 +1,6 @@
 -- The grammar of FORMAT texts and what they mean (02, C-15). A format is a tree; `Spelled` says which bytes, blanks left out,
 -- write it. Nothing here reads a text.
-use Rattle.std.specs.Prelude.{List, [], ◌∷◌, ◌++◌, ℕ, zero, suc, ◌+◌, ◌-◌, ◌*◌, ◌≤◌, max, eqb, length}
+use Rattle.std.specs.Prelude.{List, [], ◌∷◌, ◌++◌, ℕ, zero, suc, ◌+◌, ◌*◌, ◌≤◌, max, eqb, length}
 use Rattle.laws.specs.Choice.{pick}
 use Rattle.text.specs.Parts.{Digits}
 

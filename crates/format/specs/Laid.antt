@@ -1,5 +1,5 @@
 -- A reading as the code's record lays it out.
-use Rattle.std.specs.Prelude.{Bool, true, false, List, [], ◌∷◌, ◌++◌, map, ℕ, ◌-◌, length, replicate}
+use Rattle.std.specs.Prelude.{List, ◌++◌, map, ℕ, ◌-◌, length, replicate}
 use Rattle.format.specs.Format.{Kind, skip, text, integer, real, Field}
 use Rattle.format.specs.Reading.{Reading, malformed, too_large, fields}
 use Rattle.format.specs.declared.Fields.{Fields}

@@ -1,14 +1,14 @@
 -- Items without brackets are read as they are spelled, in both directions. What stands from a byte on is given by `drop`.
-use Rattle.std.specs.Prelude.{◌≡◌, refl, Bool, true, false, ◌&&◌, ◌||◌, List, [], ◌∷◌, ◌++◌, ℕ, zero, suc, ◌+◌, ◌-◌, ◌*◌, ◌≤◌, ◌<◌, ltb, leb, eqb, length, take, drop, get_or}
-use Rattle.std.proofs.Common.{sym, ap, ◌∙◌, append_assoc, arith, add-one, ltb-true, ltb-false, leb-true, eqb-true, lt-ltb, le-leb, eq-eqb, ne_eqb, length-append, drop-cons, drop-drop, get_or-drop}
+use Rattle.std.specs.Prelude.{◌≡◌, refl, Bool, true, false, ◌&&◌, ◌||◌, List, [], ◌∷◌, ◌++◌, ℕ, suc, ◌+◌, ◌≤◌, ◌<◌, ltb, leb, eqb, length, drop, get_or}
+use Rattle.std.proofs.Common.{sym, ap, ◌∙◌, append_assoc, arith, add-one, ltb-true, ltb-false, leb-true, eqb-true, lt-ltb, le-leb, length-append, drop-cons, drop-drop, get_or-drop}
 use Rattle.std.proofs.Math.ListN.{get_or-eq_default}
 use Rattle.std.proofs.Math.Seq.{drop-append_seam}
 use Rattle.laws.specs.Choice.{pick}
 use Rattle.laws.specs.ChoiceLaws.{false_not_true, and_left, and_right}
 use Rattle.text.specs.Parts.{Digits, Digits.none as no_digit, more, is_digit}
-use Rattle.format.specs.Format.{Kind, skip, text, integer, real, Count, once, times, Format, Numeral, nought, from, Counted, left_out, written, Width, width, Letter, E, D, Plain, skips, texts, integers, reals}
+use Rattle.format.specs.Format.{Kind, skip, text, integer, real, Count, once, times, Numeral, nought, from, Counted, Width, width, Letter, E, D, Plain, skips, texts, integers, reals}
 use Rattle.format.specs.Reading.{Number, digits_before, number_of, count_of, Counting, Leaf, none, some, width_of, decimals_of, pointed, real_of, scaled_of, is_one, leaf_of}
-use Rattle.format.specs.NumberLaws.{numeral_complete, number_sound, number_some, count_complete, count_sound, NumberRead, CountRead}
+use Rattle.format.specs.NumberLaws.{numeral_complete, number_sound, number_some, count_complete, count_sound, CountRead}
 
 -- The byte at a place, what follows it, and what follows a few.
 
@@ -277,10 +277,16 @@ digits_least : {m v : ℕ} {ds : List ℕ} → Digits m ds v → m ≤ v
 digits_least no_digit = omega arith
 digits_least (more low high r) = omega (arith, digits_least r)
 
+one_ends : {m v : ℕ} {ds : List ℕ} → 1 ≤ m → v ≡ 1 → Digits m ds v → (m ≡ 1) × (ds ≡ [])
+one_ends p e no_digit = (e, refl)
+one_ends p e (more low high r) = absurd (omega (arith, digits_least r))
+
 pub one_spelled : {v : ℕ} {ns : List ℕ} → v ≡ 1 → Numeral v ns → ns ≡ 49 ∷ []
 one_spelled e nought = absurd (omega arith)
-one_spelled e (from {b} low (more l h no_digit)) = let is : b ≡ 49 = omega arith in ap (λ (x : ℕ). x ∷ []) is
-one_spelled e (from {b} low (more l h (more l' h' r))) = absurd (omega (arith, digits_least r))
+one_spelled e (from {b} low (more l h r)) =
+    let ends = one_ends (omega arith) e r in
+    let is : b ≡ 49 = omega (arith, ends.0) in
+    rw (is, ends.1) refl
 
 -- a width that is read is at most 80
 pub width_most : (d c : Count) (j k : Kind) (w n at : ℕ) (l : List ℕ) → width_of d j at l ≡ some c k w n → w ≤ 80

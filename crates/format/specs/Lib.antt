@@ -8,10 +8,5 @@ pub mod ReadingLaws
 pub mod Laid
 pub mod Measured
 pub mod Row
-pub mod MeasuredLaws
-pub mod StepLaws
-pub mod RowLaws
-pub mod LayLaws
-pub mod AnswerLaws
 pub mod Computed
 pub mod Examples

@@ -1,10 +1,10 @@
 -- Items and lists are read as they are spelled, in both directions.
 use Rattle.std.specs.Prelude.{◌≡◌, refl, Bool, true, false, List, [], ◌∷◌, ◌++◌, ℕ, zero, suc, ◌+◌, ◌≤◌, ◌<◌, eqb, length, drop, get_or}
-use Rattle.std.proofs.Common.{sym, ap, ◌∙◌, append_assoc, append-nil, arith, eqb-true, length-append, get_or-drop}
+use Rattle.std.proofs.Common.{sym, ap, ◌∙◌, append_assoc, arith, length-append, get_or-drop}
 use Rattle.laws.specs.Choice.{pick}
-use Rattle.text.specs.Parts.{Digits, Digits.none as no_digit, Digits.more as digit, is_digit}
-use Rattle.format.specs.Format.{Kind, skip, text, integer, real, Count, once, times, Format, plain, group, join, Numeral, nought, from, Counted, left_out, written, Letter, E, D, Plain, skips, texts, integers, reals, Sort, item, list, Spelled, counted, scaled, brackets, last, more}
-use Rattle.format.specs.Reading.{choose, digits_before, Counting, count_of, Leaf, Parsed, none, some, leaf_of, leaf, closed, joined, item_after, list_after, item_of, list_of}
+use Rattle.text.specs.Parts.{Digits.none as no_digit, Digits.more as digit, is_digit}
+use Rattle.format.specs.Format.{Kind, real, Count, times, Format, plain, group, join, from, Counted, left_out, written, E, D, Plain, skips, texts, integers, reals, Sort, item, list, Spelled, counted, scaled, brackets, last, more}
+use Rattle.format.specs.Reading.{digits_before, Counting, count_of, Leaf, Parsed, none, some, leaf_of, leaf, closed, joined, item_after, list_after, item_of, list_of}
 use Rattle.format.specs.NumberLaws.{count_complete, count_sound, CountRead}
 use Rattle.format.specs.LeafLaws.{byte_at, past_byte_lem, past_bytes, byte_there, Tail, LeafRead, as_counted, as_scaled, leaf_complete, leaf_sound, scaled_complete, one_spelled}
 

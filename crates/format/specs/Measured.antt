@@ -1,7 +1,7 @@
 -- What the code keeps of numbers, items and lists: bounded numbers, each past its bound alike.
-use Rattle.std.specs.Prelude.{Bool, true, false, ◌||◌, List, ℕ, ◌+◌, ◌-◌, ◌*◌, min, max, ltb, leb, eqb, drop, get_or}
+use Rattle.std.specs.Prelude.{Bool, true, false, ◌||◌, List, ℕ, ◌+◌, ◌-◌, ◌*◌, min, ltb, leb, eqb, drop, get_or}
 use Rattle.laws.specs.Choice.{pick}
-use Rattle.format.specs.Format.{Kind, Count, once, times, number, Format, depth, groups, columns}
+use Rattle.format.specs.Format.{Count, once, times, number, depth, groups, columns}
 use Rattle.format.specs.Reading.{Number, number_of, count_of, Counting, Leaf, Parsed, none, some}
 use Rattle.format.specs.Laid.{kind_number}
 use Rattle.format.specs.declared.Figure.{Figure}

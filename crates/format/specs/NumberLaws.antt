@@ -1,6 +1,6 @@
 -- Numbers and counts are read as they are spelled, in both directions; the laws of a loop over digits.
-use Rattle.std.specs.Prelude.{◌≡◌, refl, Bool, true, false, ◌&&◌, List, [], ◌∷◌, ◌++◌, ℕ, zero, suc, ◌+◌, ◌-◌, ◌*◌, ◌≤◌, ◌<◌, min, ltb, eqb, length, take, drop, get_or}
-use Rattle.std.proofs.Common.{sym, ap, ◌∙◌, add-one, arith, ltb-true, ltb-false, eqb-true, lt-ltb, le-ltb, eq-eqb, ne_eqb, take-append-drop, drop_of_length-le, drop-cons, length-take-le}
+use Rattle.std.specs.Prelude.{◌≡◌, refl, Bool, true, false, ◌&&◌, List, [], ◌∷◌, ◌++◌, ℕ, zero, suc, ◌+◌, ◌-◌, ◌*◌, ◌≤◌, ◌<◌, ltb, eqb, length, take, drop, get_or}
+use Rattle.std.proofs.Common.{sym, ap, ◌∙◌, add-one, arith, eqb-true, lt-ltb, ne_eqb, take-append-drop, drop_of_length-le, drop-cons, length-take-le}
 use Rattle.std.proofs.lemmas.Bool.{eqb-false}
 use Rattle.std.proofs.Math.Seq.{take-append_seam}
 use Rattle.laws.specs.Choice.{pick}
@@ -9,7 +9,7 @@ use Rattle.laws.specs.Run.{run}
 use Rattle.text.specs.Parts.{Digits, Digits.none as no_digit, more, is_digit}
 use Rattle.text.specs.PartsLaws.{is_digit_low, is_digit_high, is_digit_complete}
 use Rattle.format.specs.Format.{Count, once, times, Numeral, nought, from, Counted, left_out, written}
-use Rattle.format.specs.Reading.{digits_before, with_digit, Number, numbered, number_in, number_of, Counting, none, some, count_of}
+use Rattle.format.specs.Reading.{digits_before, with_digit, numbered, number_in, number_of, Counting, none, some, count_of}
 
 -- a loop that looks for a byte that is no digit: one digit more, the byte, the end
 pub digits_before_next : (l : List ℕ) (i : ℕ) → i < length l → is_digit (get_or l i 0) ≡ true → digits_before (drop i l) ≡ suc (digits_before (drop (i + 1) l))

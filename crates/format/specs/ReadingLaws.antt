@@ -1,12 +1,12 @@
 -- How a FORMAT text is read agrees with the grammar: what is read is a FORMAT, every FORMAT is read, as one list of fields only, 26 is given for nothing
 -- else, and 27 exactly where it is too large.
-use Rattle.std.specs.Prelude.{◌≡◌, refl, Bool, true, false, ◌&&◌, List, [], ◌++◌, ℕ, suc, ◌+◌, ◌≤◌, leb, eqb, length, drop}
-use Rattle.std.proofs.Common.{sym, ap, ◌∙◌, append-nil, arith, leb-true, leb-false, eqb-true, le-leb, eq-eqb}
+use Rattle.std.specs.Prelude.{◌≡◌, refl, Bool, true, false, ◌&&◌, List, [], ◌++◌, ℕ, suc, ◌+◌, ◌≤◌, leb, eqb, length}
+use Rattle.std.proofs.Common.{sym, ap, ◌∙◌, append-nil, arith, leb-true, eqb-true, le-leb, eq-eqb}
 use Rattle.std.proofs.Math.Seq.{drop-length}
 use Rattle.laws.specs.ChoiceLaws.{false_not_true, and_left, and_right, and_both}
-use Rattle.format.specs.Format.{Field, Format, Sort, item, list, Spelled, fields_of, span, columns, groups, unblanked, Text, Fits, Wide}
-use Rattle.format.specs.Reading.{choose, Parsed, none, some, list_of, Reading, malformed, too_large, fields, fitting, whole_of, packed_reading, reading_of}
-use Rattle.format.specs.ListLaws.{Follows, end, Read, after_read, read_complete, list_sound}
+use Rattle.format.specs.Format.{Field, Format, list, Spelled, fields_of, span, columns, groups, unblanked, Text, Fits, Wide}
+use Rattle.format.specs.Reading.{Parsed, none, some, list_of, Reading, malformed, too_large, fields, fitting, whole_of, packed_reading, reading_of}
+use Rattle.format.specs.ListLaws.{end, Read, after_read, read_complete, list_sound}
 use Rattle.format.specs.FieldsLaws.{columns_span, spelled_wide, wide_count}
 
 -- a FORMAT's bytes without blanks are parsed as it

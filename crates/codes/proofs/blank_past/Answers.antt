@@ -7,15 +7,15 @@ use Rattle.codes.proofs.blank_past.Goals as goal
 
 pub returns-in-14 : goal.returns-in-14
 unfolding form_of forms
-returns-in-14 c = rw c.in-14.keys1 refl
+returns-in-14 c = rw c.in-14.is refl
 
 pub returns-in-15 : goal.returns-in-15
 unfolding form_of forms
-returns-in-15 c = rw c.in-15.keys2 refl
+returns-in-15 c = rw c.in-15.is refl
 
 pub returns-in-17 : goal.returns-in-17
 unfolding form_of forms
-returns-in-17 c = rw c.in-17.keys3 refl
+returns-in-17 c = rw c.in-17.is refl
 
 pub returns-in_default : goal.returns-in_default
-returns-in_default c = rw (optional_of_never c.args.form c.in_default.rest.0.0.1 c.in_default.rest.0.1 c.in_default.rest.1 (omega arith)) refl
+returns-in_default c = rw (optional_of_never c.args.form (omega arith) (omega arith) (omega arith) (omega arith)) refl

@@ -12,17 +12,17 @@ use Rattle.codes.proofs.is_ordinate_type.Goals as goal
 
 pub returns-in-2 : goal.returns-in-2
 unfolding keeps
-returns-in-2 c = rw c.in-2.keys1 refl
+returns-in-2 c = rw c.in-2.is refl
 
 pub returns-in-4-to-6 : goal.returns-in-4-to-6
 unfolding keeps
 returns-in-4-to-6 c = sym (in_range (λ v. keeps ordinate_type (pos v)) true 4 3 c.args.code refl (omega arith) (omega arith))
 
+pub returns-in_default-2 : goal.returns-in_default-2
+returns-in_default-2 c = sym (keeps_past ordinate_type 7 _ refl (omega arith))
+
 pub returns-in_default : goal.returns-in_default
 unfolding keeps
 returns-in_default c =
     let code = c.args.code in
-    simp (ne_eqb code 2 c.in_default-1.rest.1, ne_eqb code 4 (omega arith), ne_eqb code 5 (omega arith), ne_eqb code 6 (omega arith))
-
-pub returns-in_default-2 : goal.returns-in_default-2
-returns-in_default-2 c = sym (keeps_past ordinate_type 7 _ refl (omega arith))
+    simp (ne_eqb code 2 (omega arith), ne_eqb code 4 (omega arith), ne_eqb code 5 (omega arith), ne_eqb code 6 (omega arith))

@@ -1,0 +1,5 @@
+pub mod MeasuredLaws
+pub mod StepLaws
+pub mod RowLaws
+pub mod LayLaws
+pub mod AnswerLaws
