@@ -45,7 +45,7 @@ def blocks(text):
             comment.append(line)
         elif line[0].isspace():
             block.append(line)
-        elif line.startswith("unfolding") and block:
+        elif block and (line.startswith("unfolding") or not HEAD.match(line)):
             block.append(line)
         else:
             name = "use" if line.startswith("use ") else HEAD.match(line)[1]
@@ -261,7 +261,8 @@ def convert(crate, folder, names, said, named):
         body = f.turn(body, goal[1], f"{who} {goal[0]}")
         if body.strip() == "search rules" and not unfold:
             continue
-        answers.append((comment, goal[0], unfold, body))
+        more = [p for p in params[1:] if not p.startswith("κ")]
+        answers.append((comment, goal[0], unfold, " ".join(["c", *more]), body))
 
     # what the invariants need of the file's own
     needed, text_of = set(), "\n".join(b for _, _, b in invariants)
@@ -292,9 +293,9 @@ def convert(crate, folder, names, said, named):
     local = [h for h in helpers if h[0] not in needed]
     for name, comment, code in local:
         out += comment_lines(comment) + code + "\n\n"
-    for comment, name, unfold, body in answers:
+    for comment, name, unfold, params, body in answers:
         out += comment_lines(comment) + f"pub {name} : goal.{name}\n" + "".join(u + "\n" for u in unfold)
-        out += f"{name} c =" + (" " if "\n" not in body else "\n    ") + body + "\n\n"
+        out += f"{name} {params} =" + (" " if "\n" not in body else "\n    ") + body + "\n\n"
     if answers:
         top = uses(imports, out)
         of_invariants = [n for n in sorted(needed) if used(n, out)]
