@@ -10,10 +10,10 @@ use Rattle.text.specs.Blank.{Blanks, all_blank}
 use Rattle.text.specs.BlankLaws.{all_blank_complete, all_blank_sound}
 use Rattle.text.specs.Parts.{Digits, none, more}
 use Rattle.text.specs.Text.{Unpadded, TextIn, text_in_lem, trimmed}
-use Rattle.text.specs.TextLaws.{trimmed_complete, trimmed_sound}
+use Rattle.text.proofs.TextLaws.{trimmed_complete, trimmed_sound}
 use Rattle.integer.specs.Spelling.{IntegerSpelling, spelled}
 use Rattle.integer.specs.Integer.{integer_of}
-use Rattle.integer.specs.IntegerLaws.{integer_of_complete, integer_of_value}
+use Rattle.integer.proofs.IntegerLaws.{integer_of_complete, integer_of_value}
 use Rattle.integer.specs.declared.Integer.{Integer}
 use Rattle.integer.specs.declared.Integer.TheVariants.{Blank, Malformed, OutOfRange, Value}
 use Rattle.delimiter.specs.Kind.{Delimiter, delimiter, NumberLine, number_line, then_blank, is_delimiter, positive, dataset_number}

@@ -8,7 +8,7 @@ use native.Mathlib.Omega.{arith}
 use Rattle.laws.specs.Choice.{pick}
 use Rattle.laws.specs.ChoiceLaws.{below_or_not}
 use Rattle.real.specs.Real.{real_of}
-use Rattle.real.specs.RealLaws.{real_of_sound}
+use Rattle.real.proofs.RealLaws.{real_of_sound}
 use Rattle.real.specs.declared.Real.{Real}
 use Rattle.real.specs.declared.Real.TheVariants as R
 use Rattle.format.specs.Format.{Kind}

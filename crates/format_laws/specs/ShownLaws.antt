@@ -6,14 +6,14 @@ use native.Mathlib.Omega.{arith}
 use Rattle.std.proofs.Common.{le-ltb}
 use Rattle.laws.specs.Choice.{pick}
 use Rattle.text.specs.Text.{TextIn, trimmed}
-use Rattle.text.specs.TextLaws.{trimmed_sound}
+use Rattle.text.proofs.TextLaws.{trimmed_sound}
 use Rattle.integer.specs.Spelling.{IntegerSpelling}
 use Rattle.integer.specs.Integer.{integer_of}
-use Rattle.integer.specs.IntegerLaws.{integer_of_value}
+use Rattle.integer.proofs.IntegerLaws.{integer_of_value}
 use Rattle.integer.specs.declared.Integer.{Integer}
 use Rattle.integer.specs.declared.Integer.TheVariants.{Blank, Malformed, OutOfRange, Value}
 use Rattle.real.specs.Real.{real_of}
-use Rattle.real.specs.RealLaws.{real_of_sound}
+use Rattle.real.proofs.RealLaws.{real_of_sound}
 use Rattle.real.specs.declared.Real.{Real}
 use Rattle.real.specs.declared.Real.TheVariants as R
 use Rattle.codes.specs.Rule.{Rule}

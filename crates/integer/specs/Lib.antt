@@ -1,3 +1,2 @@
 pub mod Spelling
 pub mod Integer
-pub mod IntegerLaws

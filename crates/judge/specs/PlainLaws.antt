@@ -13,7 +13,7 @@ use Rattle.text.specs.BlankLaws.{all_blank_complete, blanks_take, blanks_replica
 use Rattle.text.specs.Parts.{Sign, Digits}
 use Rattle.integer.specs.Spelling.{IntegerSpelling, spelled}
 use Rattle.integer.specs.Integer.{integer_of}
-use Rattle.integer.specs.IntegerLaws.{integer_of_value}
+use Rattle.integer.proofs.IntegerLaws.{integer_of_value}
 use Rattle.line.specs.Line.{passed, Allowed, is_allowed, without_return, columns, first_bad, line_fault, filled}
 use Rattle.line.specs.LineLaws.{allowed_append, line_fault_complete, filled_short}
 use Rattle.delimiter.specs.Kind.{Delimiter, delimiter, positive, dataset_number}

@@ -4,7 +4,7 @@ use Rattle.std.proofs.Math.Path.{refl, ap}
 use Rattle.std.proofs.Common.{◌∙◌, arith, lt-ltb, length-append}
 use mathlib.Core.List.{List, [], ◌∷◌, ◌++◌, append_assoc, append-nil}
 use Rattle.text.specs.Text.{TextIn}
-use Rattle.text.specs.TextLaws.{trimmed_complete}
+use Rattle.text.proofs.TextLaws.{trimmed_complete}
 use Rattle.line.specs.Line.{filled}
 use Rattle.line.specs.LineLaws.{filled_length}
 use Rattle.delimiter.specs.Kind.{Delimiter, NumberLine, number_line}

@@ -4,7 +4,7 @@ use Rattle.std.proofs.Common.{sym, ap, ◌∙◌, subst, append_assoc, append-ni
 use Rattle.laws.specs.Choice.{pick}
 use Rattle.text.specs.Blank.{Blanks, all_blank}
 use Rattle.text.specs.Text.{trimmed}
-use Rattle.text.specs.TextLaws.{trimmed_sound}
+use Rattle.text.proofs.TextLaws.{trimmed_sound}
 use Rattle.line.specs.Line.{filled}
 use Rattle.line.specs.LineLaws.{filled_length}
 use Rattle.delimiter.specs.Kind.{Delimiter, NumberLine, is_delimiter, dataset_number}

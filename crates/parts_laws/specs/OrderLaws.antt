@@ -12,7 +12,7 @@ use Rattle.std.proofs.Math.ListN.{length, get_or}
 use Rattle.std.proofs.lemmas.List.{length-map}
 use Rattle.line.specs.Line.{columns}
 use Rattle.line.specs.LineLaws.{columns_within}
-use Rattle.real.specs.RealLaws.{real_of_complete}
+use Rattle.real.proofs.RealLaws.{real_of_complete}
 use Rattle.layout.specs.Columns.{field_start, field_past, line_of, field_of}
 use Rattle.layout.specs.ColumnsLaws.{stored_apart}
 use Rattle.layout.specs.Layout.{layout_of, fields_of}

@@ -2,7 +2,7 @@
 use Rattle.std.specs.Prelude.{◌≡◌, List, [], ℕ, ◌+◌, ◌-◌, ◌<◌, get_or, take, drop}
 use Rattle.std.proofs.Common.{sym, subst, arith}
 use Rattle.real.specs.Real.{number_of}
-use Rattle.real.specs.RealLaws.{real_of_complete}
+use Rattle.real.proofs.RealLaws.{real_of_complete}
 use Rattle.layout.specs.Columns.{field_start, field_past, line_of, field_of}
 use Rattle.layout.specs.Layout.{layout_of, fields_of}
 use Rattle.layout.specs.LayoutLaws.{field_inside}

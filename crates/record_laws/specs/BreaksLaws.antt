@@ -13,12 +13,12 @@ use Rattle.laws.specs.RangesLaws.{in_range}
 use Rattle.text.specs.Blank.{Blanks}
 use Rattle.integer.specs.Spelling.{IntegerSpelling, limit}
 use Rattle.integer.specs.Integer.{integer_of}
-use Rattle.integer.specs.IntegerLaws.{integer_of_value, integer_of_complete}
+use Rattle.integer.proofs.IntegerLaws.{integer_of_value, integer_of_complete}
 use Rattle.integer.specs.declared.Integer.{Integer}
 use Rattle.integer.specs.declared.Integer.TheVariants as I
 use Rattle.real.specs.Spelling.{RealSpelling}
 use Rattle.real.specs.Real.{real_of}
-use Rattle.real.specs.RealLaws.{real_of_complete, real_of_blank}
+use Rattle.real.proofs.RealLaws.{real_of_complete, real_of_blank}
 use Rattle.line.specs.Line.{refusal, passed}
 use Rattle.line.specs.declared.Refusal.{Refusal}
 use Rattle.codes.specs.Form.{real}

@@ -11,11 +11,11 @@ use Rattle.text.specs.BlankLaws.{all_blank_complete, all_blank_sound}
 use Rattle.text.specs.Parts.{signed}
 use Rattle.integer.specs.Spelling.{IntegerSpelling, limit}
 use Rattle.integer.specs.Integer.{integer_of}
-use Rattle.integer.specs.IntegerLaws.{integer_of_value, integer_of_range, integer_of_blanks, integer_of_malformed, integer_of_complete, integer_of_blank, integer_of_otherwise}
+use Rattle.integer.proofs.IntegerLaws.{integer_of_value, integer_of_range, integer_of_blanks, integer_of_malformed, integer_of_complete, integer_of_blank, integer_of_otherwise}
 use Rattle.integer.specs.declared.Integer.{Integer}
 use Rattle.integer.specs.declared.Integer.TheVariants as I
 use Rattle.real.specs.Real.{real_of}
-use Rattle.real.specs.RealLaws.{real_of_sound, real_of_blanks, real_of_malformed, real_of_complete, real_of_blank, real_of_otherwise}
+use Rattle.real.proofs.RealLaws.{real_of_sound, real_of_blanks, real_of_malformed, real_of_complete, real_of_blank, real_of_otherwise}
 use Rattle.real.specs.declared.Real.{Real}
 use Rattle.real.specs.declared.Real.TheVariants as R
 use Rattle.codes.specs.Rule.{Rule, keeps}

@@ -8,15 +8,15 @@ use Rattle.laws.specs.ChoiceLaws.{pick_passed}
 use Rattle.text.specs.Blank.{Blanks, none, one, all_blank}
 use Rattle.text.specs.BlankLaws.{all_blank_complete, all_blank_sound}
 use Rattle.text.specs.Text.{TextIn, text_in_lem, empty, trimmed}
-use Rattle.text.specs.TextLaws.{trimmed_complete, trimmed_sound}
+use Rattle.text.proofs.TextLaws.{trimmed_complete, trimmed_sound}
 use Rattle.text.specs.Parts.{signed}
 use Rattle.integer.specs.Spelling.{IntegerSpelling, limit}
 use Rattle.integer.specs.Integer.{integer_of}
-use Rattle.integer.specs.IntegerLaws.{integer_of_complete, integer_of_blank, integer_of_value, integer_of_blanks}
+use Rattle.integer.proofs.IntegerLaws.{integer_of_complete, integer_of_blank, integer_of_value, integer_of_blanks}
 use Rattle.integer.specs.declared.Integer.{Integer}
 use Rattle.integer.specs.declared.Integer.TheVariants.{Blank, Malformed, OutOfRange, Value}
 use Rattle.real.specs.Real.{real_of}
-use Rattle.real.specs.RealLaws.{real_of_complete, real_of_sound}
+use Rattle.real.proofs.RealLaws.{real_of_complete, real_of_sound}
 use Rattle.real.specs.EndLaws.{signed_size}
 use Rattle.real.specs.declared.Real.{Real}
 use Rattle.real.specs.declared.Real.TheVariants as R

@@ -11,7 +11,7 @@ use Rattle.laws.specs.ChoiceLaws.{and_left, and_right, and_both, below_or_not}
 use Rattle.text.specs.Blank.{Blanks, none, one, all_blank}
 use Rattle.text.specs.BlankLaws.{all_blank_complete, all_blank_sound}
 use Rattle.integer.specs.Integer.{integer_of}
-use Rattle.integer.specs.IntegerLaws.{integer_of_blank}
+use Rattle.integer.proofs.IntegerLaws.{integer_of_blank}
 use Rattle.integer.specs.declared.Integer.{Integer}
 use Rattle.integer.specs.declared.Integer.TheVariants.{Blank, Malformed, OutOfRange, Value}
 use Rattle.codes.specs.Form.{Form, skip, text, identification, real, integer, never, within, optional_of}

@@ -14,7 +14,7 @@ use Rattle.laws.specs.ChoiceLaws.{and_left, and_right, false_not_true}
 use Rattle.laws.specs.CutLaws.{tail_part}
 use Rattle.text.specs.Blank.{Blanks, none, all_blank}
 use Rattle.text.specs.BlankLaws.{all_blank_complete, all_blank_sound}
-use Rattle.text.specs.TextLaws.{trimmed_sound}
+use Rattle.text.proofs.TextLaws.{trimmed_sound}
 use Rattle.line.specs.Line.{passed}
 use Rattle.codes.specs.Form.{Form, skip, text, identification, real, integer}
 use Rattle.layout.specs.Columns.{total}

@@ -13,7 +13,7 @@ use Rattle.laws.specs.Choice.{pick}
 use Rattle.laws.specs.ChoiceLaws.{below_or_not}
 use Rattle.laws.specs.Cut.{cut, line_len}
 use Rattle.text.specs.Text.{trimmed}
-use Rattle.text.specs.TextLaws.{trimmed_take, trimmed_most}
+use Rattle.text.proofs.TextLaws.{trimmed_take, trimmed_most}
 use Rattle.line.specs.Line.{columns}
 use Rattle.line.specs.LineLaws.{columns_take, columns_within, line_len_within}
 use Rattle.parts.specs.Parts.{bytes_in, Part, line_start, last_line, last_start, closing_start}

@@ -9,7 +9,7 @@ use Rattle.laws.specs.Choice.{pick}
 use Rattle.laws.specs.Cut.{cut, text}
 use Rattle.text.specs.Blank.{Blanks, Blanks.none as no_blank, Blanks.one as blank, all_blank}
 use Rattle.text.specs.Text.{TextIn, text_in_lem, trimmed}
-use Rattle.text.specs.TextLaws.{trimmed_take}
+use Rattle.text.proofs.TextLaws.{trimmed_take}
 use Rattle.line.specs.Line.{Allowed, Allowed.none as no_byte, Allowed.more as byte, columns, without_return, filled, line_fault, passed}
 use Rattle.line.specs.LineLaws.{filled_short, line_fault_sound}
 use Rattle.delimiter.specs.Kind.{is_delimiter, then_blank}

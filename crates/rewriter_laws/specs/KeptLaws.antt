@@ -7,7 +7,7 @@ use Rattle.std.proofs.Math.ListN.{get_or-map}
 use Rattle.laws.specs.Choice.{pick}
 use Rattle.text.specs.Blank.{Blanks.none as no_blank}
 use Rattle.text.specs.Text.{Unpadded, TextIn, text_in_lem, trimmed}
-use Rattle.text.specs.TextLaws.{trimmed_complete, trimmed_sound, trimmed_most}
+use Rattle.text.proofs.TextLaws.{trimmed_complete, trimmed_sound, trimmed_most}
 use Rattle.line.specs.Line.{columns, without_return, filled}
 use Rattle.field.specs.Item.{Item}
 use Rattle.record_table.specs.Row.{Row}

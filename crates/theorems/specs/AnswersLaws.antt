@@ -7,7 +7,7 @@ use Rattle.laws.specs.ChoiceLaws.{pick_same}
 use Rattle.real.specs.declared.Real.TheVariants.{Value}
 use Rattle.real.specs.declared.Real.{Real}
 use Rattle.real.specs.Real as Real
-use Rattle.real.specs.RealLaws.{real_of_complete}
+use Rattle.real.proofs.RealLaws.{real_of_complete}
 use Rattle.real.specs.EndLaws.{signed_size}
 use Rattle.real.specs.declared.Number.{Number}
 use Rattle.text.specs.Parts.{signed}

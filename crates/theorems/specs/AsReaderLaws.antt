@@ -3,7 +3,7 @@ use Rattle.std.specs.Prelude.{◌≡◌, refl, List, ℕ, suc, ◌<◌, take}
 use Rattle.std.proofs.Common.{sym, ap, subst, ◌∙◌}
 use Rattle.std.proofs.Math.IntN.{nat_abs}
 use Rattle.real.specs.Real.{below_zero, number_of, real_of}
-use Rattle.real.specs.RealLaws.{real_of_complete}
+use Rattle.real.proofs.RealLaws.{real_of_complete}
 use Rattle.real.specs.declared.Real.TheVariants.{Value}
 use Rattle.layout.specs.Columns.{field_start, field_past}
 use Rattle.layout.specs.ColumnsLaws.{field_of_inside}

@@ -9,7 +9,7 @@ use Rattle.line.specs.Line.{Allowed}
 use Rattle.line.specs.LineLaws.{allowed_append}
 use Rattle.real.specs.Spelling.{Letter, ExponentSign, ExponentSpelling, TwoOrThree, RealSpelling, spelled}
 use Rattle.real.specs.Real.{real_of, number_of}
-use Rattle.real.specs.RealLaws.{real_of_complete}
+use Rattle.real.proofs.RealLaws.{real_of_complete}
 use Rattle.real.specs.declared.Number.{Number}
 use Rattle.real.specs.declared.Real.TheVariants.{Value}
 use Rattle.usual_columns.specs.Cells.{Cell, Takes, blank, minus, digit, digit_to, point, lettered, sign, exponent_cells, field_cells, Fits}

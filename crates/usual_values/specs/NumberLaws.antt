@@ -19,7 +19,7 @@ use Rattle.real.specs.Real.{at, scaled, real_end, real_of}
 use Rattle.real.specs.EndLaws.{real_end_minus, real_end_less, real_end_rest}
 use Rattle.real.specs.StepLaws.{digit_below, below_more}
 use Rattle.real.specs.Plain.{between, Few}
-use Rattle.real.specs.PlainLaws.{digits_next, lettered_last, plain_front, columns_real}
+use Rattle.real.proofs.PlainLaws.{digits_next, lettered_last, plain_front, columns_real}
 use Rattle.exact.specs.Exact.{magnitude_of, with_sign, exact_of}
 use Rattle.exact.specs.ExactLaws.{magnitude_of_times, magnitude_of_divided}
 use Rattle.exact.specs.Bits.{bits_of}

@@ -17,8 +17,8 @@ use Rattle.real.specs.Real.{at, is_letter, scaled, real_end, real_of}
 use Rattle.real.specs.EndLaws.{real_end_value, real_end_minus, real_end_less, real_end_rest}
 use Rattle.real.specs.StepLaws.{digit_below, below_more}
 use Rattle.real.specs.Rest.{exponent, part, whole, FromStart, columns}
-use Rattle.real.specs.RestLaws.{spelled_rest}
-use Rattle.real.specs.RealLaws.{real_of_complete}
+use Rattle.real.proofs.RestLaws.{spelled_rest}
+use Rattle.real.proofs.RealLaws.{real_of_complete}
 use Rattle.exact.specs.Exact.{exact_of}
 use Rattle.reader.specs.Reader.{read_of}
 use Rattle.values.specs.Fill.{refusal_of}

@@ -12,7 +12,7 @@ use Rattle.line.specs.LineLaws.{filled_short, columns_allowed}
 use Rattle.real.specs.declared.Number.{Number}
 use Rattle.real.specs.declared.Real.TheVariants.{Value}
 use Rattle.real.specs.Real.{number_of}
-use Rattle.real.specs.RealLaws.{real_of_complete}
+use Rattle.real.proofs.RealLaws.{real_of_complete}
 use Rattle.real.specs.EndLaws.{signed_size}
 use Rattle.layout.specs.Columns.{field_start, line_of, field_of}
 use Rattle.layout.specs.ColumnsLaws.{field_of_inside, stored_at}

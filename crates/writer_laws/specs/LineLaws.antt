@@ -5,7 +5,7 @@ use mathlib.Core.List.{List, [], ◌∷◌, ◌++◌, map, append_assoc, append-
 use Rattle.text.specs.Blank.{Blanks}
 use Rattle.text.specs.BlankLaws.{blanks_replicate}
 use Rattle.text.specs.Text.{last, Unpadded.more as byte, TextIn, text_in_lem, trimmed}
-use Rattle.text.specs.TextLaws.{trimmed_complete}
+use Rattle.text.proofs.TextLaws.{trimmed_complete}
 use Rattle.line.specs.Line.{Allowed, Allowed.none as no_byte, filled, line_fault, passed}
 use Rattle.line.specs.LineLaws.{filled_short, line_fault_complete, allowed_append, columns_allowed}
 use Rattle.delimiter.specs.Kind.{Delimiter, delimiter, is_delimiter}

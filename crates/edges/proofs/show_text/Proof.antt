@@ -1,7 +1,7 @@
 -- `edges::show_text` is safe and ends: a text's length is at most its columns'.
 use mathlib.Core.Path.{sym, ap}
 use lib.ListN.{length}
-use Rattle.text.specs.TextLaws.{trimmed_take}
+use Rattle.text.proofs.TextLaws.{trimmed_take}
 use borrow.Author.Rules.{rules}
 use Rattle.edges.proofs.show_text.Statement.{statement}
 use Rattle.edges.proofs.show_text.Tie as tie

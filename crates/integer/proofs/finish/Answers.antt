@@ -3,7 +3,7 @@ use mathlib.Core.Bool.{true, false}
 use mathlib.Core.Path.{sym}
 use borrow.Author.Tests.{le-leb, lt-leb, eq-eqb, ne_eqb}
 use Rattle.integer.specs.Integer.{end_integer}
-use Rattle.integer.specs.IntegerLaws.{end_integer_number}
+use Rattle.integer.proofs.IntegerLaws.{end_integer_number}
 use Rattle.integer.proofs.finish.Goals as goal
 
 pub returns-then-s-eq0 : goal.returns-then-s-eq0

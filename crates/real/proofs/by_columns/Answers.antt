@@ -2,7 +2,7 @@
 use mathlib.Core.Path.{refl, ◌∙◌}
 use mathlib.Core.Logic.{inl, inr}
 use native.Mathlib.Omega.{arith}
-use Rattle.real.specs.PlainLaws.{columns_real}
+use Rattle.real.proofs.PlainLaws.{columns_real}
 use Rattle.real.proofs.by_columns.Goals as goal
 
 pub returns-then-e-gt999 : goal.returns-then-e-gt999

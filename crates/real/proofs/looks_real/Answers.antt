@@ -2,7 +2,7 @@
 use Prim.Native.Nat.{◌≤◌}
 use borrow.Author.Tests.{leb-true}
 use Rattle.laws.specs.ChoiceLaws.{false_not_true}
-use Rattle.real.specs.PlainLaws.{shifted_front, looks_valued}
+use Rattle.real.proofs.PlainLaws.{shifted_front, looks_valued}
 use native.Mathlib.Omega.{arith}
 use Rattle.real.proofs.looks_real.Goals as goal
 

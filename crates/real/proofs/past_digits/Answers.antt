@@ -1,6 +1,6 @@
 use mathlib.Core.Path.{sym, ◌∙◌}
 use Prim.Native.Nat.{◌-◌}
-use Rattle.real.specs.PlainLaws.{digits_further}
+use Rattle.real.proofs.PlainLaws.{digits_further}
 use borrow.Author.Rules.{rules}
 use native.Mathlib.Omega.{arith}
 use Rattle.real.proofs.past_digits.Goals as goal

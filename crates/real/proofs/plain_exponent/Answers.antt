@@ -1,7 +1,7 @@
 -- `real::plain_exponent` meets its contract.
 use mathlib.Core.Path.{sym, ◌∙◌}
 use native.Mathlib.Omega.{arith}
-use Rattle.real.specs.PlainLaws.{lettered_last, bare_last}
+use Rattle.real.proofs.PlainLaws.{lettered_last, bare_last}
 use Rattle.real.proofs.plain_exponent.Goals as goal
 
 pub returns-then-is_lettered : goal.returns-then-is_lettered

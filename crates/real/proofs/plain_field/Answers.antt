@@ -2,7 +2,7 @@
 use mathlib.Core.Path.{refl, ◌∙◌}
 use mathlib.Core.Logic.{inl, inr}
 use native.Mathlib.Omega.{arith}
-use Rattle.real.specs.PlainLaws.{plain_front, columns_real}
+use Rattle.real.proofs.PlainLaws.{plain_front, columns_real}
 use Rattle.real.proofs.plain_field.Goals as goal
 
 pub returns-then-s-lt9 : goal.returns-then-s-lt9

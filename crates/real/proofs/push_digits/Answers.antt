@@ -6,7 +6,7 @@ use lib.Seq.{take_all}
 use Rattle.text.specs.Parts.{none}
 use Rattle.text.specs.PartsLaws.{is_digit_low, is_digit_high}
 use Rattle.real.specs.StepLaws.{digit_below, below_more}
-use Rattle.real.specs.PlainLaws.{digits_next}
+use Rattle.real.proofs.PlainLaws.{digits_next}
 use Rattle.real.proofs.push_digits.Goals as goal
 
 pub returns-then-m-gt9 : goal.returns-then-m-gt9

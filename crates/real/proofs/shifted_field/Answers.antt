@@ -2,7 +2,7 @@
 use mathlib.Core.Path.{refl}
 use mathlib.Core.Logic.{inl}
 use native.Mathlib.Omega.{arith}
-use Rattle.real.specs.PlainLaws.{shifted_front}
+use Rattle.real.proofs.PlainLaws.{shifted_front}
 use Rattle.real.proofs.shifted_field.Goals as goal
 
 pub returns-then-s-lt9 : goal.returns-then-s-lt9

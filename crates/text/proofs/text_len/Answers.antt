@@ -1,7 +1,7 @@
 use mathlib.Core.Path.{refl, sym, ◌∙◌, ap}
 use lib.ListN.{length}
 use lib.Seq.{take-length, length-take-le}
-use Rattle.text.specs.TextLaws.{trimmed_blank_last, trimmed_byte_last, trimmed_none}
+use Rattle.text.proofs.TextLaws.{trimmed_blank_last, trimmed_byte_last, trimmed_none}
 use borrow.Author.Rules.{rules}
 use Rattle.text.proofs.text_len.Goals as goal
 

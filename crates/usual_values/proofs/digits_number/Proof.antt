@@ -9,7 +9,7 @@ use lib.Seq.{take_all}
 use Rattle.text.specs.Parts.{Digits}
 use Rattle.text.specs.PartsLaws.{is_digit_low, is_digit_high}
 use Rattle.real.specs.StepLaws.{digit_below, below_more}
-use Rattle.real.specs.PlainLaws.{digits_next}
+use Rattle.real.proofs.PlainLaws.{digits_next}
 use Rattle.usual_values.proofs.digits_number.Statement.{statement}
 use Rattle.usual_values.proofs.digits_number.Tie as tie
 

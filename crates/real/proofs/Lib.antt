@@ -1,0 +1,5 @@
+pub mod RestLaws
+pub mod RestCompleteLaws
+pub mod RestSoundLaws
+pub mod RealLaws
+pub mod PlainLaws
