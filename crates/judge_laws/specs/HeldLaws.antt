@@ -7,7 +7,7 @@ use Rattle.parts.specs.Parts.{Part, parts_of}
 use Rattle.theory.specs.Sets.{Set, set}
 use Rattle.theory.specs.Proper.{Proper}
 use Rattle.line_laws.specs.Ends.{CutInto}
-use Rattle.line_laws.specs.EndsLaws.{ended_complete}
+use Rattle.line_laws.proofs.EndsLaws.{ended_complete}
 use Rattle.line_laws.specs.ShortLaws.{ended_short}
 use Rattle.parts_laws.specs.Holds.{Holds, AtPlaces}
 use Rattle.parts_laws.specs.HoldsLaws.{lines_stand}

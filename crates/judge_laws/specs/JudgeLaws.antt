@@ -8,7 +8,7 @@ use Rattle.judge.specs.Judge.{judged, reply}
 use Rattle.theory.specs.Sets.{Set}
 use Rattle.theory.specs.Proper.{Ended, Proper}
 use Rattle.line_laws.specs.Ends.{CutInto}
-use Rattle.line_laws.specs.EndsLaws.{ended_complete, ended_sound}
+use Rattle.line_laws.proofs.EndsLaws.{ended_complete, ended_sound}
 use Rattle.line_laws.specs.ShortLaws.{ended_short}
 use Rattle.judge_laws.specs.ListReader.{outside, read_lines}
 use Rattle.judge_laws.specs.ListReaderCompleteLaws.{reader_complete}

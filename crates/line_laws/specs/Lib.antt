@@ -1,5 +1,4 @@
 pub mod Ends
-pub mod EndsLaws
 pub mod LineTestsLaws
 pub mod Short
 pub mod ShortLaws

@@ -1,8 +1,8 @@
 -- The tests of a line by itself agree with what the line is, in both directions.
-use Rattle.std.specs.Prelude.{◌≡◌, refl, Bool, true, false, ◌&&◌, List, ℕ, ◌-◌, ◌≤◌, length, take, replicate}
+use Rattle.std.specs.Prelude.{◌≡◌, refl, Bool, true, false, ◌&&◌, List, ℕ, ◌-◌, ◌≤◌, length, replicate}
 use Rattle.std.proofs.Common.{sym, ap, ◌∙◌}
 use Rattle.laws.specs.ChoiceLaws.{and_left, false_not_true}
-use Rattle.text.specs.Blank.{Blanks, none, one, all_blank}
+use Rattle.text.specs.Blank.{Blanks, all_blank}
 use Rattle.text.specs.BlankLaws.{all_blank_complete, all_blank_sound, all_blank_append, blanks_append, blanks_take, blanks_replicate}
 use Rattle.line.specs.Line.{filled}
 use Rattle.line.specs.LineLaws.{filled_short}

@@ -5,7 +5,7 @@ use Rattle.laws.specs.Choice.{pick}
 use Rattle.laws.specs.Cut.{text, onto, cut}
 use Rattle.theory.specs.Sets.{Set}
 use Rattle.line_laws.specs.Ends.{joined}
-use Rattle.line_laws.specs.EndsLaws.{cut_joined}
+use Rattle.line_laws.proofs.EndsLaws.{cut_joined}
 use Rattle.parts.specs.Parts.{Part, bytes_in, past_of, through_of}
 use Rattle.parts.specs.PartsLaws.{bytes_in_append, lines_past}
 use Rattle.parts_laws.specs.Holds.{AtPlaces}

@@ -1,5 +1,5 @@
 -- A record's condition, as a writing states it and as the check tests it.
-use Rattle.std.specs.Prelude.{◌≡◌, Bool, ◌&&◌, not, List, [], ◌∷◌, ℕ, zero, ◌+◌, ◌<◌, eqb, ℤ, pos, negsuc, get_or}
+use Rattle.std.specs.Prelude.{◌≡◌, Bool, ◌&&◌, not, List, [], ◌∷◌, ℕ, ◌+◌, ◌<◌, eqb, ℤ, pos, negsuc, get_or}
 use Rattle.std.proofs.Math.Path.{refl}
 use Rattle.std.proofs.Common.{sym, ap, subst, arith, eqb-true, ne_eqb}
 use Rattle.std.proofs.Math.Bool.{true, false}
@@ -8,7 +8,7 @@ use Rattle.laws.specs.Choice.{pick}
 use Rattle.laws.specs.ChoiceLaws.{false_not_true}
 use Rattle.field.specs.Item.{Item, is_zero_integer, is_zero_real, is_above_zero}
 use Rattle.record_table.specs.Row.{Condition, none, zero_if_uneven, above_zero, first_not_above, breach}
-use Rattle.record.specs.Written.{AllAbove, nil, cons, Zero, zero, Kept, nothing, spaced, factors}
+use Rattle.record.specs.Written.{AllAbove, nil, cons, Zero, Kept, nothing, spaced, factors}
 
 -- the third item is the integer 0 exactly when the test says so
 zero_integer : (i : Item) → is_zero_integer i ≡ true → i ≡ Item.integer (pos 0)

@@ -4,7 +4,7 @@ use Rattle.std.proofs.Common.{sym, ◌∙◌, arith}
 use Rattle.line.specs.Line.{filled}
 use Rattle.delimiter.specs.Kind.{Delimiter}
 use Rattle.theory.specs.Proper.{BlankLines}
-use Rattle.line_laws.specs.EndsLaws.{ended_complete}
+use Rattle.line_laws.proofs.EndsLaws.{ended_complete}
 use Rattle.line_laws.specs.LineTestsLaws.{blank_inside}
 use Rattle.rewriter_laws.specs.Form.{Own, OwnLines}
 use Rattle.line_laws.specs.NoDelimiter.{NoDelimiter, none, more}

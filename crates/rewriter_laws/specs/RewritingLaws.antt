@@ -7,7 +7,7 @@ use Rattle.line.specs.Line.{columns}
 use Rattle.theory.specs.Sets.{Set}
 use Rattle.theory.specs.Proper.{Proper}
 use Rattle.line_laws.specs.Ends.{AllPass, joined}
-use Rattle.line_laws.specs.EndsLaws.{ended_complete}
+use Rattle.line_laws.proofs.EndsLaws.{ended_complete}
 use Rattle.line_laws.specs.ShortLaws.{ended_short}
 use Rattle.parts.specs.Parts.{bytes_in, Part, parts_of}
 use Rattle.parts.specs.PartsLaws.{lines_past}

@@ -28,7 +28,7 @@ use Rattle.rewriter_laws.specs.RewritingLaws.{bytes_most}
 use Rattle.theory.specs.Sets.{Set, set}
 use Rattle.theory.specs.Proper.{BlankLines, Lines, Ended, Proper}
 use Rattle.line_laws.specs.Ends.{AllPass}
-use Rattle.line_laws.specs.EndsLaws.{ended_complete, ended_sound}
+use Rattle.line_laws.proofs.EndsLaws.{ended_complete, ended_sound}
 use Rattle.parts_laws.specs.Holds.{columns_of, Holds, AtPlaces}
 use Rattle.parts_laws.specs.HoldsLaws.{held_part}
 use Rattle.parts_laws.specs.Text.{lines_of}

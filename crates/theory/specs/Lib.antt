@@ -2,4 +2,3 @@ pub mod Sets
 pub mod Due
 pub mod DueLaws
 pub mod Proper
-pub mod ProperLaws

@@ -15,7 +15,7 @@ use Rattle.record_laws.specs.Fault.{field_at, left_of, FieldFault, text_blank, i
 use Rattle.record_laws.specs.StrayLaws.{stray_inside}
 use Rattle.record_laws.specs.BreaksLaws.{breaks_inside}
 use Rattle.line_laws.specs.Ends.{joined}
-use Rattle.line_laws.specs.EndsLaws.{cut_joined}
+use Rattle.line_laws.proofs.EndsLaws.{cut_joined}
 use Rattle.line_laws.specs.Fault.{LineFault}
 use Rattle.line_laws.specs.FaultLaws.{byte_inside}
 use Rattle.walk_laws.specs.BeginsLaws.{room, Begin, due_begin, padded_begin}

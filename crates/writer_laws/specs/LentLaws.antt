@@ -33,7 +33,7 @@ use Rattle.header.specs.declared.Header.{Header}
 use Rattle.header.specs.Header as Header
 use Rattle.header.specs.Header.{header_of}
 use Rattle.line_laws.specs.Ends.{joined}
-use Rattle.line_laws.specs.EndsLaws.{cut_joined}
+use Rattle.line_laws.proofs.EndsLaws.{cut_joined}
 use Rattle.parts.specs.Parts.{columns_in, Part, part, outside, inside, parts_from, parts_of, dataset_of, line_of}
 use Rattle.parts.specs.Function.{part_case, count_of, stored_of}
 use Rattle.parts.specs.Padding.{counted_past}
