@@ -12,6 +12,11 @@ slice_bounds-is_blank-count c =
     let fields = c.fields_of-fields.ensures in
     remainder_order _ _ _ _ _ _ fields c.last_field-counted.ensures c.field_start-from.ensures c.field_start-past.ensures
 
+pub slice_bounds-is_blank-start : goal.slice_bounds-is_blank-start
+slice_bounds-is_blank-start c =
+    let fields = c.fields_of-fields.ensures in
+    remainder_order _ _ _ _ _ _ fields c.last_field-counted.ensures c.field_start-from.ensures c.field_start-past.ensures
+
 pub slice_bounds-is_blank-end : goal.slice_bounds-is_blank-end
 slice_bounds-is_blank-end c =
     let fields = c.fields_of-fields.ensures in
