@@ -29,7 +29,7 @@ use Rattle.parts_laws.specs.Declares.{set_case}
 use Rattle.parts_laws.specs.DeclaresLaws.{case_held}
 use Rattle.parts_laws.specs.Stored.{stored_count, own_columns}
 use Rattle.parts_laws.specs.StoredLaws.{stored_case, set_data}
-use Rattle.parts_laws.specs.PaddedLaws.{stored_some, number_line, number_spelled}
+use Rattle.parts_laws.proofs.PaddedLaws.{stored_some, number_line, number_spelled}
 use Rattle.parts_laws.specs.Field.{Spelled}
 use Rattle.parts_laws.specs.BytesLaws.{reaches, value_some}
 

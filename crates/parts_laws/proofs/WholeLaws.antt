@@ -31,9 +31,9 @@ use Rattle.parts_laws.specs.Stored.{stored_count}
 use Rattle.parts_laws.specs.StoredLaws.{set_data}
 use Rattle.parts_laws.specs.PaddingLaws.{last_of}
 use Rattle.parts_laws.specs.CoverLaws.{data_covered}
-use Rattle.parts_laws.specs.OrderLaws.{lines_apart, body_length}
+use Rattle.parts_laws.proofs.OrderLaws.{lines_apart, body_length}
 use Rattle.parts_laws.specs.Whole.{field_count, Owned}
-use Rattle.parts_laws.specs.PaddedLaws.{stored_some, stored_place, last_number, padding_whole}
+use Rattle.parts_laws.proofs.PaddedLaws.{stored_some, stored_place, last_number, padding_whole}
 
 -- the line of a byte
 record In (bs : List (List ℕ)) (at x : ℕ) : Type 0 where
