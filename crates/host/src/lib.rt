@@ -49,8 +49,7 @@ fn bare(number: u8, place: usize) -> u64
 }
 
 // Document 01's judge: the number and the place; for an accepted file 0 and the number of its lines.
-#[unsafe(no_mangle)]
-pub extern "C" fn uff_judge(file: &[u8]) -> u64
+pub fn uff_judge(file: &[u8]) -> u64
     ensures { result ≡ word (judged file.now) }
 {
     let found = judge::judge(file);
@@ -58,8 +57,7 @@ pub extern "C" fn uff_judge(file: &[u8]) -> u64
 }
 
 // Document 01's lister: seven numbers a set into the rows lent; the number of sets.
-#[unsafe(no_mangle)]
-pub extern "C" fn uff_list(file: &[u8], rows: &mut [u32]) -> u64
+pub fn uff_list(file: &[u8], rows: &mut [u32]) -> u64
     ensures { (result ≡ word (list_reply file.now (length rows.old))) × (rows.new ≡ list_rows file.now rows.old) }
 {
     let found = lister::list(file, rows);
@@ -116,8 +114,7 @@ fn answer_number(out: &mut [u8], a: NumberAnswer) -> u64
 }
 
 // Document 01's reader: a stored number by its set, counted from 1, and its index, counted from 0.
-#[unsafe(no_mangle)]
-pub extern "C" fn uff_number(file: &[u8], set: u32, index: u32, out: &mut [u8]) -> u64
+pub fn uff_number(file: &[u8], set: u32, index: u32, out: &mut [u8]) -> u64
     ensures { (result ≡ reply_for (number_answer (stored_number file.now set index)) (length out.old)) × (out.new ≡ bytes_after (number_answer (stored_number file.now set index)) out.old) }
 {
     answer_number(out, reader::number(file, set, index))
@@ -173,8 +170,7 @@ fn answer_value(out: &mut [u8], a: ValueAnswer) -> u64
 }
 
 // Document 01's reader: a value by its set, counted from 1, and its index, counted from 0.
-#[unsafe(no_mangle)]
-pub extern "C" fn uff_value(file: &[u8], set: u32, index: u32, out: &mut [u8]) -> u64
+pub fn uff_value(file: &[u8], set: u32, index: u32, out: &mut [u8]) -> u64
     ensures { (result ≡ reply_for (value_answer (value_of file.now set index)) (length out.old)) × (out.new ≡ bytes_after (value_answer (value_of file.now set index)) out.old) }
 {
     answer_value(out, reader::value(file, set, index))
@@ -182,8 +178,7 @@ pub extern "C" fn uff_value(file: &[u8], set: u32, index: u32, out: &mut [u8]) -
 
 // All values of a set, counted from 1, one after the other, as the bit patterns of f64 into the places lent, which in C are doubles; how many
 // are filled.
-#[unsafe(no_mangle)]
-pub extern "C" fn uff_values(file: &[u8], set: u32, out: &mut [u64]) -> u64
+pub fn uff_values(file: &[u8], set: u32, out: &mut [u64]) -> u64
     ensures { (result ≡ word (all_reply file.now set (length out.old))) × (out.new ≡ all_places file.now set out.old) }
 {
     let found = values::values(file, set, out);
@@ -226,16 +221,14 @@ fn answer_field(out: &mut [u8], a: FieldAnswer) -> u64
 }
 
 // Document 02's question of C-15: a field, by its number from 0, of a line lent alone, as a FORMAT has it.
-#[unsafe(no_mangle)]
-pub extern "C" fn uff_field(format: &[u8], line: &[u8], field: u32, out: &mut [u8]) -> u64
+pub fn uff_field(format: &[u8], line: &[u8], field: u32, out: &mut [u8]) -> u64
     ensures { (result ≡ reply_for (field_answer (answer_of format.now field line.now)) (length out.old)) × (out.new ≡ bytes_after (field_answer (answer_of format.now field line.now)) out.old) }
 {
     answer_field(out, format_reader::ask(format, line, field))
 }
 
 // Document 01's rewriter: the file in rewritten form into the bytes lent; its length.
-#[unsafe(no_mangle)]
-pub extern "C" fn uff_rewrite(file: &[u8], out: &mut [u8]) -> u64
+pub fn uff_rewrite(file: &[u8], out: &mut [u8]) -> u64
     ensures { (result ≡ word (rewrite_reply file.now (length out.old))) × (out.new ≡ rewrite_out file.now out.old) }
 {
     let found = rewriter::rewrite(file, out);
@@ -243,8 +236,7 @@ pub extern "C" fn uff_rewrite(file: &[u8], out: &mut [u8]) -> u64
 }
 
 // Document 01's writer: one 58, from its eleven header lines and its numbers, into the bytes lent; its length.
-#[unsafe(no_mangle)]
-pub extern "C" fn uff_write(
+pub fn uff_write(
     header: &[u8],
     coefficients: &[i64],
     scales: &[i16],
@@ -257,8 +249,7 @@ pub extern "C" fn uff_write(
 }
 
 // A file judged while it arrives: lays out a record that starts a new file.
-#[unsafe(no_mangle)]
-pub extern "C" fn uff_start(numbers: &mut [u64], line: &mut [u8]) -> u64
+pub fn uff_start(numbers: &mut [u64], line: &mut [u8]) -> u64
     ensures { (result ≡ word (start_reply numbers.old line.old)) × (numbers.new ≡ start_numbers numbers.old line.old) × (line.new ≡ start_line numbers.old line.old) }
 {
     let found = stream_c::start(numbers, line);
@@ -266,8 +257,7 @@ pub extern "C" fn uff_start(numbers: &mut [u64], line: &mut [u8]) -> u64
 }
 
 // Brings the record up to date by a burst; its refusal so far, or 127 and the number of finished lines.
-#[unsafe(no_mangle)]
-pub extern "C" fn uff_burst(numbers: &mut [u64], line: &mut [u8], bytes: &[u8]) -> u64
+pub fn uff_burst(numbers: &mut [u64], line: &mut [u8], bytes: &[u8]) -> u64
     ensures { Burst word numbers.old line.old bytes.now numbers.new line.new result }
 {
     let found = stream_c::burst(numbers, line, bytes);
@@ -275,8 +265,7 @@ pub extern "C" fn uff_burst(numbers: &mut [u64], line: &mut [u8], bytes: &[u8]) 
 }
 
 // The end of the record's file: the judge's reply for the whole of it.
-#[unsafe(no_mangle)]
-pub extern "C" fn uff_end(numbers: &mut [u64], line: &[u8]) -> u64
+pub fn uff_end(numbers: &mut [u64], line: &[u8]) -> u64
     ensures { (result ≡ word (end_of numbers.old line.now)) × (numbers.new ≡ end_numbers numbers.old line.now) }
 {
     let found = stream_c::end(numbers, line);

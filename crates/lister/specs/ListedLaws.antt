@@ -20,8 +20,8 @@ use Rattle.parts_laws.specs.Holds.{Holds, AtPlaces}
 use Rattle.parts_laws.specs.DeclaresLaws.{number_held, case_held}
 use Rattle.parts_laws.specs.CaseLaws.{case_eight}
 use Rattle.parts_laws.specs.PaddingLaws.{stored_held, last_of}
-use Rattle.parts_laws.specs.PaddedLaws.{stored_some}
-use Rattle.parts_laws.specs.OrderLaws.{body_length}
+use Rattle.parts_laws.proofs.PaddedLaws.{stored_some}
+use Rattle.parts_laws.proofs.OrderLaws.{body_length}
 use Rattle.judge_laws.specs.JudgeLaws.{zero_proper}
 use Rattle.judge_laws.specs.HeldLaws.{proper_places}
 use Rattle.lister.specs.Lister.{entry}

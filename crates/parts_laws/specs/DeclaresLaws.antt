@@ -18,7 +18,7 @@ use Rattle.record_laws.specs.LineReadingLaws.{written_complete}
 use Rattle.theory.specs.Sets.{Set}
 use Rattle.theory.specs.Due.{set_rows}
 use Rattle.theory.specs.Proper.{TypedLines, SetLines}
-use Rattle.parts.specs.Parts.{Part, dataset_of, line_of}
+use Rattle.parts.specs.Parts.{Part, dataset_of, line_of, past_of, through_of}
 use Rattle.parts.specs.Function as Function
 use Rattle.record.specs.Declares.{count_by, count_in}
 use Rattle.record.specs.DeclaresLaws.{Declares, declares_items}
@@ -101,6 +101,6 @@ stand_at (suc k) s rest (AtPlaces.end b) e = let z : 0 ≡ suc (length rest) = a
 stand_at zero s rest (AtPlaces.more {s = t} {p = p} {ps = ps} before after b l c h r) e =
     let q : t ≡ s = cc in
     record { part = p; others = ps; sets = refl; holds = subst (λ (x : Set). Holds x p) q h }
-stand_at (suc k) s rest (AtPlaces.more {ps = ps} before after b l c h r) e =
-    let f = stand_at k s rest r e in
+stand_at {n = n} {at = at} (suc k) s rest (AtPlaces.more {p = p} {ps = ps} before after b l c h r) e =
+    let f = stand_at {n = through_of p} {at = past_of p} k s rest r e in
     record { part = f.part; others = f.others; sets = f.sets; holds = f.holds }

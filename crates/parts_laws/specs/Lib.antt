@@ -11,10 +11,6 @@ pub mod FieldLaws
 pub mod StoredLaws
 pub mod PaddingLaws
 pub mod BytesLaws
-pub mod ShownLaws
 pub mod Cover
 pub mod CoverLaws
 pub mod Whole
-pub mod PaddedLaws
-pub mod OrderLaws
-pub mod WholeLaws

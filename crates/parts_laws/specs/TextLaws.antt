@@ -51,7 +51,7 @@ stand_cut (suc k) p qs (AtPlaces.end b) e = let z : 0 ≡ suc (length qs) = ap l
 stand_cut {n} {at} zero p qs (AtPlaces.more {p = q} before after b l c h r) e =
     let z : q ≡ p = cc in
     subst (λ (x : Part). Cut n at x (before ++ (q.opening ∷ q.number ∷ (q.body ++ (q.closing ∷ after))))) z (first_cut n at q before after l c)
-stand_cut {n} {at} (suc k) p qs (AtPlaces.more {p = q} before after b l c h r) e = later_cut n at q p before after l c (stand_cut k p qs r e)
+stand_cut {n} {at} (suc k) p qs (AtPlaces.more {p = q} before after b l c h r) e = later_cut n at q p before after l c (stand_cut {n = through_of q} {at = past_of q} k p qs r e)
 
 -- the bytes of set k
 pub part_bytes : {ss : List Set} (bytes : List ℕ) {ps : List Part} (k : ℕ) (p : Part) (qs : List Part) → AtPlaces 0 0 ss ps (cut bytes).lines → drop k ps ≡ p ∷ qs

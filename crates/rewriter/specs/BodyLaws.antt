@@ -144,7 +144,8 @@ unfolding lines_to bytes_in
 lines_to_front at [] rest = lines_to_stops (at + 0) at rest (omega arith)
 lines_to_front at (l ∷ front) rest =
     let z : at + (suc (length l) + bytes_in front) ≡ (at + suc (length l)) + bytes_in front = omega arith in
-    rw (z, lt-leb ((at + suc (length l)) + bytes_in front) at (omega arith), lines_to_front (at + suc (length l)) front rest) refl
+    let more : lines_to (at + (suc (length l) + bytes_in front)) (at + suc (length l)) (front ++ rest) ≡ front = rw z (lines_to_front (at + suc (length l)) front rest) in
+    rw (z, lt-leb ((at + suc (length l)) + bytes_in front) at (omega arith)) (ap (λ (t : List (List ℕ)). l ∷ t) more)
 
 closing_lines : (p : Part) → closing_start p ≡ line_start p 0 + bytes_in p.body
 unfolding line_start closing_start bytes_in

@@ -27,7 +27,7 @@ use Rattle.parts_laws.specs.DeclaresLaws.{number_held, case_held, line_of_column
 use Rattle.parts_laws.specs.Stored.{stored_count}
 use Rattle.parts_laws.specs.StoredLaws.{stored_case, set_data, line_enough}
 use Rattle.parts_laws.specs.PaddingLaws.{stored_held}
-use Rattle.parts_laws.specs.PaddedLaws.{stored_some}
+use Rattle.parts_laws.proofs.PaddedLaws.{stored_some}
 use Rattle.rewriter.specs.Rewriter.{kept_of, cut_last}
 use Rattle.rewriter.specs.Fair.{Inner, FairSets, laid}
 use Rattle.rewriter_laws.specs.Form.{counted_columns}

@@ -26,9 +26,9 @@ use Rattle.parts_laws.specs.DeclaresLaws.{declared_held, case_held}
 use Rattle.parts_laws.specs.Stored.{stored_count, stored_item}
 use Rattle.parts_laws.specs.CaseLaws.{case_eight, declared_some}
 use Rattle.parts_laws.specs.Field.{Spelled}
-use Rattle.parts_laws.specs.ShownLaws.{stored_shown}
+use Rattle.parts_laws.proofs.ShownLaws.{stored_shown}
 use Rattle.parts_laws.specs.PaddingLaws.{stored_held}
-use Rattle.parts_laws.specs.OrderLaws.{past_within}
+use Rattle.parts_laws.proofs.OrderLaws.{past_within}
 use Rattle.values.specs.Values.{all_from, all_values}
 use Rattle.values.specs.Each.{Each}
 use Rattle.values.specs.EachLaws.{all_each, all_refused}

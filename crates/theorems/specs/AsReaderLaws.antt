@@ -18,7 +18,7 @@ use Rattle.theory.specs.Proper.{Proper}
 use Rattle.parts_laws.specs.Stored.{stored_count, stored_item, own_columns}
 use Rattle.parts_laws.specs.StoredLaws.{stored_spelled}
 use Rattle.parts_laws.specs.DeclaresLaws.{case_held}
-use Rattle.parts_laws.specs.ShownLaws.{own_bytes_lem}
+use Rattle.parts_laws.proofs.ShownLaws.{own_bytes_lem}
 use Rattle.parts_laws.specs.Field.{Spelled}
 use Rattle.format_reader.specs.Question.{answer_of, real_shown}
 use Rattle.format_laws.specs.Asked.{ReadsAs}

@@ -22,10 +22,10 @@ use Rattle.parts_laws.specs.Stored.{stored_count, own_columns}
 use Rattle.parts_laws.specs.Field.{Spelled}
 use Rattle.parts_laws.specs.Whole.{Owned}
 use Rattle.parts_laws.specs.PaddingLaws.{stored_held, last_held}
-use Rattle.parts_laws.specs.PaddedLaws.{stored_some, padding_held, padding_spelled}
-use Rattle.parts_laws.specs.WholeLaws.{byte_owned}
-use Rattle.parts_laws.specs.ShownLaws.{own_bytes_lem, stored_shown}
-use Rattle.parts_laws.specs.OrderLaws.{columns_inside, columns_apart, first_column}
+use Rattle.parts_laws.proofs.PaddedLaws.{stored_some, padding_held, padding_spelled}
+use Rattle.parts_laws.proofs.WholeLaws.{byte_owned}
+use Rattle.parts_laws.proofs.ShownLaws.{own_bytes_lem, stored_shown}
+use Rattle.parts_laws.proofs.OrderLaws.{columns_inside, columns_apart, first_column}
 use Rattle.parts_laws.specs.CaseLaws.{numbers_of_some, case_eight, declared_some}
 use Rattle.theorems.specs.Answers.{own_bytes}
 use Rattle.theorems.specs.Stands.{SetAt, At58}

@@ -63,7 +63,7 @@ odd_unsigned d (suc q) k l = refl
 
 units_unsigned : (f : Format) (q k : ℕ) → is_unsigned (units f false q k) ≡ true
 unfolding units is_unsigned
-units_unsigned f q k = go (ltb (q * 2 ^ k) (2 ^ (low f + suc (emax f)))) (odd (suc (prec f)) false q k (low f)) (odd_unsigned _ q k _)
+units_unsigned f q k = go (ltb (q * 2 ^ k) (2 ^ (low f + suc (emax f)))) (odd (suc (prec f)) false q k (low f)) (odd_unsigned (suc (prec f)) q k (low f))
   where
     go : (t : Bool) (x : Float) → is_unsigned x ≡ true → is_unsigned (cond t x (inf false)) ≡ true
     go true x h = h

@@ -23,9 +23,9 @@ use Rattle.theory.specs.Sets.{Set}
 use Rattle.parts_laws.specs.Holds.{Holds}
 use Rattle.parts_laws.specs.DeclaresLaws.{number_held}
 use Rattle.parts_laws.specs.Stored.{stored_count}
-use Rattle.parts_laws.specs.ShownLaws.{stored_shown}
+use Rattle.parts_laws.proofs.ShownLaws.{stored_shown}
 use Rattle.parts_laws.specs.PaddingLaws.{stored_held}
-use Rattle.parts_laws.specs.OrderLaws.{past_within}
+use Rattle.parts_laws.proofs.OrderLaws.{past_within}
 use Rattle.judge_laws.specs.HeldLaws.{accepted_held}
 use Rattle.reader.specs.declared.Data.{Data}
 use Rattle.reader.specs.Reader.{sets_from, read_in, read_of}

@@ -1,0 +1,4 @@
+pub mod ShownLaws
+pub mod PaddedLaws
+pub mod OrderLaws
+pub mod WholeLaws
