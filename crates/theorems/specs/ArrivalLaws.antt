@@ -22,7 +22,7 @@ use Rattle.stream.specs.Stream.{OpenLine, columns_of, fault_of, open_fault, is_s
 use Rattle.stream.specs.StreamLaws.{number_known, seen_past, seen_going, seen_refused, fresh_says}
 use Rattle.stream_c.specs.Lent.{is_short, stream_of, numbers_after, line_after, start_reply, start_numbers, start_line, end_of, end_numbers, Untouched, Burst, same}
 use Rattle.stream_laws.specs.Streaming.{finished, run_answer, burst_answer, joined, Bursts}
-use Rattle.stream_laws.specs.StreamingLaws as StreamingLaws
+use Rattle.stream_laws.proofs.StreamingLaws as StreamingLaws
 use Rattle.host.specs.Packed.{word, number_in}
 use Rattle.host.specs.PackedLaws.{word_number}
 use Rattle.walk_laws.specs.FaultLaws.{refused_fault}

@@ -69,8 +69,8 @@ use Rattle.rewriter_laws.specs.UnpaddedLaws as UnpaddedLaws
 use Rattle.writer_laws.specs.HeaderRefusedLaws as HeaderRefusedLaws
 use Rattle.walk_laws.specs.FaultColumnLaws as FaultColumnLaws
 use Rattle.walk_laws.specs.FileFaultLaws as FileFaultLaws
-use Rattle.stream_laws.specs.StreamingLaws as StreamingLaws
-use Rattle.stream_laws.specs.CallsLaws as CallsLaws
+use Rattle.stream_laws.proofs.StreamingLaws as StreamingLaws
+use Rattle.stream_laws.proofs.CallsLaws as CallsLaws
 use Rattle.theorems.specs.TableLaws as TableLaws
 use Rattle.theorems.specs.TableCallsLaws as TableCallsLaws
 use Rattle.judge_laws.specs.JudgeLaws as JudgeLaws

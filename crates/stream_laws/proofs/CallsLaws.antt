@@ -13,7 +13,7 @@ use Rattle.stream_c.specs.Lent.{numbers_room, line_room, unused_bytes, is_short,
 use Rattle.stream_c.specs.LentLaws.{room, read_again, fresh_fits, end_closes}
 use Rattle.stream_laws.specs.Streaming.{burst_answer, joined, Bursts}
 use Rattle.stream_laws.specs.Streaming as S
-use Rattle.stream_laws.specs.StreamingLaws.{bursts_end, any_cut, any_cut_again, any_cut_answer}
+use Rattle.stream_laws.proofs.StreamingLaws.{bursts_end, any_cut, any_cut_again, any_cut_answer}
 use Rattle.stream_laws.specs.Calls.{Calls, none, more}
 
 -- room that is enough stays enough

@@ -1,0 +1,2 @@
+pub mod StreamingLaws
+pub mod CallsLaws
