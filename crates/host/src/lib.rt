@@ -236,12 +236,7 @@ pub fn uff_rewrite(file: &[u8], out: &mut [u8]) -> u64
 }
 
 // Document 01's writer: one 58, from its eleven header lines and its numbers, into the bytes lent; its length.
-pub fn uff_write(
-    header: &[u8],
-    coefficients: &[i64],
-    scales: &[i16],
-    out: &mut [u8],
-) -> u64
+pub fn uff_write(header: &[u8], coefficients: &[i64], scales: &[i16], out: &mut [u8]) -> u64
     ensures { (result ≡ word (write_reply header.now coefficients.now scales.now (length out.old))) × (out.new ≡ write_out header.now coefficients.now scales.now out.old) }
 {
     let found = writer::write(header, coefficients, scales, out);

@@ -18,7 +18,7 @@ use Rattle.theory.specs.Sets.{Set}
 use Rattle.theory.specs.Proper.{BlankLines}
 use Rattle.theory.specs.Due.{lines_for}
 use Rattle.line_laws.specs.NoDelimiterLaws.{set_none}
-use Rattle.parts.specs.Parts.{Part, through_of, dataset_of, line_of}
+use Rattle.parts.specs.Parts.{Part, through_of, past_of, dataset_of, line_of}
 use Rattle.parts.specs.Function.{part_case, stored_of, count_of}
 use Rattle.parts.specs.Padding.{counted_past}
 use Rattle.parts_laws.specs.Holds.{columns_of, Holds, AtPlaces}
@@ -69,6 +69,10 @@ but_kept k (Inner.more f c (Inner.more g d i)) (Inner.more h e Inner.none) s = a
 but_kept k (Inner.more {l} f c (Inner.more g d i)) (Inner.more {l = m} h e (Inner.more u v j)) (SameBut.more w s) =
     let same : kept_of l ≡ kept_of m = ap trimmed w in
     rw (same, but_kept k (Inner.more g d i) (Inner.more u v j) s) refl
+but_kept k Inner.none (Inner.more {l = m} {ls = ls} g d _) s = elim s [ ]
+but_kept k (Inner.more {l = l} f c Inner.none) Inner.none s = elim s [ ]
+but_kept k (Inner.more {l = l} f c Inner.none) (Inner.more {l = m} g d (Inner.more {ls = ls} u v j)) s = elim s [ ]
+but_kept k (Inner.more {l = l} f c (Inner.more {ls = ls} g d i)) Inner.none s = elim s [ ]
 
 -- One set.
 
@@ -126,6 +130,8 @@ alike_laid (AtPlaces.more {s = s} {p = p} before after b i j h v) (AtPlaces.more
     let kept : kept_in p ≡ kept_in q
     = unpadded_cut h f ∙ cut ∙ ap (λ (k : ℕ). map kept_of (cut_last k q.body)) counted ∙ sym (unpadded_cut g f') in
     rw (number, kept, alike_laid v w x y r) refl
+alike_laid {m = m} {to = to} (Rattle.parts_laws.specs.Holds.end {n = n} {at = at} {ls = ls} b) (AtPlaces.more {s = t} {ss = ss} {p = q} {ps = ps} before' after' c i' j' g w) _ _ x71 = elim x71 [ ]
+alike_laid {m = m} {to = to} {ms = ms} (AtPlaces.more {n = n} {at = at} {s = s} {ss = ss} {p = p} {ps = ps} before after b i j h v) (Rattle.parts_laws.specs.Holds.end c) _ _ x52 = elim x52 [ ]
 
 pub alike_lines : {sets : List Set} {ps qs : List Part} → Alike sets ps qs → map (λ (p : Part). p.lines) ps ≡ map (λ (p : Part). p.lines) qs
 alike_lines Alike.none = refl
@@ -161,11 +167,11 @@ sets_alike z (SameFile.end b) (AtPlaces.end c) (AtPlaces.more {p = q} before aft
     absurd (not_open b (opens q before after _ d g f))
 sets_alike z (SameFile.more first number last before x y old new b o k l c s r) (AtPlaces.more before' after d i j h v) (AtPlaces.end g) e f =
     absurd (not_open g (record { first = first; last = last; blank = b; opening = o; inside = l; closing = c; lines = f }))
-sets_alike z (SameFile.more {s = s} first number last before x y old new b o k l c same r) (AtPlaces.more {p = p} front after d i j h v)
+sets_alike {n = n} {at = from} {m = m} {to = to} z (SameFile.more {s = s} first number last before x y old new b o k l c same r) (AtPlaces.more {p = p} front after d i j h v)
     (AtPlaces.more {p = q} front' after' d' i' j' g w) e f =
     let one = one_way (opens p front after _ d h e) (record { first = first; last = last; blank = b; opening = o; inside = k; closing = c; lines = refl }) in
     let two = one_way (opens q front' after' _ d' g f) (record { first = first; last = last; blank = b; opening = o; inside = l; closing = c; lines = refl }) in
     let at : p.lines ≡ q.lines = omega (arith, i, i', many_columns front front' one.blanks two.blanks) in
     let body : SameBut (counted_columns s) (body_of p) (body_of q) = rw (one.own, two.own) same in
     let many : length p.body ≡ length q.body = sym (length-map p.body (columns true)) ∙ but_many body ∙ length-map q.body (columns true) in
-    Alike.more at (one.line ∙ sym two.line) body (sets_alike (through_same p q at many) r v w one.rest two.rest)
+    Alike.more at (one.line ∙ sym two.line) body (sets_alike {n = through_of p} {at = past_of p} {m = through_of q} {to = past_of q} (through_same p q at many) r v w one.rest two.rest)

@@ -80,12 +80,26 @@ record Three (ds : List ℕ) (v : ℕ) : Type 0 where
   is : ds ≡ hundreds ∷ rest
   others : Two (hundreds % 16) rest v
 
+no_digits : {m v : ℕ} {ds : List ℕ} → Digits m ds v → length ds ≡ 0 → (ds ≡ []) × (v ≡ m)
+no_digits none h = (refl, refl)
+no_digits (more low high d) h = absurd (omega arith)
+
+record One (m : ℕ) (ds : List ℕ) (v : ℕ) : Type 0 where
+  units : ℕ
+  is : ds ≡ units ∷ []
+  value : v ≡ m * 10 + units % 16
+
+one_digit : {m v : ℕ} {ds : List ℕ} → Digits m ds v → length ds ≡ 1 → One m ds v
+one_digit none h = absurd (omega arith)
+one_digit (more {b = b} low high d) h =
+    let others = no_digits d (omega arith) in
+    record { units = b; is = ap (λ (r : List ℕ). b ∷ r) others.0; value = omega (arith, others.1, digit_value b low high) }
+
 two_digits : {m v : ℕ} {ds : List ℕ} → Digits m ds v → length ds ≡ 2 → Two m ds v
 two_digits none h = absurd (omega arith)
-two_digits (more low high none) h = absurd (omega arith)
-two_digits {m} (more {b = a} low high (more {b = b} low' high' none)) h =
-    record { tens = a; units = b; is = refl; value = omega (arith, digit_value a low high, digit_value b low' high') }
-two_digits (more low high (more low' high' (more low'' high'' d))) h = absurd (omega arith)
+two_digits (more {b = a} low high d) h =
+    let others = one_digit d (omega arith) in
+    record { tens = a; units = others.units; is = ap (λ (r : List ℕ). a ∷ r) others.is; value = omega (arith, digit_value a low high, others.value) }
 
 three_digits : {v : ℕ} {ds : List ℕ} → Digits 0 ds v → length ds ≡ 3 → Three ds v
 three_digits none h = absurd (omega arith)

@@ -54,7 +54,7 @@ lines_uncut (suc f) ws zero (x ∷ xs) ss p h l m =
     let n : length (x ∷ xs) - 0 * length ws ≡ length (x ∷ xs) = omega arith in
     let few : length (x ∷ xs) ≤ length ws = omega arith in
     let past : drop (length ws) (x ∷ xs) ≡ [] = drop_of_length-le (x ∷ xs) few in
-    rw (n, past, lines_none f ws (drop (length ws) ss))
+    rw (past, lines_none f ws (drop (length ws) ss), n)
     (ap (λ (l : List ℕ). l ∷ []) (take_all (field_start ws (length (x ∷ xs))) (fields_text ws (x ∷ xs) ss) (fields_few ws (x ∷ xs) ss)))
 lines_uncut (suc f) ws (suc q) (x ∷ xs) ss p h l m =
     let ys : List ℤ = drop (length ws) (x ∷ xs) in
