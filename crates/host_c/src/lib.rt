@@ -12,7 +12,7 @@ ghost use Rattle.rewriter.specs.Rewriter.{rewrite_reply, rewrite_out};
 ghost use Rattle.values.specs.Values.{all_reply, all_places};
 ghost use Rattle.writer.specs.Writer.{write_reply, write_out};
 ghost use Rattle.reader.specs.Reader.{stored_number, value_of};
-ghost use Rattle.format_reader.specs.Question.{number, answer_of};
+ghost use Rattle.format_reader.specs.Question.{answer_of};
 
 // Document 01's judge: the number and the place; for an accepted file 0 and the number of its lines.
 #[unsafe(no_mangle)]
