@@ -1,14 +1,8 @@
 pub mod Asked
 pub mod SameLaws
 pub mod Fault
-pub mod FaultLaws
 pub mod RuledLaws
-pub mod ShownLaws
-pub mod JudgeLaws
 pub mod Printed
-pub mod PrintedLaws
-pub mod DueLaws
 pub mod DataLaws
 pub mod Said
-pub mod SaidLaws
 pub mod Examples

@@ -17,7 +17,7 @@ use Rattle.integer.proofs.IntegerLaws.{integer_of_value}
 use Rattle.line.specs.Line.{passed, Allowed, is_allowed, without_return, columns, first_bad, line_fault, filled}
 use Rattle.line.specs.LineLaws.{allowed_append, line_fault_complete, filled_short}
 use Rattle.delimiter.specs.Kind.{Delimiter, delimiter, positive, dataset_number}
-use Rattle.delimiter.specs.KindLaws.{positive_value}
+use Rattle.delimiter.proofs.KindLaws.{positive_value}
 use Rattle.walk.specs.declared.Place.TheVariants.{Number}
 use Rattle.walk.specs.declared.State.{State}
 use Rattle.walk.specs.declared.Outcome.{Outcome}

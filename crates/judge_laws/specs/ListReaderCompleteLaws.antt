@@ -8,7 +8,7 @@ use Rattle.text.proofs.TextLaws.{trimmed_complete}
 use Rattle.line.specs.Line.{filled}
 use Rattle.line.specs.LineLaws.{filled_length}
 use Rattle.delimiter.specs.Kind.{Delimiter, NumberLine, number_line}
-use Rattle.delimiter.specs.KindLaws.{is_delimiter_complete, dataset_number_complete, delimiter_not_blank}
+use Rattle.delimiter.proofs.KindLaws.{is_delimiter_complete, dataset_number_complete, delimiter_not_blank}
 use Rattle.field.specs.Item.{Item, text}
 use Rattle.record_laws.specs.LineReadingLaws.{written_complete}
 use Rattle.record.specs.Written.{Written}

@@ -8,7 +8,7 @@ use Rattle.text.proofs.TextLaws.{trimmed_sound}
 use Rattle.line.specs.Line.{filled}
 use Rattle.line.specs.LineLaws.{filled_length}
 use Rattle.delimiter.specs.Kind.{Delimiter, NumberLine, is_delimiter, dataset_number}
-use Rattle.delimiter.specs.KindLaws.{is_delimiter_sound, dataset_number_sound}
+use Rattle.delimiter.proofs.KindLaws.{is_delimiter_sound, dataset_number_sound}
 use Rattle.field.specs.Item.{Item, text}
 use Rattle.record_table.specs.TypedSets.{kind_of, is_typed}
 use Rattle.record.specs.Check.{items_of, row_refusal}

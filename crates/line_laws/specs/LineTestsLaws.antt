@@ -7,7 +7,7 @@ use Rattle.text.specs.BlankLaws.{all_blank_complete, all_blank_sound, all_blank_
 use Rattle.line.specs.Line.{filled}
 use Rattle.line.specs.LineLaws.{filled_short}
 use Rattle.delimiter.specs.Kind.{is_delimiter}
-use Rattle.delimiter.specs.KindLaws.{is_delimiter_complete, is_delimiter_sound, delimiter_not_blank}
+use Rattle.delimiter.proofs.KindLaws.{is_delimiter_complete, is_delimiter_sound, delimiter_not_blank}
 use Rattle.theory.specs.Proper.{Inside}
 
 -- A blank line.

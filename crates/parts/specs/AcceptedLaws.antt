@@ -11,7 +11,7 @@ use Rattle.line.specs.declared.Refusal.{Refusal}
 use Rattle.line.specs.Line.{columns, refusal, first_bad, line_fault, filled}
 use Rattle.line.specs.LineLaws.{columns_within, filled_length}
 use Rattle.delimiter.specs.Kind.{is_delimiter, dataset_number}
-use Rattle.delimiter.specs.KindLaws.{is_delimiter_sound, delimiter_not_blank, dataset_number_sound}
+use Rattle.delimiter.proofs.KindLaws.{is_delimiter_sound, delimiter_not_blank, dataset_number_sound}
 use Rattle.record_table.specs.TypedSets.{kind_of, is_typed}
 use Rattle.record.specs.Check.{row_refusal}
 use Rattle.walk.specs.declared.Place.{Place}

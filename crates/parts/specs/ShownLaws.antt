@@ -14,7 +14,7 @@ use Rattle.integer.specs.Integer.{integer_of}
 use Rattle.line.specs.Line.{columns, filled}
 use Rattle.line.specs.LineLaws.{columns_take, columns_within}
 use Rattle.delimiter.specs.Kind.{positive, dataset_number}
-use Rattle.delimiter.specs.KindLaws.{is_delimiter_columns}
+use Rattle.delimiter.proofs.KindLaws.{is_delimiter_columns}
 use Rattle.parts.specs.Parts.{shown, columns_in, closes}
 
 -- blanks after some columns leave them blank or not

@@ -6,7 +6,7 @@ use Rattle.laws.specs.Choice.{pick}
 use Rattle.laws.specs.ChoiceLaws.{false_not_true}
 use Rattle.line.specs.Line.{columns, without_return, filled}
 use Rattle.line.specs.LineLaws.{filled_length}
-use Rattle.delimiter.specs.KindLaws.{dataset_number_complete}
+use Rattle.delimiter.proofs.KindLaws.{dataset_number_complete}
 use Rattle.field.specs.Item.{Item}
 use Rattle.record_table.specs.Row.{Row}
 use Rattle.record_table.specs.TypedSets.{kind_of, is_typed, sequence, typed_sets, line_seven}

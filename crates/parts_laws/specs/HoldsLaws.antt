@@ -3,7 +3,7 @@ use Rattle.std.specs.Prelude.{◌≡◌, refl, true, false, List, [], ◌∷◌,
 use Rattle.std.proofs.Common.{sym, ap, subst, ◌∙◌, append_assoc, append-nil, add-zero, arith, length-append}
 use Rattle.line.specs.Line.{columns, filled}
 use Rattle.delimiter.specs.Kind.{Delimiter, NumberLine}
-use Rattle.delimiter.specs.KindLaws.{is_delimiter_complete}
+use Rattle.delimiter.proofs.KindLaws.{is_delimiter_complete}
 use Rattle.theory.specs.Sets.{Set}
 use Rattle.theory.specs.Proper.{Inside, SetLines, BlankLines, Lines}
 use Rattle.line_laws.specs.LineTestsLaws.{inside_complete, blank_inside}

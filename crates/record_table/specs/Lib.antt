@@ -1,7 +1,6 @@
 pub mod Row
 pub mod Records
 pub mod TypedSets
-pub mod TypedSetsLaws
 pub mod Tabled
 pub mod TabledLaws
 pub mod PaddingLaws

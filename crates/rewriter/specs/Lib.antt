@@ -1,9 +1,6 @@
 pub mod Rewriter
 pub mod Body
-pub mod BodyLaws
 pub mod Run
-pub mod RunLaws
-pub mod PutLaws
 pub mod PlainLaws
 pub mod Fair
 pub mod RewriterLaws

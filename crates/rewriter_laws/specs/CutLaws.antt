@@ -19,7 +19,7 @@ use Rattle.record_table.specs.Records.{plain, data_row}
 use Rattle.record_table.specs.TypedSets.{header_lines}
 use Rattle.record.specs.Declares.{count_by}
 use Rattle.record.specs.Written.{InColumns, Written}
-use Rattle.record.specs.CutLaws.{in_columns_cut}
+use Rattle.record.proofs.CutLaws.{in_columns_cut}
 use Rattle.theory.specs.Sets.{Set}
 use Rattle.theory.specs.Proper.{TypedLines, SetLines}
 use Rattle.line_laws.specs.Short.{Short}

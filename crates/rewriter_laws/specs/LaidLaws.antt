@@ -7,7 +7,7 @@ use Rattle.text.specs.BlankLaws.{blanks_replicate}
 use Rattle.line.specs.Line.{Allowed, Allowed.none as no_byte, Allowed.more as byte, columns, filled}
 use Rattle.line.specs.LineLaws.{columns_within}
 use Rattle.delimiter.specs.Kind.{Delimiter, delimiter, NumberLine, number_line}
-use Rattle.delimiter.specs.KindLaws.{dataset_number_complete}
+use Rattle.delimiter.proofs.KindLaws.{dataset_number_complete}
 use Rattle.theory.specs.Sets.{Set}
 use Rattle.theory.specs.Proper.{BlankLines, Lines, Ended}
 use Rattle.line_laws.specs.Ends.{joined}
@@ -16,8 +16,8 @@ use Rattle.parts.specs.PartsLaws.{bytes_in_append}
 use Rattle.parts.specs.Padding.{padding_of}
 use Rattle.parts_laws.specs.Holds.{columns_of, Holds, AtPlaces}
 use Rattle.rewriter.specs.Rewriter.{plain_number, kept_of, lines_text, head_text, unpadded, set_text, rewritten_set, rewritten}
-use Rattle.rewriter.specs.BodyLaws.{lines_text_most, unpadded_most}
-use Rattle.rewriter.specs.PutLaws.{plain_number_length, set_text_length}
+use Rattle.rewriter.proofs.BodyLaws.{lines_text_most, unpadded_most}
+use Rattle.rewriter.proofs.PutLaws.{plain_number_length, set_text_length}
 use Rattle.rewriter.specs.PlainLaws.{plain_number_allowed}
 use Rattle.rewriter.specs.Fair.{FairLines, Inner, FairSets, laid, plain_delimiter}
 use Rattle.rewriter.specs.RewriterLaws.{kept_allowed}

@@ -7,5 +7,3 @@ pub mod KeptLaws
 pub mod Laid
 pub mod LaidLaws
 pub mod DifferLaws
-pub mod RewritingLaws
-pub mod UnpaddedLaws

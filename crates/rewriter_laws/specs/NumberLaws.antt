@@ -11,10 +11,10 @@ use Rattle.integer.specs.Spelling.{IntegerSpelling, spelled}
 use Rattle.line.specs.Line.{filled}
 use Rattle.line.specs.LineLaws.{filled_short, columns_allowed}
 use Rattle.delimiter.specs.Kind.{NumberLine, number_line, dataset_number}
-use Rattle.delimiter.specs.KindLaws.{dataset_number_complete}
+use Rattle.delimiter.proofs.KindLaws.{dataset_number_complete}
 use Rattle.parts.specs.Parts.{columns_in}
 use Rattle.rewriter.specs.Rewriter.{plain_in, plain_number}
-use Rattle.rewriter.specs.PutLaws.{plain_in_length, plain_number_length}
+use Rattle.rewriter.proofs.PutLaws.{plain_in_length, plain_number_length}
 use Rattle.rewriter.specs.PlainLaws.{plain_blank, digit_of, plain_number_allowed}
 use Rattle.rewriter_laws.specs.Form.{Plainly, plainly}
 

@@ -4,7 +4,7 @@ use Rattle.std.proofs.Common.{sym, ap, ◌∙◌, arith}
 use Rattle.laws.specs.Cut.{cut}
 use Rattle.header.specs.Header.{header_of}
 use Rattle.parts.specs.Parts.{Part, parts_of}
-use Rattle.rewriter_laws.specs.RewritingLaws.{rewritten_proper, rewritten_form, rewritten_same}
+use Rattle.rewriter_laws.proofs.RewritingLaws.{rewritten_proper, rewritten_form, rewritten_same}
 use Rattle.rewriter_laws.specs.Form.{InForm}
 use Rattle.writer_laws.specs.HeaderRun.{Passed}
 use Rattle.writer_laws.specs.DataLines.{lent_file}

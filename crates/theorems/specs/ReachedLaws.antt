@@ -13,7 +13,7 @@ use Rattle.layout.specs.LayoutLaws.{fields_of_some}
 use Rattle.field.specs.Item.{Item}
 use Rattle.record_table.specs.Records.{data_row, no_record}
 use Rattle.record_table.specs.TypedSets.{kind_of, is_typed, untyped, sequence, Following, nothing, list, lists, data_lines, following}
-use Rattle.record_table.specs.TypedSetsLaws.{is_counted, is_counted_lem, typed_sound, following_past}
+use Rattle.record_table.proofs.TypedSetsLaws.{is_counted, is_counted_lem, typed_sound, following_past}
 use Rattle.record.specs.Check.{taken, row_refusal}
 use Rattle.record.specs.Declares.{natural_at, case_by, count_by, stored_by}
 use Rattle.walk.specs.Due.{due, opening, record_due, list_row, may_close, may_continue, row_due, settled, next, count_place, counted, items_due, after_record, after_list, after_items, after}
@@ -28,7 +28,7 @@ use Rattle.judge.specs.Judge.{line_outcome, line_step}
 use Rattle.walk_laws.specs.ListLaws.{settled_cases}
 use Rattle.format_laws.specs.Asked.{ReadsAs, Asked}
 use Rattle.format_laws.specs.Printed.{printed_for, Holding}
-use Rattle.format_laws.specs.DueLaws as DueLaws
+use Rattle.format_laws.proofs.DueLaws as DueLaws
 use Rattle.theorems.specs.Reached.{Reached, begins, line, DueLine, printed_text}
 
 -- Of what is due after a line.

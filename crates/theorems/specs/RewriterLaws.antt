@@ -7,7 +7,7 @@ use Rattle.parts.specs.Parts.{parts_of}
 use Rattle.parts.specs.Padding.{padding_of}
 use Rattle.rewriter.specs.Rewriter.{rewritten_file, rewrite_reply, rewrite_out}
 use Rattle.rewriter_laws.specs.Form.{InForm, KeepsSpellings}
-use Rattle.rewriter_laws.specs.RewritingLaws.{rewritten_short, rewritten_proper, rewritten_form, rewritten_keeps, rewritten_only, rewritten_same, form_unpadded}
+use Rattle.rewriter_laws.proofs.RewritingLaws.{rewritten_short, rewritten_proper, rewritten_form, rewritten_keeps, rewritten_only, rewritten_same, form_unpadded}
 use Rattle.theory.specs.Sets.{Set}
 use Rattle.theory.specs.Proper.{Proper}
 use Rattle.theorems.specs.Answers.{Filled}

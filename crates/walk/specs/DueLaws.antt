@@ -22,7 +22,7 @@ use Rattle.record_table.specs.Records.{records, record_of, data_row, no_record, 
 use Rattle.record_table.specs.TypedSets.{typed_sets, sequence, untyped, Following, nothing, list, lists, data_lines, kind58, kind82, kind1815, line_seven, before_axes, most_records, following}
 use Rattle.record.specs.Check.{or_else, otherwise, stray_fault, fields_fault, stray, fields_refusal, condition_fault, taken, taken_refusal, row_refusal, items_of}
 use Rattle.record.specs.TakenLaws.{taken_is, taken_first}
-use Rattle.record_table.specs.TypedSetsLaws.{is_counted, is_counted_lem, typed_sound, sequence_past, following_past}
+use Rattle.record_table.proofs.TypedSetsLaws.{is_counted, is_counted_lem, typed_sound, sequence_past, following_past}
 use Rattle.record_table.specs.TabledLaws.{record_of_past}
 use Rattle.record.specs.Declares.{natural_at, number_in, case_in, stored_in}
 use Rattle.record.specs.DeclaresLaws.{declares_items}

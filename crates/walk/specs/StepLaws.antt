@@ -10,7 +10,7 @@ use Rattle.integer.specs.Integer.{push, step_integer, end_integer, integer_of}
 use Rattle.line.specs.Line.{refusal}
 use Rattle.line.specs.declared.Refusal.{Refusal}
 use Rattle.delimiter.specs.Kind.{Delimiter, delimiter, dataset_number}
-use Rattle.delimiter.specs.KindLaws.{is_delimiter_complete, delimiter_not_blank}
+use Rattle.delimiter.proofs.KindLaws.{is_delimiter_complete, delimiter_not_blank}
 use Rattle.walk.specs.declared.Due.{Due}
 use Rattle.walk.specs.declared.Place.{Place}
 use Rattle.walk.specs.declared.Place.TheVariants.{Outside, Number, Plain, Typed}

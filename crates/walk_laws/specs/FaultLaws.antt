@@ -15,11 +15,11 @@ use Rattle.line.specs.Line.{refusal, columns, line_fault, filled}
 use Rattle.line.specs.LineLaws.{filled_length, line_fault_sound, line_fault_complete}
 use Rattle.line.specs.declared.Refusal.{Refusal}
 use Rattle.delimiter.specs.Kind.{Delimiter, NumberLine, number_line, is_delimiter, dataset_number}
-use Rattle.delimiter.specs.KindLaws.{delimiter_not_blank, is_delimiter_complete, is_delimiter_sound, dataset_number_complete, dataset_number_sound}
+use Rattle.delimiter.proofs.KindLaws.{delimiter_not_blank, is_delimiter_complete, is_delimiter_sound, dataset_number_complete, dataset_number_sound}
 use Rattle.record_table.specs.Row.{Row, with_padding, first_fields, none}
 use Rattle.record_table.specs.Records.{records, record_of, data_row, no_record}
 use Rattle.record_table.specs.TypedSets.{typed_sets, following, untyped}
-use Rattle.record_table.specs.TypedSetsLaws.{following_past}
+use Rattle.record_table.proofs.TypedSetsLaws.{following_past}
 use Rattle.record_table.specs.PaddingLaws.{record_of_unpadded, whole_row}
 use Rattle.record.specs.Check.{condition_fault, row_refusal}
 use Rattle.walk.specs.Due.{record_due, full_row, list_row, may_close, may_continue, row_due, after}

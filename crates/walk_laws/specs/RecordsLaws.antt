@@ -13,7 +13,7 @@ use Rattle.layout.specs.LayoutLaws.{fields_of_some}
 use Rattle.field.specs.Item.{Item}
 use Rattle.record_table.specs.Records.{no_record, record_of, data_row}
 use Rattle.record_table.specs.TypedSets.{Following, nothing, list, lists, data_lines, untyped, sequence, following}
-use Rattle.record_table.specs.TypedSetsLaws.{is_counted, is_counted_lem, typed_sound}
+use Rattle.record_table.proofs.TypedSetsLaws.{is_counted, is_counted_lem, typed_sound}
 use Rattle.record.specs.Declares.{natural_at, case_by, count_by, stored_by}
 use Rattle.theory.specs.Sets.{number_at}
 use Rattle.theory.specs.Due.{rows_after, lists_of}

@@ -18,7 +18,7 @@ use Rattle.rewriter.specs.Rewriter.{head_text, lines_text, delimiter_line, set_t
 use Rattle.output.specs.Output.{Put, placed}
 use Rattle.output.specs.OutputLaws.{put_start, put_done, put_room, put_next}
 use Rattle.rewriter.specs.Body.{lines_to, lines_in, body_text}
-use Rattle.rewriter.specs.PutLaws.{set_text_length}
+use Rattle.rewriter.proofs.PutLaws.{set_text_length}
 use Rattle.writer.specs.Writer.{first_unfit, data_text, written_set, laid_reply, write_reply, write_out}
 use Rattle.writer.specs.Lines.{data_len, set_len}
 use Rattle.writer.specs.WriterLaws.{data_text_length}

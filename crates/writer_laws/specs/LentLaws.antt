@@ -38,7 +38,7 @@ use Rattle.parts.specs.Parts.{columns_in, Part, part, outside, inside, parts_fro
 use Rattle.parts.specs.Function.{part_case, count_of, stored_of}
 use Rattle.parts.specs.Padding.{counted_past}
 use Rattle.rewriter.specs.Rewriter.{plain_in, digit_or_blank, plain_number, delimiter_line, kept_of, lines_text, head_text, set_text, cut_last, unpadded, rewritten_set, rewritten, rewritten_file}
-use Rattle.rewriter.specs.BodyLaws.{lines_text_append}
+use Rattle.rewriter.proofs.BodyLaws.{lines_text_append}
 use Rattle.rewriter.specs.Fair.{Inner, plain_delimiter}
 use Rattle.rewriter.specs.RewriterLaws.{inner_append, delimiter_closes, cut_lines}
 use Rattle.decimal.specs.Decimal.{field_text}

@@ -9,7 +9,7 @@ use Rattle.text.proofs.TextLaws.{trimmed_complete}
 use Rattle.line.specs.Line.{Allowed, Allowed.none as no_byte, filled, line_fault, passed}
 use Rattle.line.specs.LineLaws.{filled_short, line_fault_complete, allowed_append, columns_allowed}
 use Rattle.delimiter.specs.Kind.{Delimiter, delimiter, is_delimiter}
-use Rattle.delimiter.specs.KindLaws.{is_delimiter_sound}
+use Rattle.delimiter.proofs.KindLaws.{is_delimiter_sound}
 use Rattle.layout.specs.Columns.{total}
 use Rattle.field.specs.Field.{field_number}
 use Rattle.record_table.specs.Records.{E}

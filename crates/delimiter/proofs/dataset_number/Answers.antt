@@ -3,7 +3,7 @@ use mathlib.Core.Path.{sym, ◌∙◌}
 use native.Mathlib.Omega.{arith}
 use lib.Seq.{length-take-le}
 use Rattle.text.proofs.TextLaws.{trimmed_most}
-use Rattle.delimiter.specs.KindLaws.{dataset_number_six, dataset_number_other}
+use Rattle.delimiter.proofs.KindLaws.{dataset_number_six, dataset_number_other}
 use Rattle.delimiter.proofs.dataset_number.Goals as goal
 
 pub slice_bounds-integer_field-end : goal.slice_bounds-integer_field-end

@@ -2,7 +2,7 @@
 use mathlib.Core.Path.{sym, ◌∙◌}
 use borrow.Author.Tests.{eq-eqb, ne_eqb}
 use Rattle.laws.specs.CutLaws.{tail_part}
-use Rattle.delimiter.specs.KindLaws.{is_delimiter_columns}
+use Rattle.delimiter.proofs.KindLaws.{is_delimiter_columns}
 use Rattle.delimiter.proofs.is_delimiter.Goals as goal
 
 pub returns-then-not-is_blank : goal.returns-then-not-is_blank

@@ -2,8 +2,8 @@ use mathlib.Core.Path.{ap}
 use Prim.Native.Nat.{◌-◌}
 use native.Mathlib.Omega.{arith}
 use lib.ListN.{length}
-use Rattle.rewriter.specs.BodyLaws.{body_stops, body_ends, body_most}
-use Rattle.rewriter.specs.RunLaws.{run_length}
+use Rattle.rewriter.proofs.BodyLaws.{body_stops, body_ends, body_most}
+use Rattle.rewriter.proofs.RunLaws.{run_length}
 use borrow.Author.Rules.{rules}
 use Rattle.rewriter.proofs.body_len.Goals as goal
 

@@ -1,7 +1,7 @@
 -- `rewriter::cut_len` meets its contract.
 use mathlib.Core.Path.{◌∙◌}
 use Rattle.line.specs.LineLaws.{line_len_within}
-use Rattle.rewriter.specs.BodyLaws.{cut_short, cut_whole}
+use Rattle.rewriter.proofs.BodyLaws.{cut_short, cut_whole}
 use native.Mathlib.Omega.{arith}
 use Rattle.rewriter.proofs.cut_len.Goals as goal
 

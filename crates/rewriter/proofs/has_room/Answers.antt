@@ -1,7 +1,7 @@
 -- `rewriter::has_room` meets its contract.
 use mathlib.Core.Path.{refl}
 use Rattle.judge.specs.JudgeLaws.{judged_short}
-use Rattle.rewriter.specs.PutLaws.{file_room}
+use Rattle.rewriter.proofs.PutLaws.{file_room}
 use Rattle.rewriter.proofs.has_room.Goals as goal
 
 pub returns-then-file-room : goal.returns-then-file-room

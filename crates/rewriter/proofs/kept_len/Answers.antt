@@ -2,7 +2,7 @@
 use mathlib.Core.Path.{sym}
 use lib.Seq.{length-take-le}
 use Rattle.line.specs.LineLaws.{columns_within}
-use Rattle.rewriter.specs.BodyLaws.{kept_columns}
+use Rattle.rewriter.proofs.BodyLaws.{kept_columns}
 use Rattle.rewriter.proofs.kept_len.Goals as goal
 
 pub slice_bounds-text_len-end : goal.slice_bounds-text_len-end

@@ -3,7 +3,7 @@ use mathlib.Core.Path.{sym, ap}
 use mathlib.Core.List.{[], ◌∷◌}
 use lib.ListN.{length, length-append}
 use Rattle.rewriter.specs.Body.{cut_text}
-use Rattle.rewriter.specs.BodyLaws.{last_stops, last_begins, cut_within}
+use Rattle.rewriter.proofs.BodyLaws.{last_stops, last_begins, cut_within}
 use native.Mathlib.Omega.{arith}
 use Rattle.rewriter.proofs.last_len.Goals as goal
 

@@ -3,7 +3,7 @@ use Prim.Native.Nat.{◌+◌, ◌≤◌, ◌-◌}
 use native.Mathlib.Omega.{arith}
 use lib.ListN.{length}
 use Rattle.parts.specs.MarkLaws.{part_length}
-use Rattle.rewriter.specs.RunLaws.{bared_block}
+use Rattle.rewriter.proofs.RunLaws.{bared_block}
 use borrow.Author.Rules.{rules}
 use Rattle.rewriter.proofs.past_bare.Goals as goal
 

@@ -1,6 +1,6 @@
 -- `rewriter::past_run` meets its contract.
 use native.Mathlib.Omega.{arith}
-use Rattle.rewriter.specs.RunLaws.{bared_within, run_none, run_last}
+use Rattle.rewriter.proofs.RunLaws.{bared_within, run_none, run_last}
 use Rattle.rewriter.proofs.past_run.Goals as goal
 
 pub returns-then-not-whole : goal.returns-then-not-whole

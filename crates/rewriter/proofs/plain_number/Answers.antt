@@ -1,6 +1,6 @@
 use mathlib.Core.Path.{refl, ◌∙◌}
 use lib.ListN.{replicate, length-set}
-use Rattle.rewriter.specs.PutLaws.{plain_next, plain_start, plain_done}
+use Rattle.rewriter.proofs.PutLaws.{plain_next, plain_start, plain_done}
 use borrow.Author.Rules.{rules}
 use Rattle.rewriter.proofs.plain_number.Goals as goal
 

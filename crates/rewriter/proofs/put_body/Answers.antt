@@ -4,7 +4,7 @@ use lib.ListN.{take, drop}
 use Rattle.output.specs.Output.{ended}
 use Rattle.output.specs.OutputLaws.{put_start, put_done, put_room, put_next}
 use Rattle.rewriter.specs.Body.{body_text}
-use Rattle.rewriter.specs.BodyLaws.{kept_within, body_stops, body_ends, body_kept}
+use Rattle.rewriter.proofs.BodyLaws.{kept_within, body_stops, body_ends, body_kept}
 use native.Mathlib.Omega.{arith}
 use Rattle.rewriter.proofs.put_body.Goals as goal
 

@@ -1,5 +1,5 @@
 -- `rewriter::put_head` meets its contract.
-use Rattle.rewriter.specs.PutLaws.{delimiter_room, number_room, head_done}
+use Rattle.rewriter.proofs.PutLaws.{delimiter_room, number_room, head_done}
 use Rattle.rewriter.proofs.put_head.Goals as goal
 
 pub put_line-past-requires : goal.put_line-past-requires

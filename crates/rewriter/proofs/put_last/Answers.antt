@@ -3,7 +3,7 @@ use mathlib.Core.Path.{◌≡◌, sym}
 use mathlib.Core.List.{[]}
 use Rattle.output.specs.OutputLaws.{placed_none}
 use Rattle.rewriter.specs.Body.{last_text}
-use Rattle.rewriter.specs.BodyLaws.{last_stops, last_begins, cut_within, cut_part}
+use Rattle.rewriter.proofs.BodyLaws.{last_stops, last_begins, cut_within, cut_part}
 use borrow.Author.Rules.{rules}
 use native.Mathlib.Omega.{arith}
 use Rattle.rewriter.proofs.put_last.Goals as goal

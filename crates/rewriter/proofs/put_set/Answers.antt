@@ -1,6 +1,6 @@
 -- `rewriter::put_set` meets its contract.
 use Rattle.parts.specs.CountedLaws.{counted_within}
-use Rattle.rewriter.specs.PutLaws.{head_room, front_room, last_room, closing_room, set_done}
+use Rattle.rewriter.proofs.PutLaws.{head_room, front_room, last_room, closing_room, set_done}
 use Rattle.rewriter.proofs.put_set.Goals as goal
 
 pub put_head-opened-requires : goal.put_head-opened-requires

@@ -1,7 +1,7 @@
 use Prim.Native.Nat.{◌-◌}
 use Rattle.output.specs.OutputLaws.{put_start, put_done}
 use Rattle.parts.specs.TurnLaws.{turn, between_start, between_next}
-use Rattle.rewriter.specs.PutLaws.{rewritten_start, turn_none, turn_within, set_room, set_next}
+use Rattle.rewriter.proofs.PutLaws.{rewritten_start, turn_none, turn_within, set_room, set_next}
 use native.Mathlib.Omega.{arith}
 use Rattle.rewriter.proofs.put_sets.Goals as goal
 

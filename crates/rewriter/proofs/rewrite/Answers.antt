@@ -1,5 +1,5 @@
 -- `rewriter::rewrite` meets its contract.
-use Rattle.rewriter.specs.PutLaws.{refused_both, room_known, short_both, accepted_both}
+use Rattle.rewriter.proofs.PutLaws.{refused_both, room_known, short_both, accepted_both}
 use Rattle.rewriter.proofs.rewrite.Goals as goal
 
 pub returns-then-found-gt0 : goal.returns-then-found-gt0

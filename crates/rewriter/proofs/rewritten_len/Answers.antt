@@ -3,7 +3,7 @@ use mathlib.Core.List.{List}
 use Prim.Native.Nat.{ℕ, ◌-◌}
 use lib.ListN.{length}
 use Rattle.parts.specs.TurnLaws.{turn, between_start, between_next}
-use Rattle.rewriter.specs.PutLaws.{rewritten_start, file_most, turn_none, turn_within, turn_length}
+use Rattle.rewriter.proofs.PutLaws.{rewritten_start, file_most, turn_none, turn_within, turn_length}
 use native.Mathlib.Omega.{arith}
 use Rattle.rewriter.proofs.rewritten_len.Goals as goal
 

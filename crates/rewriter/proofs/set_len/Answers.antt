@@ -1,8 +1,8 @@
 -- `rewriter::set_len` meets its contract.
 use lib.ListN.{length}
 use Rattle.parts.specs.CountedLaws.{counted_within}
-use Rattle.rewriter.specs.BodyLaws.{body_most, last_most}
-use Rattle.rewriter.specs.PutLaws.{set_at_length}
+use Rattle.rewriter.proofs.BodyLaws.{body_most, last_most}
+use Rattle.rewriter.proofs.PutLaws.{set_at_length}
 use native.Mathlib.Omega.{arith}
 use Rattle.rewriter.proofs.set_len.Goals as goal
 

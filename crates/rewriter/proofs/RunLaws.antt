@@ -15,7 +15,7 @@ use Rattle.parts.specs.Mark.{LastLine}
 use Rattle.output.specs.Output.{ended}
 use Rattle.rewriter.specs.Rewriter.{kept_of, lines_text}
 use Rattle.rewriter.specs.Body.{lines_to, lines_in, body_text}
-use Rattle.rewriter.specs.BodyLaws.{lines_text_append, body_line_length}
+use Rattle.rewriter.proofs.BodyLaws.{lines_text_append, body_line_length}
 use Rattle.rewriter.specs.Run.{bare_in, Bare, Bared, Run, Whole, Ended}
 use Rattle.rewriter.specs.Run.Whole.{none as no_line, more as line}
 use Rattle.rewriter.specs.Run.Ended.{none as no_byte, last as lf, more as byte}

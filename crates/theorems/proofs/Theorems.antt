@@ -65,27 +65,27 @@ use Rattle.record_table.specs.PaddingLaws as RowLaws
 use Rattle.record.specs.TakenLaws as TakenLaws
 use Rattle.host.specs.PackedLaws as PackedLaws
 use Rattle.parts_laws.specs.PaddingLaws as PaddingLaws
-use Rattle.rewriter_laws.specs.UnpaddedLaws as UnpaddedLaws
+use Rattle.rewriter_laws.proofs.UnpaddedLaws as UnpaddedLaws
 use Rattle.writer_laws.specs.HeaderRefusedLaws as HeaderRefusedLaws
 use Rattle.walk_laws.specs.FaultColumnLaws as FaultColumnLaws
 use Rattle.walk_laws.specs.FileFaultLaws as FileFaultLaws
 use Rattle.stream_laws.proofs.StreamingLaws as StreamingLaws
 use Rattle.stream_laws.proofs.CallsLaws as CallsLaws
-use Rattle.theorems.specs.TableLaws as TableLaws
-use Rattle.theorems.specs.TableCallsLaws as TableCallsLaws
+use Rattle.theorems.proofs.TableLaws as TableLaws
+use Rattle.theorems.proofs.TableCallsLaws as TableCallsLaws
 use Rattle.judge_laws.specs.JudgeLaws as JudgeLaws
 use Rattle.theorems.specs.ListerLaws as ListerLaws
-use Rattle.theorems.specs.ColumnsLaws as ColumnsLaws
-use Rattle.theorems.specs.ReaderLaws as ReaderLaws
+use Rattle.theorems.proofs.ColumnsLaws as ColumnsLaws
+use Rattle.theorems.proofs.ReaderLaws as ReaderLaws
 use Rattle.theorems.specs.LentLaws as LentLaws
-use Rattle.theorems.specs.RoundedLaws as RoundedLaws
-use Rattle.theorems.specs.ValuesLaws as ValuesLaws
+use Rattle.theorems.proofs.RoundedLaws as RoundedLaws
+use Rattle.theorems.proofs.ValuesLaws as ValuesLaws
 use Rattle.theorems.specs.RewriterLaws as RewriterLaws
-use Rattle.theorems.specs.SameLaws as SameLaws
-use Rattle.theorems.specs.AloneLaws as AloneLaws
-use Rattle.theorems.specs.WriterLaws as WriterLaws
-use Rattle.theorems.specs.KeptLaws as KeptLaws
-use Rattle.theorems.specs.ArrivalLaws as ArrivalLaws
+use Rattle.theorems.proofs.SameLaws as SameLaws
+use Rattle.theorems.proofs.AloneLaws as AloneLaws
+use Rattle.theorems.proofs.WriterLaws as WriterLaws
+use Rattle.theorems.proofs.KeptLaws as KeptLaws
+use Rattle.theorems.proofs.ArrivalLaws as ArrivalLaws
 use Rattle.format.specs.Format as Format
 use Rattle.format.specs.Format.{Format}
 use Rattle.format.specs.Reading.{fields, reading_of}
@@ -107,19 +107,19 @@ use Rattle.format_reader.specs.Question as Question
 use Rattle.host.specs.Answer.{seen_bytes, field_answer}
 use Rattle.format_laws.specs.Asked.{as_format, ReadsAs, left_blank, Asked}
 use Rattle.format_laws.specs.Fault.{Ruled, LentFault}
-use Rattle.format_laws.specs.FaultLaws as FormatFaultLaws
+use Rattle.format_laws.proofs.FaultLaws as FormatFaultLaws
 use Rattle.format_laws.specs.Printed.{print_at, case_at, is_among, entries_text, orders_text, last_text, printed_for}
 use Rattle.format_laws.specs.Printed as Printed
 use Rattle.format_laws.specs.Said.{NoFormat, LineRefused, NoField, FieldSaid}
 use Rattle.format_laws.specs.SameLaws as FormatLaws
-use Rattle.format_laws.specs.PrintedLaws as PrintedLaws
-use Rattle.format_laws.specs.DueLaws as PrintedDueLaws
-use Rattle.format_laws.specs.JudgeLaws as QuestionJudgeLaws
-use Rattle.format_laws.specs.SaidLaws as SaidLaws
-use Rattle.theorems.specs.QuestionLaws.{ItemsShown}
-use Rattle.theorems.specs.QuestionLaws as QuestionLaws
+use Rattle.format_laws.proofs.PrintedLaws as PrintedLaws
+use Rattle.format_laws.proofs.DueLaws as PrintedDueLaws
+use Rattle.format_laws.proofs.JudgeLaws as QuestionJudgeLaws
+use Rattle.format_laws.proofs.SaidLaws as SaidLaws
+use Rattle.theorems.proofs.QuestionLaws.{ItemsShown}
+use Rattle.theorems.proofs.QuestionLaws as QuestionLaws
 use Rattle.theorems.specs.AsReader.{data_columns, data_field, AsReader}
-use Rattle.theorems.specs.AsReaderLaws as AsReaderLaws
+use Rattle.theorems.proofs.AsReaderLaws as AsReaderLaws
 use Rattle.theorems.specs.Reached.{Reached, DueLine, printed_text}
 use Rattle.theorems.specs.ReachedLaws as ReachedLaws
 

@@ -24,8 +24,8 @@ use Rattle.parts_laws.specs.Stored.{stored_count, stored_item}
 use Rattle.theorems.specs.Stands.{At58}
 use Rattle.theorems.specs.Answers.{real_of_item, value_said}
 use Rattle.theorems.specs.Rounded.{nearest, Rounded, Outside, EachRounded, none, more, OnceOr21, once, outside}
-use Rattle.theorems.specs.ColumnsLaws.{value_number}
-use Rattle.theorems.specs.ReaderLaws.{reader_numbers, reader_values}
+use Rattle.theorems.proofs.ColumnsLaws.{value_number}
+use Rattle.theorems.proofs.ReaderLaws.{reader_numbers, reader_values}
 
 magnitude_nearest : (c : ℕ) (z : ℤ) → c ≤ 9007199254740992 → nat_abs z ≤ 22 → magnitude_of c (below_zero z) (nat_abs z) ≡ nearest c z
 magnitude_nearest c (pos k) h g = magnitude_of_times c k h g

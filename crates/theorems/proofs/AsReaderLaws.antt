@@ -26,8 +26,8 @@ use Rattle.format_laws.specs.DataLaws.{data_shown}
 use Rattle.theorems.specs.Stands.{At58}
 use Rattle.theorems.specs.Answers.{own_bytes}
 use Rattle.theorems.specs.ListerLaws.{set_holds, set_somewhere}
-use Rattle.theorems.specs.ColumnsLaws.{values_in_columns}
-use Rattle.theorems.specs.ReaderLaws.{number_by_bytes}
+use Rattle.theorems.proofs.ColumnsLaws.{values_in_columns}
+use Rattle.theorems.proofs.ReaderLaws.{number_by_bytes}
 use Rattle.theorems.specs.AsReader.{data_columns, data_field, AsReader}
 
 module _ {sets : List Set} {bytes : List ℕ} (p : Proper sets bytes) {k : ℕ} {s : Set} {q : Part} (a : At58 sets bytes k s q) (j : ℕ) (l : j < stored_count s) where

@@ -21,12 +21,12 @@ use Rattle.format_reader.specs.Question as Question
 use Rattle.host.specs.Packed.{word, number_in}
 use Rattle.host.specs.Answer.{seen_bytes, field_bytes, field_answer, reply_for, bytes_after}
 use Rattle.format_laws.specs.Asked.{FieldShows, Asked}
-use Rattle.format_laws.specs.JudgeLaws.{passed_row, passed_shows}
+use Rattle.format_laws.proofs.JudgeLaws.{passed_row, passed_shows}
 use Rattle.format_laws.specs.Said.{SeenAs, a_text, an_integer, a_real, FieldSaid}
-use Rattle.format_laws.specs.SaidLaws.{question_said, seen_number}
+use Rattle.format_laws.proofs.SaidLaws.{question_said, seen_number}
 use Rattle.theorems.specs.Answers.{FilledBy, KindBytes}
 use Rattle.judge_laws.specs.RowTestsLaws.{row_due_sound}
-use Rattle.theorems.specs.KeptLaws.{answer_kept}
+use Rattle.theorems.proofs.KeptLaws.{answer_kept}
 use Rattle.theorems.specs.LentLaws.{filled, short, twenty}
 
 -- the items that the row due has on a line, each shown by its field in its own columns

@@ -25,7 +25,7 @@ use Rattle.output.specs.Output.{Put, ended, placed}
 use Rattle.output.specs.OutputLaws.{put_start, put_done, put_room, put_next}
 use Rattle.rewriter.specs.Rewriter.{digit_or_blank, plain_in, plain_number, delimiter_line, lines_text, head_text, unpadded, set_text, rewritten_set, rewritten, rewritten_file, rewrite_reply, rewrite_out}
 use Rattle.rewriter.specs.Body.{body_text, last_text, front_by, last_by, set_at}
-use Rattle.rewriter.specs.BodyLaws.{lines_text_most, unpadded_most, kept_own}
+use Rattle.rewriter.proofs.BodyLaws.{lines_text_most, unpadded_most, kept_own}
 
 -- a number has as many columns as it is given
 pub plain_in_length : (w v : ℕ) → length (plain_in w v) ≡ w

@@ -33,7 +33,7 @@ use Rattle.values.specs.Values.{all_from, all_values}
 use Rattle.values.specs.Each.{Each}
 use Rattle.values.specs.EachLaws.{all_each, all_refused}
 use Rattle.theorems.specs.Answers.{real_of_item, value_said, all_said, own_bytes}
-use Rattle.theorems.specs.ColumnsLaws.{value_number}
+use Rattle.theorems.proofs.ColumnsLaws.{value_number}
 
 -- a 58 of the list as it stands in a text
 module _ {s : Set} {p : Parts.Part} (bytes : List ℕ) (ps : List Parts.Part) (w : Somewhere bytes p ps) (h : Holds s p) (e : s.number ≡ 58) where

@@ -20,8 +20,8 @@ use Rattle.theorems.specs.Stands.{At58}
 use Rattle.theorems.specs.Answers.{InTurn, Filled, value_said, all_said}
 use Rattle.judge_laws.specs.JudgeLaws.{accepted_zero}
 use Rattle.theorems.specs.ListerLaws.{set_holds, set_somewhere}
-use Rattle.theorems.specs.AnswersLaws.{all_by_list, all_asked, said_each, said_refused}
-use Rattle.theorems.specs.ReaderLaws.{reader_values}
+use Rattle.theorems.proofs.AnswersLaws.{all_by_list, all_asked, said_each, said_refused}
+use Rattle.theorems.proofs.ReaderLaws.{reader_values}
 
 -- the call, by what it says
 laid_out : (bytes : List ℕ) (k n : ℕ) (xs : List Float) (out : List ℕ) → all_values bytes k ≡ said 0 n xs → length xs ≡ n → n ≤ length out

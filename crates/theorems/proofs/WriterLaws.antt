@@ -12,7 +12,7 @@ use Rattle.header.specs.Header.{header_of}
 use Rattle.parts.specs.Parts.{parts_of}
 use Rattle.parts.specs.Padding.{padding_of}
 use Rattle.rewriter.specs.Rewriter.{rewritten_file}
-use Rattle.rewriter_laws.specs.RewritingLaws.{form_unpadded}
+use Rattle.rewriter_laws.proofs.RewritingLaws.{form_unpadded}
 use Rattle.writer.specs.Writer.{fits_at, first_unfit, laid_reply, write_reply, write_out}
 use Rattle.writer_laws.specs.DataLines.{lent_file}
 use Rattle.writer_laws.specs.HeaderRunLaws.{header_passed}
@@ -22,7 +22,7 @@ use Rattle.writer_laws.specs.ReplyLaws.{answered, answered_fit}
 use Rattle.theorems.specs.Answers.{Filled}
 use Rattle.judge_laws.specs.JudgeLaws.{accepted_proper, accepted_zero}
 use Rattle.theorems.specs.ListerLaws.{lister_places, set_stands}
-use Rattle.theorems.specs.ReaderLaws.{reader_numbers}
+use Rattle.theorems.proofs.ReaderLaws.{reader_numbers}
 use Rattle.theorems.specs.LaidOut.{written_text, Writable, LaidOut, ReadAs}
 use Rattle.theorems.specs.LaidOutLaws.{laid_out, read_as}
 

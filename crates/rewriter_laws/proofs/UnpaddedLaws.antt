@@ -19,7 +19,7 @@ use Rattle.rewriter_laws.specs.CutLaws.{cut_lines}
 use Rattle.rewriter_laws.specs.Laid.{body_of}
 use Rattle.rewriter_laws.specs.KeptLaws.{held_unpadded}
 use Rattle.rewriter_laws.specs.OwnLaws.{own_only}
-use Rattle.rewriter_laws.specs.RewritingLaws.{proper_stand, proper_own}
+use Rattle.rewriter_laws.proofs.RewritingLaws.{proper_stand, proper_own}
 
 -- Lines of which the last is cut.
 

@@ -20,7 +20,7 @@ use Rattle.walk.specs.declared.Due.{Due}
 use Rattle.format_reader.specs.Question.{kind_of}
 use Rattle.format_laws.specs.Asked.{ReadsAs}
 use Rattle.format_laws.specs.Printed.{records, text_in, record_text, print_at, entries_text, orders_text, last_text, list_text, printed_for, Holding}
-use Rattle.format_laws.specs.PrintedLaws.{as_fields, record_reads, entries_reads, orders_reads, last_reads}
+use Rattle.format_laws.proofs.PrintedLaws.{as_fields, record_reads, entries_reads, orders_reads, last_reads}
 
 -- each record's first print, in one test
 record_text_lem : (k : ℕ) → k < no_record → ReadsAs (record_text k) (record_of k).fields

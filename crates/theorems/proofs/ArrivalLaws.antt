@@ -31,7 +31,7 @@ use Rattle.theory.specs.Sets.{Set}
 use Rattle.theory.specs.Proper.{Proper}
 use Rattle.theorems.specs.Table.{OfLine, BurstInTable}
 use Rattle.judge_laws.specs.JudgeLaws.{accepted_proper, proper_accepted}
-use Rattle.theorems.specs.TableCallsLaws.{of_either}
+use Rattle.theorems.proofs.TableCallsLaws.{of_either}
 
 -- what is said of a fresh record brought up to date by bursts
 module _ {r : Stream} {bursts : List (List ℕ)} (k : Bursts fresh_record bursts r) where

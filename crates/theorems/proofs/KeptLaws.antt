@@ -19,7 +19,7 @@ use Rattle.writer.specs.Writer.{write_reply, write_out}
 use Rattle.host.specs.Packed.{word, number_in}
 use Rattle.host.specs.PackedLaws.{column_bits_most}
 use Rattle.host.specs.Answer.{value_bytes, number_shown, number_answer, value_answer, reply_for, bytes_after}
-use Rattle.theorems.specs.TableCallsLaws.{of_either}
+use Rattle.theorems.proofs.TableCallsLaws.{of_either}
 
 -- the calls whose buffers are laid by their reply
 kept_by : (number : ℕ) (after before : List ℕ) → 0 < number → pick (eqb number 0) after before ≡ before

@@ -24,8 +24,8 @@ use Rattle.theorems.specs.Stands.{SetAt, At58}
 use Rattle.theorems.specs.Answers.{Answered, NoSuch, AsJudged, real_of_item, value_said, own_bytes}
 use Rattle.judge_laws.specs.JudgeLaws.{accepted_zero}
 use Rattle.theorems.specs.ListerLaws.{no_parts, set_holds, set_somewhere}
-use Rattle.theorems.specs.AnswersLaws.{value_own, value_with_same, number_answered, number_past, number_other, number_asked, value_answered}
-use Rattle.theorems.specs.AnswersLaws.{value_past, value_other, value_asked, all_other, all_asked, item_own, real_same}
+use Rattle.theorems.proofs.AnswersLaws.{value_own, value_with_same, number_answered, number_past, number_other, number_asked, value_answered}
+use Rattle.theorems.proofs.AnswersLaws.{value_past, value_other, value_asked, all_other, all_asked, item_own, real_same}
 
 -- a file that is refused
 pub judge_first : (bytes : List ℕ) → 0 < (judged bytes).number → (k i room : ℕ) → AsJudged bytes k i room

@@ -20,13 +20,13 @@ use Rattle.theory.specs.Proper.{Proper}
 use Rattle.parts_laws.specs.Declares.{declared}
 use Rattle.parts_laws.specs.Stored.{stored_count, stored_item}
 use Rattle.rewriter_laws.specs.Differ.{PaddingAside}
-use Rattle.rewriter_laws.specs.RewritingLaws.{aside_rewritten, aside_opening, aside_lines}
+use Rattle.rewriter_laws.proofs.RewritingLaws.{aside_rewritten, aside_opening, aside_lines}
 use Rattle.theorems.specs.Stands.{SetAt, At58}
 use Rattle.theorems.specs.Answers.{real_of_item}
 use Rattle.judge_laws.specs.JudgeLaws.{proper_accepted}
 use Rattle.theorems.specs.ListerLaws.{set_stands, parts_many, lister_numbers}
-use Rattle.theorems.specs.ReaderLaws.{reader_no_set, reader_not_58, reader_past, number_of_list, reader_values}
-use Rattle.theorems.specs.ValuesLaws.{all_of_list}
+use Rattle.theorems.proofs.ReaderLaws.{reader_no_set, reader_not_58, reader_past, number_of_list, reader_values}
+use Rattle.theorems.proofs.ValuesLaws.{all_of_list}
 use Rattle.theorems.specs.RewriterLaws.{one_list}
 use Rattle.theorems.specs.Same.{said_unplaced, SameAnswers}
 

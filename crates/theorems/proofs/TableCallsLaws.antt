@@ -41,7 +41,7 @@ use Rattle.walk_laws.specs.FaultColumnLaws.{own_column, fault_column}
 use Rattle.walk_laws.specs.FileFaultLaws.{unended_some}
 use Rattle.theorems.specs.Table as Table
 use Rattle.theorems.specs.Table.{InTable, Replied, line, answered, other, CallsInTable}
-use Rattle.theorems.specs.TableLaws.{own_number, judge_table}
+use Rattle.theorems.proofs.TableLaws.{own_number, judge_table}
 
 -- what holds of both holds of the one chosen
 pub of_either : {A : Type 0} (P : A → Type 0) (t : Bool) (a b : A) → P a → P b → P (pick t a b)

@@ -32,8 +32,8 @@ use Rattle.format_reader.specs.Unruled.{looked_at, unruled_number, unruled_fault
 use Rattle.format_reader.specs.Question.{Seen, kind_of, counts, field_shown, real_shown, shown_from, line_first, field_in, field_of, form_for, row_field, answer_by, answer_of}
 use Rattle.format_laws.specs.Asked.{InField}
 use Rattle.format_laws.specs.Fault.{Ruled, nine, eleven, SpellingFault, LentFault}
-use Rattle.format_laws.specs.FaultLaws.{lent_refusal, lent_fault, lent_only, lent_none, lent_clear}
-use Rattle.format_laws.specs.JudgeLaws.{first_first}
+use Rattle.format_laws.proofs.FaultLaws.{lent_refusal, lent_fault, lent_only, lent_none, lent_clear}
+use Rattle.format_laws.proofs.JudgeLaws.{first_first}
 use Rattle.format_laws.specs.Said.{QuestionNumber, byte, long, integer_malformed, real_malformed, integer_blank, real_blank}
 use Rattle.format_laws.specs.Said.{NoFormat, LineRefused, field_count, NoField, SeenAs, a_text, an_integer, a_real, FieldSaid, shown, malformed, too_large_lem, no_field, line}
 use Rattle.format_laws.specs.Said as Answered

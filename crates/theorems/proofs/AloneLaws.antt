@@ -24,7 +24,7 @@ use Rattle.lister.specs.Lister.{entry, rows_of}
 use Rattle.reader.specs.Reader.{Said, Shown, refused, sets_from, shown_of, stored_number, value_of, number_from, value_from}
 use Rattle.values.specs.Values.{all_from, all_values}
 use Rattle.rewriter.specs.Rewriter.{unpadded, rewritten_set, rewritten, rewritten_file}
-use Rattle.rewriter_laws.specs.RewritingLaws.{bytes_most}
+use Rattle.rewriter_laws.proofs.RewritingLaws.{bytes_most}
 use Rattle.theory.specs.Sets.{Set, set}
 use Rattle.theory.specs.Proper.{BlankLines, Lines, Ended, Proper}
 use Rattle.line_laws.specs.Ends.{AllPass}
@@ -37,7 +37,7 @@ use Rattle.parts_laws.specs.Declares.{declared}
 use Rattle.parts_laws.specs.CaseLaws.{declared_some}
 use Rattle.parts_laws.specs.Stored.{stored_count, stored_item}
 use Rattle.theorems.specs.Answers.{real_of_item, value_said, all_said}
-use Rattle.theorems.specs.AnswersLaws.{number_answered, number_past, number_other, number_asked, value_answered, value_past, value_other, value_asked, all_by_list, all_other, all_asked}
+use Rattle.theorems.proofs.AnswersLaws.{number_answered, number_past, number_other, number_asked, value_answered, value_past, value_other, value_asked, all_by_list, all_other, all_asked}
 use Rattle.theorems.specs.Alone.{alone_in, sets_alone, together, at_start, row_alone, said_behind, Alone}
 use Rattle.theorems.specs.Stands.{SetAt}
 use Rattle.judge_laws.specs.HeldLaws.{part_held}

@@ -8,7 +8,7 @@ use borrow.Author.Tests.{lt-ltb, le-ltb}
 use Rattle.line.specs.Line.{refusal, columns, line_fault, filled}
 use Rattle.line.specs.declared.Refusal.{Refusal}
 use Rattle.delimiter.specs.Kind.{Delimiter, is_delimiter}
-use Rattle.delimiter.specs.KindLaws.{is_delimiter_sound}
+use Rattle.delimiter.proofs.KindLaws.{is_delimiter_sound}
 use Rattle.field.specs.Item.{Item}
 use Rattle.record_table.specs.Row.{Field, Row}
 use Rattle.record.specs.Check.{or_else, otherwise, fields_refusal, items_of, taken, taken_refusal, row_refusal}
@@ -26,7 +26,7 @@ use Rattle.format_laws.specs.Asked.{FieldShows, Asked}
 use Rattle.format_laws.specs.Fault.{Ruled, nine, eleven, fourteen}
 use Rattle.format_laws.specs.SameLaws.{by_format}
 use Rattle.format_laws.specs.RuledLaws.{Tied, tied_row}
-use Rattle.format_laws.specs.ShownLaws.{row_shown}
+use Rattle.format_laws.proofs.ShownLaws.{row_shown}
 
 ruled_some : {n : ℕ} → Ruled n → 0 < n
 ruled_some nine = omega arith

@@ -1,0 +1,15 @@
+pub mod AloneLaws
+pub mod AnswersLaws
+pub mod ArrivalLaws
+pub mod AsReaderLaws
+pub mod ColumnsLaws
+pub mod KeptLaws
+pub mod QuestionLaws
+pub mod ReaderLaws
+pub mod RoundedLaws
+pub mod SameLaws
+pub mod TableCallsLaws
+pub mod TableLaws
+pub mod Theorems
+pub mod ValuesLaws
+pub mod WriterLaws
