@@ -1,4 +1,4 @@
-# The command, the libraries for C and their installation. The library is the proved crate `host`.
+# The command, the libraries for C and their installation. The library is the proved crate `host_c`.
 CC ?= cc
 CFLAGS ?= -O2
 PREFIX ?= /usr/local
@@ -26,7 +26,7 @@ DIST = target/uff-$(VERSION)-x86_64-linux.tar.gz
 all: target/uff $(SHARED)
 
 # Proves the calls; `rt` proves again only the crates that have changed.
-$(ARCHIVE): crates.txt $(wildcard crates/*/src/*.rt crates/*/specs/*.antt crates/*/proofs/*/Proof.antt)
+$(ARCHIVE): crates.txt $(wildcard crates/*/src/*.rt crates/*/specs/*.antt crates/*/proofs/*.antt crates/*/proofs/*/*.antt)
 	bash tools/archive
 
 COMMAND = $(wildcard cmd/*.c)
