@@ -23,7 +23,7 @@ use Rattle.record_table.specs.Records.{data_row}
 use Rattle.record_table.specs.PaddingLaws.{data_full}
 use Rattle.record_table.specs.TypedSets.{header_lines}
 use Rattle.record.specs.Written.{InColumns}
-use Rattle.record.specs.WrittenLaws.{fields_past_blank}
+use Rattle.record.proofs.WrittenLaws.{fields_past_blank}
 use Rattle.record_laws.specs.FieldsInLaws.{fields_in_join}
 use Rattle.record_laws.specs.GroupLaws.{blanks_at}
 use Rattle.theory.specs.Sets.{Set}

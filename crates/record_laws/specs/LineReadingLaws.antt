@@ -26,7 +26,7 @@ use Rattle.record.specs.Check.{fields_fault, or_column, stray_in, stray, items_o
 use Rattle.record.specs.CheckLaws.{or_else_passed}
 use Rattle.record.specs.TakenLaws.{taken_blank, taken_filled, remainder_none}
 use Rattle.record.specs.Written.{a_text, FieldsIn, rest, skipped, stands, InColumns, optional_items, AllBlank, Together, Kept, nothing, Written}
-use Rattle.record.specs.WrittenLaws.{fields_past_blank}
+use Rattle.record.proofs.WrittenLaws.{fields_past_blank}
 use Rattle.record_laws.specs.Group.{placed_form, placed_from, Grouped, Fillable, Readable}
 use Rattle.record_laws.specs.GroupLaws.{Leaves, leaves_whole, leaves_later, leaves_may, together_read, own_grouped}
 use Rattle.record_laws.specs.FieldsInLaws.{span_append, fields_in_join, blanks_left, fields_blank}

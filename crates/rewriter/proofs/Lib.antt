@@ -1,3 +1,4 @@
 pub mod BodyLaws
 pub mod PutLaws
 pub mod RunLaws
+pub mod RewriterLaws

@@ -3,4 +3,3 @@ pub mod Body
 pub mod Run
 pub mod PlainLaws
 pub mod Fair
-pub mod RewriterLaws

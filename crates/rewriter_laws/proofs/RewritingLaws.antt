@@ -16,7 +16,7 @@ use Rattle.parts_laws.specs.Holds.{AtPlaces}
 use Rattle.parts_laws.specs.HoldsLaws.{lines_stand}
 use Rattle.rewriter.specs.Rewriter.{rewritten_file}
 use Rattle.rewriter.specs.Fair.{FairLines, FairSets, laid}
-use Rattle.rewriter.specs.RewriterLaws.{fair_passed, file_fair}
+use Rattle.rewriter.proofs.RewriterLaws.{fair_passed, file_fair}
 use Rattle.rewriter_laws.specs.Form.{InForm, LfEnded, OwnLines, SameSets, KeepsSpellings}
 use Rattle.rewriter_laws.specs.OwnLaws.{own_only}
 use Rattle.rewriter_laws.specs.Differ.{PaddingAside}

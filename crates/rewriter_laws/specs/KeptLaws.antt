@@ -27,7 +27,7 @@ use Rattle.parts_laws.specs.PaddingLaws.{stored_held, ended_unpadded}
 use Rattle.rewriter.specs.Rewriter.{kept_of, cut_last, unpadded}
 use Rattle.rewriter.proofs.BodyLaws.{kept_of_most}
 use Rattle.rewriter.specs.Fair.{Fair, FairLines, Inner}
-use Rattle.rewriter.specs.RewriterLaws.{filled_text, cut_columns, cut_fair}
+use Rattle.rewriter.proofs.RewriterLaws.{filled_text, cut_columns, cut_fair}
 use Rattle.rewriter_laws.specs.Form.{Trimmed, counted_columns, EndsBy, SameLines}
 use Rattle.rewriter_laws.specs.CutLaws.{stored_58, cut_short, cut_lines}
 

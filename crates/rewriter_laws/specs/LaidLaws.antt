@@ -20,7 +20,7 @@ use Rattle.rewriter.proofs.BodyLaws.{lines_text_most, unpadded_most}
 use Rattle.rewriter.proofs.PutLaws.{plain_number_length, set_text_length}
 use Rattle.rewriter.specs.PlainLaws.{plain_number_allowed}
 use Rattle.rewriter.specs.Fair.{FairLines, Inner, FairSets, laid, plain_delimiter}
-use Rattle.rewriter.specs.RewriterLaws.{kept_allowed}
+use Rattle.rewriter.proofs.RewriterLaws.{kept_allowed}
 use Rattle.rewriter_laws.specs.Form.{Plainly, counted_columns, EndsBy, PlainSets, LfEnded, Own, SameSets}
 use Rattle.line_laws.specs.NoDelimiter.{NoDelimiter}
 use Rattle.line_laws.specs.NoDelimiterLaws.{set_none}

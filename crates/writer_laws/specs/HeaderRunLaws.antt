@@ -33,7 +33,7 @@ use Rattle.header.specs.HeaderLaws.{over_refused}
 use Rattle.header.specs.Header.{answer, refused_at, past_fault, header_step, header_end, header_of}
 use Rattle.parts.specs.Parts.{columns_in, closes}
 use Rattle.rewriter.specs.Fair.{Fair, Inner, Inner.none as no_line, Inner.more as one_line}
-use Rattle.rewriter.specs.RewriterLaws.{fair_passed}
+use Rattle.rewriter.proofs.RewriterLaws.{fair_passed}
 use Rattle.judge.specs.RefusalLaws.{no_fault}
 use Rattle.line.specs.LineLaws.{filled_length}
 use Rattle.layout.specs.Columns.{total}

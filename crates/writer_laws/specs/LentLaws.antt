@@ -40,7 +40,7 @@ use Rattle.parts.specs.Padding.{counted_past}
 use Rattle.rewriter.specs.Rewriter.{plain_in, digit_or_blank, plain_number, delimiter_line, kept_of, lines_text, head_text, set_text, cut_last, unpadded, rewritten_set, rewritten, rewritten_file}
 use Rattle.rewriter.proofs.BodyLaws.{lines_text_append}
 use Rattle.rewriter.specs.Fair.{Inner, plain_delimiter}
-use Rattle.rewriter.specs.RewriterLaws.{inner_append, delimiter_closes, cut_lines}
+use Rattle.rewriter.proofs.RewriterLaws.{inner_append, delimiter_closes, cut_lines}
 use Rattle.decimal.specs.Decimal.{field_text}
 use Rattle.decimal.specs.DecimalLaws.{field_text_length}
 use Rattle.writer.specs.Writer.{decimals_of, width_at, line_end, data_text, written_set}
