@@ -103,6 +103,7 @@ $(DIST): target/uff-static $(SHARED) uff.pc.in cmd/uff.1 docs/FORMAT.md samples/
 	cd target/dist && find $(PACKED) ! -type d | LC_ALL=C sort | \
 		tar --owner=0 --group=0 --numeric-owner --mtime=@$(SOURCE_DATE_EPOCH) -I 'gzip -9n' -T - -cf '$(CURDIR)/$@.new'
 	mv $@.new $@
+	rm -rf target/dist
 
 # The speeds of the calls beside plain Rust, C's strtod and, where there is gfortran, its formatted READ; with BEFORE=ARCHIVE also beside
 # the calls of that archive, in each round.

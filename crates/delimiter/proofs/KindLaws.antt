@@ -1,7 +1,7 @@
 -- The tests for delimiters and number lines agree with what these are, in both directions. A delimiter is not blank.
 use Rattle.std.specs.Prelude.{◌≡◌, Bool, true, false, ◌&&◌, List, [], ◌∷◌, ◌++◌, ℕ, zero, suc, ◌+◌, ◌*◌, ◌^◌, ◌≤◌, ◌<◌, eqb, length, get_or, take, drop, replicate}
 use Rattle.std.proofs.Math.Path.{refl}
-use Rattle.std.proofs.Common.{sym, ◌∙◌, ap, append_assoc, mul_assoc, mul-le-mul_right, lt_of_lt_of_le, arith, eqb-true, le-leb, ne_eqb, length-append, take-append-drop, take_at, drop_at, length-take-le}
+use Rattle.std.proofs.Common.{sym, ◌∙◌, append_assoc, mul_assoc, mul-le-mul_right, lt_of_lt_of_le, arith, eqb-true, le-leb, ne_eqb, length-append, take-append-drop, take_at, drop_at, length-take-le}
 use Rattle.std.proofs.Math.Bool.{and_assoc}
 use Rattle.std.proofs.Math.Nat.{pow-succ', pow-le-pow_right}
 use Rattle.laws.specs.Choice.{pick}

@@ -13,7 +13,6 @@ use Rattle.real.specs.declared.Real.{Real}
 use Rattle.real.specs.declared.Real.TheVariants as R
 use Rattle.format.specs.Format.{Kind}
 use Rattle.format.specs.Format as Format
-use Rattle.format.specs.Reading as Reading
 use Rattle.format.specs.Reading.{Reading, reading_of}
 use Rattle.format.specs.ReadingLaws.{ReadAs, TooLarge, reading_sound, reading_complete, reading_malformed, large_reading}
 use Rattle.line.specs.Line.{line_fault, filled}

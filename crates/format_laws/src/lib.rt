@@ -1,2 +1,4 @@
+#![tactic(auto)]
+
 // Reading by a printed FORMAT and reading by a record agree, in specs/: each printed text, every line, and the judge on the same line.
 // It has no code.

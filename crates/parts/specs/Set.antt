@@ -1,7 +1,7 @@
 -- A set as it stands in a file: among its lines, from a byte on, and anywhere.
 use Rattle.std.specs.Prelude.{◌≡◌, List, ◌∷◌, ◌++◌, ℕ, ◌+◌, ◌-◌, ◌≤◌, ◌<◌, length, drop}
 use Rattle.laws.specs.Cut.{cut}
-use Rattle.parts.specs.Parts.{bytes_in, Part, outside, inside, parts_from, line_start, closing_start, past_of, through_of}
+use Rattle.parts.specs.Parts.{bytes_in, Part, outside, parts_from, line_start, closing_start, past_of, through_of}
 
 -- the first of these sets among lines, which n lines and at bytes come before
 pub record Among (n at : ℕ) (ls : List (List ℕ)) (p : Part) (ps : List Part) : Type 0 where

@@ -1,7 +1,6 @@
 -- An item that stands in its columns.
 use Rattle.std.specs.Prelude.{◌≡◌, Bool, List, ℕ, ℤ}
 use Rattle.real.specs.Spelling.{RealSpelling}
-use Rattle.codes.specs.Form.{real}
 use Rattle.field.specs.Item.{Item}
 
 -- an item that is a real, spelled in these columns

@@ -1,1 +1,3 @@
+#![tactic(auto)]
+
 // A list of sets and where they stand in a file: laws only; see specs/.

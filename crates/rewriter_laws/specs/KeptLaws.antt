@@ -11,7 +11,6 @@ use Rattle.text.proofs.TextLaws.{trimmed_complete, trimmed_sound, trimmed_most}
 use Rattle.line.specs.Line.{columns, without_return, filled}
 use Rattle.field.specs.Item.{Item}
 use Rattle.record_table.specs.Row.{Row}
-use Rattle.record_table.specs.Records.{plain}
 use Rattle.record.specs.Written.{Written}
 use Rattle.theory.specs.Sets.{Set}
 use Rattle.theory.specs.Proper.{Inside, TypedLines, PlainLines, SetLines}

@@ -6,7 +6,7 @@ use Rattle.laws.specs.Choice.{pick}
 use Rattle.laws.specs.Cut.{cut, over}
 use Rattle.line.specs.Line.{refusal, passed, first_bad}
 use Rattle.line.specs.declared.Refusal.{Refusal}
-use Rattle.walk.specs.Step.{start, state}
+use Rattle.walk.specs.Step.{start}
 use Rattle.walk.specs.declared.State.{State}
 use Rattle.walk.specs.declared.Outcome.{Outcome}
 use Rattle.walk.specs.declared.Outcome.TheVariants as Outcomes

@@ -25,7 +25,7 @@ use Rattle.reader.specs.Reader.{Said, Shown, refused, sets_from, shown_of, store
 use Rattle.values.specs.Values.{all_from, all_values}
 use Rattle.rewriter.specs.Rewriter.{unpadded, rewritten_set, rewritten, rewritten_file}
 use Rattle.rewriter_laws.proofs.RewritingLaws.{bytes_most}
-use Rattle.theory.specs.Sets.{Set, set}
+use Rattle.theory.specs.Sets.{Set}
 use Rattle.theory.specs.Proper.{BlankLines, Lines, Ended, Proper}
 use Rattle.line_laws.specs.Ends.{AllPass}
 use Rattle.line_laws.proofs.EndsLaws.{ended_complete, ended_sound}

@@ -1,1 +1,3 @@
+#![tactic(auto)]
+
 // The theorems, in specs/Theorems.antt. It has no code.

@@ -1,2 +1,4 @@
+#![tactic(auto)]
+
 // The meaning of document 01, in specs/: lists of sets, the rows that are due in a set, and the proper writings of a list.
 // It has no code.

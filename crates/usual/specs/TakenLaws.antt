@@ -36,7 +36,7 @@ use Rattle.walk.specs.Step.{state, typed_step, step_of}
 use Rattle.usual.specs.declared.Shape.{Shape}
 use Rattle.usual.specs.declared.Run.{Run}
 use Rattle.usual.specs.declared.Ahead.{Ahead}
-use Rattle.usual_columns.specs.Cells.{blank, any, row_cells, line_cells, table_cells, Wide, Fits, Tables, tables, Passed}
+use Rattle.usual_columns.specs.Cells.{blank, any, row_cells, line_cells, table_cells, Wide, Fits, Tables, Passed}
 use Rattle.usual_columns.specs.CellsLaws.{fits_split, fits_length, fits_passed}
 use Rattle.usual_columns.specs.FieldLaws.{blanks_allowed, blanks_fit, line_len_allowed}
 use Rattle.usual_columns.specs.RowLaws.{wide_at, row_length, row_allowed, row_passes, row_delimiter}

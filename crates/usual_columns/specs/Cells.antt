@@ -1,6 +1,6 @@
 -- Lines in their usual spelling, by what each column takes (01, "Lines and sets"; "A real field is blanks, an optional sign, digits with
 -- one point .., a letter E, e, D or d, a sign, two or three digits, reaching the last column").
-use Rattle.std.specs.Prelude.{◌≡◌, ℕ, ◌+◌, ◌-◌, ◌%◌, ◌<◌, ◌≤◌, ◌⊎◌, List, [], ◌∷◌, ◌++◌, map, length, take, replicate, slice_index}
+use Rattle.std.specs.Prelude.{◌≡◌, ℕ, ◌+◌, ◌-◌, ◌%◌, ◌<◌, ◌≤◌, ◌⊎◌, List, [], ◌∷◌, ◌++◌, map, length, replicate, slice_index}
 use Rattle.layout.specs.Columns.{total}
 
 -- what a column takes: the bytes from lo to as far as span past it, and alt

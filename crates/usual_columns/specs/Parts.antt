@@ -1,6 +1,6 @@
 -- A record's line in its usual spelling, part by part: its fields, what their columns take, and which of them are asked by themselves. The
 -- records are 58's lines 6 to 11 (01, "Records").
-use Rattle.std.specs.Prelude.{◌≡◌, ℕ, ◌+◌, ◌-◌, ◌%◌, Bool, true, ◌&&◌, List, [], ◌∷◌, ◌++◌, map, length, take, drop, replicate, nat_eq, nat_le}
+use Rattle.std.specs.Prelude.{◌≡◌, ℕ, ◌+◌, ◌-◌, ◌%◌, Bool, true, ◌&&◌, List, [], ◌∷◌, ◌++◌, length, take, drop, replicate, nat_eq, nat_le}
 use Prim.{Unit}
 use Rattle.laws.specs.Ranges.{all_are}
 use Rattle.codes.specs.Rule.{Rule}

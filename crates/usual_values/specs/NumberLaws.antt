@@ -1,19 +1,17 @@
 -- A field in the usual spelling is read as the f64 whose bit pattern is worked out from its columns.
-use Rattle.std.specs.Prelude.{◌≡◌, Bool, cond, List, ℕ, zero, suc, ◌+◌, ◌-◌, ◌*◌, ◌^◌, ◌≤◌, ◌<◌, T, ltb, eqb, Float, length, get_or, take, drop}
+use Rattle.std.specs.Prelude.{◌≡◌, Bool, cond, List, ℕ, zero, suc, ◌+◌, ◌-◌, ◌*◌, ◌^◌, ◌≤◌, ◌<◌, ltb, eqb, Float, length, get_or, take, drop}
 use Rattle.std.proofs.Math.Path.{refl, ap}
 use Rattle.std.proofs.Common.{sym, ◌∙◌, ⊎_elim, length-take, length-drop, take_all, get_or-take, get_or-drop}
 use Rattle.std.proofs.Math.Bool.{true, false}
 use native.Mathlib.Omega.{arith}
 use borrow.Author.Tests.{le-leb, lt-ltb, le-ltb}
 use Rattle.std.specs.Float.{nan, inf, fin, Format, binary64}
-use Rattle.std.specs.Float.Ieee.{prec, emax, low, odd, units, round, neg, fits, is_nan, to_bits}
+use Rattle.std.specs.Float.Ieee.{prec, emax, low, odd, units, round, neg, is_nan, to_bits}
 use Rattle.std.specs.Float.Ieee.Bits.{to_bits-lt}
 use Rattle.std.specs.Float.Ieee.Fits.{round-fits, neg-fits}
-use Rattle.laws.specs.Choice.{pick}
 use Rattle.laws.specs.ChoiceLaws.{false_not_true, below_or_not}
 use Rattle.text.specs.Parts.{Digits, is_digit}
-use Rattle.text.specs.PartsLaws.{is_digit_low, is_digit_high}
-use Rattle.real.specs.declared.Scan.{Scan}
+use Rattle.text.specs.PartsLaws.{is_digit_high}
 use Rattle.real.specs.Spelling.{ExponentSpelling}
 use Rattle.real.specs.Real.{at, scaled, real_end, real_of}
 use Rattle.real.specs.EndLaws.{real_end_minus, real_end_less, real_end_rest}
@@ -25,9 +23,9 @@ use Rattle.exact.specs.ExactLaws.{magnitude_of_times, magnitude_of_divided}
 use Rattle.exact.specs.Bits.{bits_of}
 use Rattle.reader.specs.declared.Read.{Read}
 use Rattle.reader.specs.declared.Read.TheVariants as read
-use Rattle.reader.specs.Reader.{read_of, on_exact}
+use Rattle.reader.specs.Reader.{read_of}
 use Rattle.usual_values.specs.Usual.{UsualField}
-use Rattle.usual_values.specs.Number.{AllDigits, Spelled, place_of, magnitude_at, is_unsigned, Magnitude, UsualRead}
+use Rattle.usual_values.specs.Number.{AllDigits, Spelled, place_of, magnitude_at, is_unsigned, Magnitude}
 
 -- The sign is put on by its bit alone.
 

@@ -1,5 +1,5 @@
 -- A refusal stands before the state that would follow. What a delimiter does by the place where the file stands.
-use Rattle.std.specs.Prelude.{◌≡◌, Bool, true, false, List, ℕ, zero, suc, ◌+◌, ◌≤◌, ◌<◌}
+use Rattle.std.specs.Prelude.{◌≡◌, true, false, List, ℕ, zero, suc, ◌+◌, ◌≤◌, ◌<◌}
 use Rattle.std.proofs.Math.Path.{refl}
 use Rattle.std.proofs.Common.{arith}
 use borrow.Author.Tests.{lt-ltb, le-ltb}
@@ -12,13 +12,11 @@ use Rattle.line.specs.declared.Refusal.{Refusal}
 use Rattle.delimiter.specs.Kind.{Delimiter, delimiter, dataset_number}
 use Rattle.delimiter.proofs.KindLaws.{is_delimiter_complete, delimiter_not_blank}
 use Rattle.walk.specs.declared.Due.{Due}
-use Rattle.walk.specs.declared.Place.{Place}
 use Rattle.walk.specs.declared.Place.TheVariants.{Outside, Number, Plain, Typed}
 use Rattle.walk.specs.declared.State.{State}
-use Rattle.walk.specs.declared.Outcome.{Outcome}
 use Rattle.walk.specs.declared.Outcome.TheVariants.{Next, Refused}
 use Rattle.walk.specs.Due.{may_close}
-use Rattle.walk.specs.Step.{state, unless, outside_step, number_step, plain_step, typed_step, place_step, step_of}
+use Rattle.walk.specs.Step.{state, unless, outside_step, number_step, plain_step, typed_step, place_step}
 
 pub unless_here : (f : Refusal) (s : State) → 0 < f.number → unless f s ≡ Refused f
 unless_here f s h = go f.number f.column h

@@ -29,7 +29,6 @@ use Rattle.walk.specs.declared.Outcome.TheVariants.{Next}
 use Rattle.walk.specs.Due.{due, record_due, may_close}
 use Rattle.walk.specs.Step.{state, start, opened, step_of, outside_step, number_step, typed_step}
 use Rattle.judge.specs.Judge.{judged, reply, line_step, Run, going, on_outcome, run_step, run_end}
-use Rattle.header.specs.declared.Header.{Header}
 use Rattle.header.specs.Header as Header
 use Rattle.header.specs.Header.{header_of}
 use Rattle.line_laws.specs.Ends.{joined}

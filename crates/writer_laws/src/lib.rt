@@ -1,1 +1,3 @@
+#![tactic(auto)]
+
 // The laws of what the writer lays out. It has no code.

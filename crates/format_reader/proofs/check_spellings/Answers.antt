@@ -1,5 +1,4 @@
 use mathlib.Core.Path.{refl, sym, ◌∙◌}
-use Prim.Native.Nat.{◌-◌}
 use Rattle.record.specs.GoingLaws.{going_fits, going_on}
 use Rattle.format_reader.specs.UnruledLaws.{unruled_stop, unruled_here, unruled_on, unruled_end}
 use borrow.Author.Rules.{rules}

@@ -1,5 +1,4 @@
 use mathlib.Core.Path.{refl}
-use Prim.Native.Nat.{◌-◌}
 use borrow.Author.Rules.{rules}
 use Rattle.format_reader.specs.QuestionLaws.{changing_next, changing_done}
 use Rattle.format_reader.proofs.forms_of.Goals as goal

@@ -1,5 +1,4 @@
 use mathlib.Core.Path.{refl, ◌∙◌}
-use Prim.Native.Nat.{◌-◌}
 use Rattle.format_reader.specs.QuestionLaws.{finding_fits, finding_stop, finding_here, finding_on, finding_end}
 use borrow.Author.Rules.{rules}
 use native.Mathlib.Omega.{arith}

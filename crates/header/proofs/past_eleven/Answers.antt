@@ -1,5 +1,4 @@
 use mathlib.Core.Path.{refl}
-use Prim.Native.Nat.{◌-◌}
 use Rattle.laws.specs.Cut.{cut}
 use Rattle.header.specs.HeaderLaws.{lines_to_lem, rest_to, all_few}
 use native.Mathlib.Omega.{arith}

@@ -1,5 +1,4 @@
 use mathlib.Core.Path.{refl, ◌∙◌}
-use Prim.Native.Nat.{◌-◌}
 use Rattle.judge.specs.LinesLaws.{reached_ahead, ahead_less, line_less, lines_next, rest_next, judged_to_stop, judged_to_end}
 use borrow.Author.Rules.{rules}
 use native.Mathlib.Omega.{arith}

@@ -1,5 +1,4 @@
 use mathlib.Core.Path.{◌≡◌, refl, ap, ◌∙◌}
-use Prim.Native.Nat.{◌-◌}
 use native.Mathlib.Numerals.{add-one}
 use Rattle.layout.specs.Columns.{field_start, field_past}
 use Rattle.layout.specs.ColumnsLaws.{field_start_next}

@@ -1,5 +1,4 @@
 use mathlib.Core.Path.{refl, sym, ◌∙◌}
-use Prim.Native.Nat.{◌-◌}
 use Rattle.line.specs.Line.{is_allowed}
 use Rattle.line.specs.LineLaws.{all_allowed_next, all_allowed_end}
 use borrow.Author.Rules.{rules}

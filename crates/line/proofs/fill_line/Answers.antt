@@ -1,5 +1,4 @@
 use mathlib.Core.Path.{refl, ◌∙◌}
-use Prim.Native.Nat.{◌-◌}
 use Rattle.line.specs.Line.{filled}
 use Rattle.line.specs.LineLaws.{filled_next, filled_most}
 use borrow.Author.Rules.{rules}

@@ -1,4 +1,3 @@
-use Prim.Native.Nat.{◌-◌}
 use native.Mathlib.Omega.{arith}
 use Rattle.laws.specs.CutLaws.{len_next, len_here, len_end}
 use Rattle.line.proofs.find_end.Goals as goal

@@ -1,5 +1,4 @@
 use mathlib.Core.Path.{refl, sym, ◌∙◌}
-use Prim.Native.Nat.{◌-◌}
 use Rattle.line.specs.LineLaws.{first_bad_none, first_bad_next, first_bad_here, first_bad_end}
 use Rattle.line.proofs.first_bad.Goals as goal
 

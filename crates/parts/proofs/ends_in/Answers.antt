@@ -1,4 +1,3 @@
-use Prim.Native.Nat.{◌-◌}
 use native.Mathlib.Omega.{arith}
 use Rattle.parts.specs.MarkLaws.{ends_here, ends_not, ends_none}
 use borrow.Author.Rules.{rules}

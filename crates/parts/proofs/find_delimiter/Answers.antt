@@ -1,5 +1,4 @@
 use mathlib.Core.Path.{refl, sym, ◌∙◌}
-use Prim.Native.Nat.{◌-◌}
 use Rattle.line.specs.LineLaws.{line_len_within}
 use Rattle.parts.specs.MarkLaws.{mark_here, mark_none, mark_past, after_none, after_line}
 use borrow.Author.Rules.{rules}

@@ -1,5 +1,4 @@
 use mathlib.Core.Path.{refl, sym, ◌∙◌}
-use Prim.Native.Nat.{◌-◌}
 use Rattle.parts.specs.MarkLaws.{quiet_next, quiet_end}
 use borrow.Author.Rules.{rules}
 use Rattle.parts.proofs.is_quiet.Goals as goal

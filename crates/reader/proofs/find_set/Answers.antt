@@ -1,7 +1,7 @@
 use Rattle.std.proofs.lemmas.Bool.{not-true, not-false}
 use mathlib.Core.Path.{◌≡◌, refl}
 use mathlib.Core.List.{List}
-use Prim.Native.Nat.{ℕ, ◌-◌}
+use Prim.Native.Nat.{ℕ}
 use Rattle.parts.specs.declared.Extent.{Extent}
 use Rattle.parts.specs.Scan.{first_of}
 use Rattle.parts.specs.Set.{remaining}

@@ -1,5 +1,4 @@
 use mathlib.Core.Path.{sym, ◌∙◌}
-use Prim.Native.Nat.{◌-◌}
 use Rattle.real.proofs.PlainLaws.{digits_further}
 use borrow.Author.Rules.{rules}
 use native.Mathlib.Omega.{arith}

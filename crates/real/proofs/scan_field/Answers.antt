@@ -1,5 +1,4 @@
 use mathlib.Core.Path.{sym, ap, ◌∙◌}
-use Prim.Native.Nat.{◌-◌}
 use Rattle.text.specs.BlankLaws.{run_past_blanks, blanks_before_most}
 use Rattle.laws.specs.RunLaws.{run_next, run_done}
 use Rattle.real.specs.Real.{start, scan_step, real_end, real_of}

@@ -1,7 +1,6 @@
 use Rattle.record.specs.GoingLaws.{going_fits, going_on}
 use Rattle.record.specs.CheckLaws.{fields_fault_stop, fields_fault_here, fields_fault_on, fields_fault_end}
 use mathlib.Core.Path.{refl, sym, ◌∙◌}
-use Prim.Native.Nat.{◌-◌}
 use borrow.Author.Rules.{rules}
 use native.Mathlib.Omega.{arith}
 use Rattle.record.proofs.check_fields.Goals as goal

@@ -1,5 +1,4 @@
 use mathlib.Core.Path.{refl, sym, ◌∙◌}
-use Prim.Native.Nat.{◌-◌}
 use Rattle.record.specs.CheckLaws.{first_byte_next, first_byte_here, first_byte_end, first_byte_blank}
 use borrow.Author.Rules.{rules}
 use native.Mathlib.Omega.{arith}

@@ -1,5 +1,4 @@
 use mathlib.Core.Path.{refl, sym, ◌∙◌}
-use Prim.Native.Nat.{◌-◌}
 use Rattle.record.specs.GoingLaws.{going_fits, going_on}
 use Rattle.record.specs.CheckLaws.{stray_stop, stray_here, stray_on, stray_end}
 use borrow.Author.Rules.{rules}

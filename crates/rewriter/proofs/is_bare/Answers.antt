@@ -1,5 +1,4 @@
 use mathlib.Core.Path.{refl, sym, ◌∙◌}
-use Prim.Native.Nat.{◌-◌}
 use Rattle.rewriter.proofs.RunLaws.{bare_next, bare_end}
 use borrow.Author.Rules.{rules}
 use Rattle.rewriter.proofs.is_bare.Goals as goal

@@ -1,4 +1,3 @@
-use Prim.Native.Nat.{◌-◌}
 use Rattle.output.specs.OutputLaws.{put_start, put_done}
 use Rattle.parts.specs.TurnLaws.{turn, between_start, between_next}
 use Rattle.rewriter.proofs.PutLaws.{rewritten_start, turn_none, turn_within, set_room, set_next}

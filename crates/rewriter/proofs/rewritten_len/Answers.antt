@@ -1,6 +1,6 @@
 use mathlib.Core.Path.{ap}
 use mathlib.Core.List.{List}
-use Prim.Native.Nat.{ℕ, ◌-◌}
+use Prim.Native.Nat.{ℕ}
 use lib.ListN.{length}
 use Rattle.parts.specs.TurnLaws.{turn, between_start, between_next}
 use Rattle.rewriter.proofs.PutLaws.{rewritten_start, file_most, turn_none, turn_within, turn_length}

@@ -1,4 +1,3 @@
-use Prim.Native.Nat.{◌-◌}
 use native.Mathlib.Omega.{arith}
 use Rattle.text.specs.BlankLaws.{blanks_before_next, blanks_before_here, blanks_before_end}
 use Rattle.text.proofs.blanks_before.Goals as goal

@@ -1,5 +1,4 @@
 use mathlib.Core.Path.{refl, sym, ◌∙◌}
-use Prim.Native.Nat.{◌-◌}
 use Rattle.text.specs.BlankLaws.{all_blank_next, all_blank_end}
 use borrow.Author.Rules.{rules}
 use Rattle.text.proofs.is_blank.Goals as goal

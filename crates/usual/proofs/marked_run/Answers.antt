@@ -3,7 +3,7 @@ use mathlib.Core.Path.{sym, ◌∙◌}
 use native.Mathlib.Omega.{arith}
 use Rattle.layout.specs.LayoutLaws.{widths_six}
 use Rattle.layout.specs.ColumnsLaws.{field_start_total}
-use Rattle.usual.specs.TakenLaws.{ran_none, first_width, not_false}
+use Rattle.usual.specs.TakenLaws.{ran_none, first_width}
 use borrow.Author.Rules.{rules}
 use Rattle.usual.proofs.marked_run.Goals as goal
 

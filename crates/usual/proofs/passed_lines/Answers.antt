@@ -1,5 +1,4 @@
 use Rattle.std.proofs.Common.{not, ap}
-use Prim.Native.Nat.{◌-◌}
 use Rattle.usual.specs.TakenLaws.{ready_size, parts_of_lem, run_next}
 use Rattle.usual.specs.Taken.{Taken}
 use borrow.Author.Rules.{rules}

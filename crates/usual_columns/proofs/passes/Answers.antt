@@ -1,4 +1,4 @@
-use Rattle.std.proofs.Common.{◌-◌, rules}
+use Rattle.std.proofs.Common.{rules}
 use Rattle.usual_columns.specs.CellsLaws.{passed_none, passed_more, passed_all}
 use Rattle.usual_columns.proofs.passes.Goals as goal
 

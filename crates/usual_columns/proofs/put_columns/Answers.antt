@@ -1,4 +1,4 @@
-use Rattle.std.proofs.Common.{◌-◌, rules}
+use Rattle.std.proofs.Common.{rules}
 use Rattle.usual_columns.specs.CellsLaws.{grown_begin, grown_next, grown_all}
 use Rattle.usual_columns.proofs.put_columns.Goals as goal
 

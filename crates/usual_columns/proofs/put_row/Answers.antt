@@ -1,4 +1,4 @@
-use Rattle.std.proofs.Common.{◌-◌, refl, ◌∙◌, arith, rules}
+use Rattle.std.proofs.Common.{refl, ◌∙◌, arith, rules}
 use Rattle.layout.specs.Columns.{field_start}
 use Rattle.layout.specs.ColumnsLaws.{field_start_total}
 use Rattle.usual_columns.specs.RowLaws.{row_grown_none, row_grown_next, row_grown_all, row_room, row_on}

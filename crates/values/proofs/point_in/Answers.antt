@@ -1,4 +1,3 @@
-use Prim.Native.Nat.{◌-◌}
 use native.Mathlib.Omega.{arith}
 use Rattle.values.specs.ScaleLaws.{point_next, point_here}
 use Rattle.values.proofs.point_in.Goals as goal

@@ -1,7 +1,6 @@
 -- `writer::write` meets its contract.
 use mathlib.Core.Logic.{inl, inr, ⊎_elim}
 use mathlib.Core.Path.{sym, ◌∙◌}
-use borrow.Author.Tests.{eqb-true, eqb-false, not-true}
 use Rattle.writer.specs.SetLaws.{header_both, count_both, unfit_both, short_both, set_room, accepted_both}
 use Rattle.writer.proofs.write.Goals as goal
 
