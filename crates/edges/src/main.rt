@@ -2,6 +2,8 @@
 // A test line is a letter, two digits, one blank and what is tested; a line that begins with # is a heading and comes back.
 #![tactic(auto)]
 
+ghost use Rattle.std.specs.Io.{ReadsAtMost};
+
 use exact::Exact;
 use integer::Integer;
 use line::Refusal;
@@ -205,9 +207,24 @@ fn answer_lines(rt: &impl Print, file: &[u8]) -> io::Result<()> {
     Ok(())
 }
 
+// Reads until the buffer is full or the input ends; how many bytes stand at the buffer's start then.
+fn read_full(input: &mut impl Read, buffer: &mut [u8]) -> io::Result<usize>
+    ensures { ReadsAtMost result buffer.new }
+{
+    let mut filled = 0;
+    while filled < buffer.len() {
+        let n = input.read(&mut buffer[filled..])?;
+        if n == 0 {
+            break;
+        }
+        filled += n;
+    }
+    Ok(filled)
+}
+
 // Standard input past 65,536 bytes is not read.
 fn main(rt: HostRuntime) -> io::Result<()> {
-    let mut file = Vec::new(rt.alloc());
-    rt.reader().take(65536).read_to_end(&mut file)?;
-    answer_lines(&rt, &file)
+    let mut file = [0u8; 65536];
+    let n = read_full(&mut rt.reader(), &mut file)?;
+    answer_lines(&rt, &file[..n])
 }

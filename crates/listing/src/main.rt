@@ -2,6 +2,7 @@
 #![tactic(auto)]
 
 ghost use Rattle.std.specs.Prelude.{◌*◌, ◌≤◌, ◌≡◌, length};
+ghost use Rattle.std.specs.Io.{ReadsAtMost};
 ghost use Rattle.lister.specs.Lister.{row_numbers};
 
 use lister::ROW_NUMBERS;
@@ -52,12 +53,27 @@ fn show_file(rt: &impl Print, file: &[u8]) -> io::Result<()> {
     println!(rt; "accepted {}", reply.place)
 }
 
+// Reads until the buffer is full or the input ends; how many bytes stand at the buffer's start then.
+fn read_full(input: &mut impl Read, buffer: &mut [u8]) -> io::Result<usize>
+    ensures { ReadsAtMost result buffer.new }
+{
+    let mut filled = 0;
+    while filled < buffer.len() {
+        let n = input.read(&mut buffer[filled..])?;
+        if n == 0 {
+            break;
+        }
+        filled += n;
+    }
+    Ok(filled)
+}
+
 // Reads one byte past the limit, and so sees a file that is too long.
 fn main(rt: HostRuntime) -> io::Result<()> {
-    let mut file = Vec::new(rt.alloc());
-    rt.reader().take(LIMIT as u64 + 1).read_to_end(&mut file)?;
-    if LIMIT < file.len() {
+    let mut file = [0u8; LIMIT + 1];
+    let n = read_full(&mut rt.reader(), &mut file)?;
+    if LIMIT < n {
         return show_refusal(&rt, 1, 0);
     }
-    show_file(&rt, &file)
+    show_file(&rt, &file[..n])
 }

@@ -1,6 +1,8 @@
 // The receiving program of request C-11: standard input judged while it arrives, in bursts of 512 bytes.
 #![tactic(auto)]
 
+ghost use Rattle.std.specs.Io.{ReadsAtMost};
+
 use std::io;
 use std::io::{Input, Read};
 use stream::{Answer, Stream};
@@ -24,18 +26,32 @@ fn show_answer(rt: &impl Print, answer: Answer) -> io::Result<()> {
     }
 }
 
+// Reads until the buffer is full or the input ends; how many bytes stand at the buffer's start then.
+fn read_full(input: &mut impl Read, buffer: &mut [u8]) -> io::Result<usize>
+    ensures { ReadsAtMost result buffer.new }
+{
+    let mut filled = 0;
+    while filled < buffer.len() {
+        let n = input.read(&mut buffer[filled..])?;
+        if n == 0 {
+            break;
+        }
+        filled += n;
+    }
+    Ok(filled)
+}
+
 // Reads burst after burst and shows the answer of each; the record that they leave.
-fn receive(rt: &(impl Input + Print + AllocGlobal)) -> io::Result<Stream> {
+fn receive(rt: &(impl Input + Print)) -> io::Result<Stream> {
     let mut record = stream::fresh();
     let mut input = rt.reader();
-    let mut burst = Vec::new(rt.alloc());
+    let mut burst = [0u8; BURST];
     for _ in 0..BURSTS {
-        burst.clear();
-        let n = input.by_ref().take(BURST as u64).read_to_end(&mut burst)?;
+        let n = read_full(&mut input, &mut burst)?;
         if n == 0 {
             return Ok(record);
         }
-        let after = stream_mut::after_burst(record, &burst);
+        let after = stream_mut::after_burst(record, &burst[..n]);
         let answer = after.answer;
         record = after.stream;
         show_answer(rt, answer)?;
