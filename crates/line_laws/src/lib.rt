@@ -1,4 +1,3 @@
-#![tactic(auto)]
-
-// That the cutting of a file into lines agrees with document 01's line ends, in specs/.
+// That the cutting of a file into lines agrees with document 01's line ends, in specs/ and proofs/.
 // It has no code.
+#![tactic(auto)]

@@ -1,3 +1,2 @@
+// A list of sets and where they stand in a file: laws only; see specs/ and proofs/.
 #![tactic(auto)]
-
-// A list of sets and where they stand in a file: laws only; see specs/.

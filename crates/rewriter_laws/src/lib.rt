@@ -1,4 +1,3 @@
-#![tactic(auto)]
-
-// That the rewriter gives the one text in rewritten form that keeps the file's spellings, in specs/.
+// That the rewriter gives the one text in rewritten form that keeps the file's spellings, in specs/ and proofs/.
 // It has no code.
+#![tactic(auto)]

@@ -1,3 +1,2 @@
+// The theorems of a file judged while it arrives, in specs/ and proofs/. It has no code.
 #![tactic(auto)]
-
-// The theorems of a file judged while it arrives, in specs/. It has no code.

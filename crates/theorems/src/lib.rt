@@ -1,3 +1,2 @@
+// The theorems, in proofs/Theorems.antt. It has no code.
 #![tactic(auto)]
-
-// The theorems, in specs/Theorems.antt. It has no code.

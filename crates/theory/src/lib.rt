@@ -1,4 +1,3 @@
-#![tactic(auto)]
-
-// The meaning of document 01, in specs/: lists of sets, the rows that are due in a set, and the proper writings of a list.
+// The meaning of document 01, in specs/ and proofs/: lists of sets, the rows that are due in a set, and the proper writings of a list.
 // It has no code.
+#![tactic(auto)]

@@ -1,3 +1,2 @@
-#![tactic(auto)]
-
 // The laws of what the writer lays out. It has no code.
+#![tactic(auto)]
