@@ -13,5 +13,5 @@ read_line-requires c =
 
 pub returns : goal.returns
 returns c =
-    let read = is_read c.read-fields.ensures c.if-fields-gt0.false in
-    c.read_line.ensures ∙ read_answer read c.forms_of-forms.ensures _ _
+    let known = is_read c.read-fields.ensures c.if-fields-gt0.false in
+    c.read_line.ensures ∙ read_answer known c.forms_of-forms.ensures _ _
