@@ -1,18 +1,16 @@
 -- The calls as they are computed. To open one of these names is to open every definition that the call's answer computes with: a case says
 -- `unfolding` and the name.
-use Rattle.std.specs.Prelude.{Bool, List, ℕ, ℤ}
+use Rattle.std.specs.Prelude.{Bool, List, ℕ, ℤ, Option, Float}
 use Rattle.std.specs.Float.Ieee as ieee
 use Rattle.laws.specs.Run.{run}
 use Rattle.laws.specs.Cut.{cut, over, judge}
 use Rattle.text.specs.Blank.{all_blank}
 use Rattle.text.specs.Text.{trimmed}
 use Rattle.text.specs.Parts.{is_digit}
-use Rattle.integer.specs.declared.Integer.{Integer}
 use Rattle.integer.specs.Integer as I
 use Rattle.integer.specs.Integer.{step_integer, end_integer, integer_of}
-use Rattle.real.specs.declared.Real.{Real}
+use Rattle.real.specs.Real.{Real}
 use Rattle.real.specs.Real as R
-use Rattle.exact.specs.declared.Exact.{Exact}
 use Rattle.exact.specs.Exact.{exact_of, magnitude_of, ten_of}
 use Rattle.exact.specs.Bits.{bits_of}
 use Rattle.decimal.specs.Decimal as D
@@ -32,7 +30,7 @@ use Rattle.record.specs.Check.{fields_fault, first_non_blank, stray, items_of, c
 use Rattle.record.specs.Declares.{number_in, case_in, count_in, natural_at, case_by, count_by, stored_by}
 use Rattle.walk.specs.declared.Due.{Due}
 use Rattle.walk.specs.declared.State.{State}
-use Rattle.walk.specs.declared.Outcome.{Outcome}
+use Rattle.std.specs.Prelude.{Result}
 use Rattle.walk.specs.Due.{record_due, list_row, may_close, may_continue, row_due, settled, after_record, after_list, after_items}
 use Rattle.walk.specs.Step.{opened, outside_step, number_step, plain_step, typed_step, step_of}
 use Rattle.judge.specs.declared.Reply.{Reply}
@@ -49,7 +47,7 @@ use Rattle.header.specs.Header.{header_of}
 use Rattle.writer.specs.Writer.{decimals_of, width_at, fits_at, first_unfit, data_text, written_set, laid_reply, write_reply}
 
 -- an integer field, a real field
-unfoldable pub computed_integer : List ℕ → Integer
+unfoldable pub computed_integer : List ℕ → I.Held
 unfolding run all_blank is_digit I.push step_integer end_integer integer_of
 computed_integer field = integer_of field
 
@@ -77,7 +75,7 @@ unfolding computed_row case_for numbers_of settled natural_at case_by count_by s
 computed_after d items = after_items d items
 
 -- a file
-unfoldable pub computed_step : State → List ℕ → Outcome
+unfoldable pub computed_step : State → List ℕ → Result State Refusal
 unfolding computed_refusal computed_after then_blank is_delimiter dataset_number opened outside_step number_step plain_step typed_step step_of
 computed_step state line = step_of state line
 
@@ -98,7 +96,7 @@ unfoldable pub computed_list : List ℕ → ℕ → Reply
 unfolding computed_number F.data_start P.past_of P.through_of last_field counted_past remainder padding_in padding_of entry rows_of list_reply list_rows
 computed_list file places = list_reply file places
 
-unfoldable pub computed_exact : Bool → ℕ → Bool → ℕ → Exact
+unfoldable pub computed_exact : Bool → ℕ → Bool → ℕ → Option Float
 unfolding exact_of magnitude_of ten_of bits_of ieee.span ieee.climb ieee.size ieee.odd ieee.units ieee.round ieee.neg ieee.div ieee.mul ieee.of_int ieee.is_nan ieee.to_bits
 computed_exact minus coefficient below scale = exact_of minus coefficient below scale
 

@@ -10,6 +10,7 @@ ghost use Rattle.codes.specs.Form.{background_grid, acquisition_monitor};
 ghost use Rattle.codes.specs.Form.{form_of, rule_of, optional_of, allowed_of, blank_from, blank_past};
 
 // The forms of a field, by which the table of records names them; specs/Form.antt has their meaning in the same order.
+// They stay numbers: `allowed`, `field::field_number` and `record::number_at` promise an answer for every byte, and an enum would ask more of callers.
 pub const SKIP: u8 = 0;
 
 pub const TEXT: u8 = 1;
@@ -75,170 +76,117 @@ pub const ORDERS: u8 = 30;
 // The last of the forms; those past it are skipped columns.
 pub const LAST_FORM: u8 = ORDERS;
 
+// A function for each list of codes, as document 01 and the definitions have one: they differ in the list alone, which is what a reader looks for.
 // Whether a code is a function type of 58.
 pub fn is_function_type(code: u32) -> bool
     ensures { result ≡ keeps function_type (pos code) }
 {
-    match code {
-        0..=28 => true,
-        _ => false,
-    }
+    matches!(code, 0..=28)
 }
 
 // Whether a size is that of a direction of 58, which may have a minus.
 pub fn is_direction(size: u32) -> bool
     ensures { result ≡ keeps direction (pos size) }
 {
-    match size {
-        0..=6 => true,
-        _ => false,
-    }
+    matches!(size, 0..=6)
 }
 
 // Whether a code is one of the four ordinate types of 58.
 pub fn is_ordinate_type(code: u32) -> bool
     ensures { result ≡ keeps ordinate_type (pos code) }
 {
-    match code {
-        2 => true,
-        4..=6 => true,
-        _ => false,
-    }
+    matches!(code, 2 | 4..=6)
 }
 
 // Whether a code is a data type of 58.
 pub fn is_data_type(code: u32) -> bool
     ensures { result ≡ keeps data_type (pos code) }
 {
-    match code {
-        0..=3 => true,
-        5..=6 => true,
-        8..=9 => true,
-        11..=13 => true,
-        15..=19 => true,
-        _ => false,
-    }
+    matches!(code, 0..=3 | 5..=6 | 8..=9 | 11..=13 | 15..=19)
 }
 
 // Whether a code is a trigger type of 1815 (record 3).
 pub fn is_trigger_type(code: u32) -> bool
     ensures { result ≡ keeps trigger_type (pos code) }
 {
-    match code {
-        0..=3 => true,
-        _ => false,
-    }
+    matches!(code, 0..=3)
 }
 
 // Whether a code is a duplicate RPM option of 1815 (record 3).
 pub fn is_duplicate_option(code: u32) -> bool
     ensures { result ≡ keeps duplicate_option (pos code) }
 {
-    match code {
-        1..=2 => true,
-        _ => false,
-    }
+    matches!(code, 1..=2)
 }
 
 // Whether a code is a window of 1815 (record 7).
 pub fn is_window(code: u32) -> bool
     ensures { result ≡ keeps window (pos code) }
 {
-    match code {
-        0..=3 => true,
-        _ => false,
-    }
+    matches!(code, 0..=3)
 }
 
 // Whether a size is that of a trigger slope of 1815 (record 9), which may have a minus.
 pub fn is_slope(size: u32) -> bool
     ensures { result ≡ keeps slope (pos size) }
 {
-    match size {
-        0..=1 => true,
-        _ => false,
-    }
+    matches!(size, 0..=1)
 }
 
 // Whether a code is a delay type of 1815 (record 10).
 pub fn is_delay_type(code: u32) -> bool
     ensures { result ≡ keeps delay_type (pos code) }
 {
-    match code {
-        1..=3 => true,
-        _ => false,
-    }
+    matches!(code, 1..=3)
 }
 
 // Whether a code is an autorange method of 1815 (record 11).
 pub fn is_autorange_method(code: u32) -> bool
     ensures { result ≡ keeps autorange_method (pos code) }
 {
-    match code {
-        1..=2 => true,
-        _ => false,
-    }
+    matches!(code, 1..=2)
 }
 
 // Whether a code is one of the acquisition results of 1815 (record 12).
 pub fn is_acquisition_results(code: u32) -> bool
     ensures { result ≡ keeps acquisition_results (pos code) }
 {
-    match code {
-        2..=3 => true,
-        5..=14 => true,
-        _ => false,
-    }
+    matches!(code, 2..=3 | 5..=14)
 }
 
 // Whether a code is a composite power accumulation of 1815 (record 12).
 pub fn is_power_accumulation(code: u32) -> bool
     ensures { result ≡ keeps power_accumulation (pos code) }
 {
-    match code {
-        0..=2 => true,
-        _ => false,
-    }
+    matches!(code, 0..=2)
 }
 
 // Whether a code is one of the amplitude units of 1815 (record 12).
 pub fn is_amplitude_units(code: u32) -> bool
     ensures { result ≡ keeps amplitude_units (pos code) }
 {
-    match code {
-        0..=3 => true,
-        _ => false,
-    }
+    matches!(code, 0..=3)
 }
 
 // Whether a code is one of the display units of 1815 (record 15).
 pub fn is_display_units(code: u32) -> bool
     ensures { result ≡ keeps display_units (pos code) }
 {
-    match code {
-        1..=2 => true,
-        _ => false,
-    }
+    matches!(code, 1..=2)
 }
 
 // Whether a code is a background grid of 1815 (record 15).
 pub fn is_background_grid(code: u32) -> bool
     ensures { result ≡ keeps background_grid (pos code) }
 {
-    match code {
-        0..=3 => true,
-        _ => false,
-    }
+    matches!(code, 0..=3)
 }
 
 // Whether a code is an acquisition monitor of 1815 (record 15).
 pub fn is_acquisition_monitor(code: u32) -> bool
     ensures { result ≡ keeps acquisition_monitor (pos code) }
 {
-    match code {
-        0..=9 => true,
-        _ => false,
-    }
+    matches!(code, 0..=9)
 }
 
 // Whether a size is from low to high.
@@ -248,7 +196,7 @@ fn is_within(size: u32, low: u32, high: u32) -> bool
     (low <= size) & (size <= high)
 }
 
-// Whether a size without a minus keeps the rule of a form.
+// Whether a size without a minus keeps the rule of a form. A `match` and no list of closures: it shows each form beside its codes.
 fn allowed_size(form: u8, size: u32) -> bool
     ensures { result ≡ allowed_of form false size }
 {
@@ -291,13 +239,10 @@ fn allowed_size(form: u8, size: u32) -> bool
 fn takes_minus(form: u8) -> bool
     ensures { result ≡ takes_minus (rule_of (form_of form)) }
 {
-    match form {
-        FROM_ZERO..=FUNCTION_TYPE => false,
-        ORDINATE_TYPE..=ENTRIES => false,
-        FILE_TYPE..=WINDOW => false,
-        DELAY_TYPE..=ORDERS => false,
-        _ => true,
-    }
+    !matches!(
+        form,
+        FROM_ZERO..=FUNCTION_TYPE | ORDINATE_TYPE..=ENTRIES | FILE_TYPE..=WINDOW | DELAY_TYPE..=ORDERS
+    )
 }
 
 // Whether the integer of a sign and a size keeps the rule of a form; -0 is 0.
@@ -310,7 +255,8 @@ pub fn allowed(form: u8, minus: bool, size: u32) -> bool
     allowed_size(form, size)
 }
 
-// The first column, from 0, of those that are all blank where a form is left blank; 0 for a form that may not be blank.
+// The first column, from 0, of those that are all blank where a form is left blank; 0 for a form that may not be blank. It
+// and `blank_past` stay two numbers: both are public, and promise the definitions of these names.
 pub fn blank_from(form: u8) -> usize
     ensures { result ≡ blank_from (optional_of (form_of form)) }
 {

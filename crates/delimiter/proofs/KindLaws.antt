@@ -1,5 +1,5 @@
 -- The tests for delimiters and number lines agree with what these are, in both directions. A delimiter is not blank.
-use Rattle.std.specs.Prelude.{◌≡◌, Bool, true, false, ◌&&◌, List, [], ◌∷◌, ◌++◌, ℕ, zero, suc, ◌+◌, ◌*◌, ◌^◌, ◌≤◌, ◌<◌, eqb, length, get_or, take, drop, replicate}
+use Rattle.std.specs.Prelude.{◌≡◌, Bool, true, false, ◌&&◌, List, [], ◌∷◌, ◌++◌, ℕ, zero, suc, ◌+◌, ◌*◌, ◌^◌, ◌≤◌, ◌<◌, eqb, length, get_or, take, drop, replicate, Ok, Err}
 use Rattle.std.proofs.Math.Path.{refl}
 use Rattle.std.proofs.Common.{sym, ◌∙◌, append_assoc, mul_assoc, mul-le-mul_right, lt_of_lt_of_le, arith, eqb-true, le-leb, ne_eqb, length-append, take-append-drop, take_at, drop_at, length-take-le}
 use Rattle.std.proofs.Math.Bool.{and_assoc}
@@ -12,10 +12,8 @@ use Rattle.text.specs.Parts.{Digits, none, more}
 use Rattle.text.specs.Text.{Unpadded, TextIn, text_in_lem, trimmed}
 use Rattle.text.proofs.TextLaws.{trimmed_complete, trimmed_sound}
 use Rattle.integer.specs.Spelling.{IntegerSpelling, spelled}
-use Rattle.integer.specs.Integer.{integer_of}
+use Rattle.integer.specs.Integer.{Held, valued, integer_of}
 use Rattle.integer.proofs.IntegerLaws.{integer_of_complete, integer_of_value}
-use Rattle.integer.specs.declared.Integer.{Integer}
-use Rattle.integer.specs.declared.Integer.TheVariants.{Blank, Malformed, OutOfRange, Value}
 use Rattle.delimiter.specs.Kind.{Delimiter, delimiter, NumberLine, number_line, then_blank, is_delimiter, positive, dataset_number}
 
 -- Delimiters.
@@ -93,12 +91,13 @@ dataset_number_complete (number_line {v} field bl n s lo hi b) =
     rw (take_at field bl 6 n, drop_at field bl 6 n, all_blank_complete b, integer_of_complete s, le-leb v 2147483647 (omega arith)) refl
 
 -- a number that is not 0 is that of an integer without a minus
-pub positive_value : (i : Integer) (v : ℕ) → 1 ≤ v → positive i ≡ v → i ≡ Value false v
-positive_value (Value false w) v p e = rw e refl
-positive_value (Value true w) v p e = absurd (omega arith)
-positive_value Blank v p e = absurd (omega arith)
-positive_value Malformed v p e = absurd (omega arith)
-positive_value OutOfRange v p e = absurd (omega arith)
+pub positive_value : (i : Held) (v : ℕ) → 1 ≤ v → positive i ≡ v → i ≡ valued false v
+positive_value (Ok i) v p e = by i.minus i.size e
+  where
+    by : (n : Bool) (w : ℕ) → pick n 0 w ≡ v → valued n w ≡ valued false v
+    by false w e = rw e refl
+    by true w e = absurd (omega arith)
+positive_value (Err f) v p e = absurd (omega arith)
 
 -- a line with a number that is not 0 is a number line
 pub dataset_number_sound : (l : List ℕ) (v : ℕ) → 6 ≤ length l → dataset_number l ≡ v → 1 ≤ v → NumberLine v l
@@ -107,7 +106,7 @@ dataset_number_sound l v n e p = by (all_blank (drop 6 l)) refl e
   where
     by : (t : Bool) → all_blank (drop 6 l) ≡ t → pick t (positive (integer_of (take 6 l))) 0 ≡ v → NumberLine v l
     by true b h =
-        let i : integer_of (take 6 l) ≡ Value false v = positive_value (integer_of (take 6 l)) v p h in
+        let i : integer_of (take 6 l) ≡ valued false v = positive_value (integer_of (take 6 l)) v p h in
         let s : IntegerSpelling false v (take 6 l) = (integer_of_value (take 6 l) false v i).0 in
         let k : length (take 6 l) ≡ 6 = length-take-le 6 l n in
         let below : v < 1000000 = rw k at (integer_below s) in

@@ -1,11 +1,9 @@
 -- Blank lines, delimiters and number lines (01, "Lines and sets"), each as a relation and as a test on the line's 80 columns.
-use Rattle.std.specs.Prelude.{◌≡◌, Bool, true, false, ◌&&◌, List, [], ◌∷◌, ◌++◌, ℕ, ◌≤◌, eqb, length, take, drop}
+use Rattle.std.specs.Prelude.{◌≡◌, Bool, false, ◌&&◌, List, [], ◌∷◌, ◌++◌, ℕ, ◌≤◌, eqb, length, take, drop, Ok, Err}
 use Rattle.laws.specs.Choice.{pick}
 use Rattle.text.specs.Blank.{Blanks, all_blank}
 use Rattle.integer.specs.Spelling.{IntegerSpelling}
-use Rattle.integer.specs.Integer.{integer_of}
-use Rattle.integer.specs.declared.Integer.{Integer}
-use Rattle.integer.specs.declared.Integer.TheVariants.{Blank, Malformed, OutOfRange, Value}
+use Rattle.integer.specs.Integer.{Held, integer_of}
 
 -- "A delimiter is four blanks, `-1`, and then only blanks"
 pub data Delimiter : List ℕ → Type 0 where
@@ -27,12 +25,9 @@ unfoldable pub is_delimiter : List ℕ → Bool
 is_delimiter l = then_blank (32 ∷ 32 ∷ 32 ∷ 32 ∷ 45 ∷ 49 ∷ []) l
 
 -- the number of an integer that is above zero, otherwise 0
-abbrev pub positive : Integer → ℕ
-positive (Value true v) = 0
-positive (Value false v) = v
-positive Blank = 0
-positive Malformed = 0
-positive OutOfRange = 0
+abbrev pub positive : Held → ℕ
+positive (Ok i) = pick i.minus 0 i.size
+positive (Err f) = 0
 
 -- the dataset number of a number line of 80 columns, 0 where it is wrong
 unfoldable pub dataset_number : List ℕ → ℕ

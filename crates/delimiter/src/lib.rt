@@ -2,10 +2,11 @@
 #![tactic(auto)]
 
 ghost use Rattle.std.specs.Prelude.{◌≡◌};
+ghost use Rattle.laws.specs.Choice.{above_zero};
 ghost use Rattle.text.specs.Blank.{all_blank};
 ghost use Rattle.delimiter.specs.Kind.{is_delimiter, positive, dataset_number};
 
-use integer::{Integer, integer_field};
+use integer::{Integer, IntegerFault, integer_field};
 use text::{is_blank, text_len};
 
 // Whether the line is blank.
@@ -32,26 +33,19 @@ pub fn is_delimiter(line: &[u8; 80]) -> bool
     is_blank(&columns[6..])
 }
 
-// The number of an integer that is above zero, otherwise 0.
-pub fn positive(i: Integer) -> u32
-    ensures { result ≡ positive i }
+// The number of an integer that is above zero.
+pub fn positive(i: Result<Integer, IntegerFault>) -> Option<u32>
+    ensures { result ≡ above_zero (positive i) }
 {
     match i {
-        Integer::Value(minus, size) => {
-            if minus {
-                return 0;
-            }
-            size
-        }
-        Integer::Blank => 0,
-        Integer::Malformed => 0,
-        Integer::OutOfRange => 0,
+        Ok(number) if !number.minus && 0 < number.size => Some(number.size),
+        _ => None,
     }
 }
 
-// The dataset number of a number line: an integer above zero in columns 1 to 6, then blanks. 0 where the line is wrong.
-pub fn dataset_number(line: &[u8; 80]) -> u32
-    ensures { result ≡ dataset_number line.now }
+// The dataset number of a number line: an integer above zero in columns 1 to 6, then blanks.
+pub fn dataset_number(line: &[u8; 80]) -> Option<u32>
+    ensures { result ≡ above_zero (dataset_number line.now) }
 {
     let columns: &[u8] = line;
     let past = text_len(columns);
@@ -59,5 +53,5 @@ pub fn dataset_number(line: &[u8; 80]) -> u32
     if past == 6 {
         return number;
     }
-    0
+    None
 }

@@ -2,14 +2,11 @@
 // A test line is a letter, two digits, one blank and what is tested; a line that begins with # is a heading and comes back.
 #![tactic(auto)]
 
-ghost use Rattle.std.specs.Io.{ReadsAtMost};
-
-use exact::Exact;
-use integer::Integer;
+use integer::IntegerFault;
 use line::Refusal;
-use real::{Number, Real};
+use real::{Number, RealFault};
 use std::io;
-use std::io::{Input, Read};
+use std::io::Input;
 
 // A minus where there is one.
 fn minus_sign(minus: bool) -> &'static str {
@@ -19,10 +16,10 @@ fn minus_sign(minus: bool) -> &'static str {
 // i: what an integer field holds.
 fn show_integer(rt: &impl Print, field: &[u8]) -> io::Result<()> {
     match integer::integer_field(field) {
-        Integer::Blank => print!(rt; "blank"),
-        Integer::Malformed => print!(rt; "malformed"),
-        Integer::OutOfRange => print!(rt; "out of range"),
-        Integer::Value(minus, size) => print!(rt; "value {}{size}", minus_sign(minus & (0 < size))),
+        Err(IntegerFault::Blank) => print!(rt; "blank"),
+        Err(IntegerFault::Malformed) => print!(rt; "malformed"),
+        Err(IntegerFault::OutOfRange) => print!(rt; "out of range"),
+        Ok(i) => print!(rt; "value {}{}", minus_sign(i.minus & (0 < i.size)), i.size),
     }
 }
 
@@ -40,9 +37,9 @@ fn put_real(rt: &impl Print, n: Number) -> io::Result<()> {
 // r: what a real field holds.
 fn show_real(rt: &impl Print, field: &[u8]) -> io::Result<()> {
     match real::real_field(field) {
-        Real::Blank => print!(rt; "blank"),
-        Real::Malformed => print!(rt; "malformed"),
-        Real::Value(n) => {
+        Err(RealFault::Blank) => print!(rt; "blank"),
+        Err(RealFault::Malformed) => print!(rt; "malformed"),
+        Ok(n) => {
             print!(rt; "value ")?;
             put_real(rt, n)
         }
@@ -52,17 +49,17 @@ fn show_real(rt: &impl Print, field: &[u8]) -> io::Result<()> {
 // Writes the bit pattern of a number's f64, in decimal.
 fn put_exact(rt: &impl Print, n: Number) -> io::Result<()> {
     match exact::exact_f64(n.minus, n.coefficient, n.below, n.scale) {
-        Exact::Value(x) => print!(rt; "{}", exact::bits(x)),
-        Exact::Outside => print!(rt; "outside"),
+        Some(x) => print!(rt; "{}", exact::bits(x)),
+        None => print!(rt; "outside"),
     }
 }
 
 // f: the f64 of the number that a real field holds.
 fn show_exact(rt: &impl Print, field: &[u8]) -> io::Result<()> {
     match real::real_field(field) {
-        Real::Blank => print!(rt; "blank"),
-        Real::Malformed => print!(rt; "malformed"),
-        Real::Value(n) => put_exact(rt, n),
+        Err(RealFault::Blank) => print!(rt; "blank"),
+        Err(RealFault::Malformed) => print!(rt; "malformed"),
+        Ok(n) => put_exact(rt, n),
     }
 }
 
@@ -74,15 +71,18 @@ fn show_text(rt: &impl Print, field: &[u8]) -> io::Result<()> {
     print!(rt; "|")
 }
 
-// Writes a refusal as number and column.
-fn put_refusal(rt: &impl Print, r: Refusal) -> io::Result<()> {
-    print!(rt; "{} {}", r.number, r.column)
+// Writes an answer as the refusal's number and column, both 0 where nothing is wrong.
+fn put_answer(rt: &impl Print, answer: Result<(), Refusal>) -> io::Result<()> {
+    match answer {
+        Ok(()) => print!(rt; "0 0"),
+        Err(r) => print!(rt; "{} {}", r.number, r.column),
+    }
 }
 
 // l, m: what a line is refused for by itself, with its LF or without.
 fn show_line(rt: &impl Print, line: &[u8], ended: bool) -> io::Result<()> {
     let n = line::columns_len(line, ended);
-    put_refusal(rt, line::line_fault(&line[..n], ended))
+    put_answer(rt, line::line_fault(&line[..n], ended))
 }
 
 // k: what a line is where a file's sets are parted.
@@ -95,11 +95,10 @@ fn show_kind(rt: &impl Print, columns: &[u8]) -> io::Result<()> {
     if delimiter::is_blank_line(&line) {
         return print!(rt; "blank");
     }
-    let number = delimiter::dataset_number(&line);
-    if number == 0 {
-        return print!(rt; "none");
+    match delimiter::dataset_number(&line) {
+        Some(number) => print!(rt; "number {number}"),
+        None => print!(rt; "none"),
     }
-    print!(rt; "number {number}")
 }
 
 // c: the first refusal of a line by a record.
@@ -109,7 +108,7 @@ fn show_record(rt: &impl Print, row: usize, columns: &[u8]) -> io::Result<()> {
     }
     let mut line = [32u8; 80];
     line::fill_line(&mut line, columns);
-    put_refusal(rt, record::check_record(&line, row))
+    put_answer(rt, record::check_record(&line, row))
 }
 
 // d: the first refusal of a data line of a case, from 1, on which this many numbers are due.
@@ -122,19 +121,19 @@ fn show_data(rt: &impl Print, case: usize, fields: usize, columns: &[u8]) -> io:
     }
     let mut line = [32u8; 80];
     line::fill_line(&mut line, columns);
-    put_refusal(rt, record::check_data(&line, case - 1, fields))
+    put_answer(rt, record::check_data(&line, case - 1, fields))
 }
 
 // s: the data line of a case's stored number, and its first column and the one past it, all from 0; the case from 1.
-fn show_stored(rt: &impl Print, case: usize, stored: usize) -> io::Result<()> {
+fn show_stored(rt: &impl Print, case: usize, stored: Option<usize>) -> io::Result<()> {
+    let Some(stored) = stored else {
+        return print!(rt; "?");
+    };
     if case < 1 {
         return print!(rt; "?");
     }
     let n = layout::fields_of(case - 1);
     if n == 0 {
-        return print!(rt; "?");
-    }
-    if stored == NONE {
         return print!(rt; "?");
     }
     let field = stored % n;
@@ -143,37 +142,27 @@ fn show_stored(rt: &impl Print, case: usize, stored: usize) -> io::Result<()> {
     print!(rt; "{} {first} {past}", stored / n)
 }
 
-// No number: above all that an integer field holds.
-const NONE: usize = 4294967295;
-
-// The number that an integer field holds; NONE where it holds none, or one with a minus.
-fn number_in(field: &[u8]) -> usize {
+// The number that an integer field holds, where it holds one with no minus.
+fn number_in(field: &[u8]) -> Option<usize> {
     match integer::integer_field(field) {
-        Integer::Value(minus, size) => {
-            if minus {
-                return NONE;
-            }
-            size as usize
-        }
-        Integer::Blank => NONE,
-        Integer::Malformed => NONE,
-        Integer::OutOfRange => NONE,
+        Ok(i) if !i.minus => Some(i.size as usize),
+        _ => None,
     }
 }
 
-// The answer to a command with its two digits as a number.
-fn answer(rt: &impl Print, command: u8, digits: usize, tested: &[u8]) -> io::Result<()> {
-    match command {
-        b'i' => show_integer(rt, tested),
-        b'r' => show_real(rt, tested),
-        b'f' => show_exact(rt, tested),
-        b't' => show_text(rt, tested),
-        b'l' => show_line(rt, tested, true),
-        b'm' => show_line(rt, tested, false),
-        b'k' => show_kind(rt, tested),
-        b'c' => show_record(rt, digits, tested),
-        b'd' => show_data(rt, digits / 10, digits % 10, tested),
-        b's' => show_stored(rt, digits / 10, number_in(tested)),
+// The answer to a command with its two digits as a number, where they are one. A `match` and no list of closures: it shows each letter beside its answer.
+fn answer(rt: &impl Print, command: u8, digits: Option<usize>, tested: &[u8]) -> io::Result<()> {
+    match (command, digits) {
+        (b'i', _) => show_integer(rt, tested),
+        (b'r', _) => show_real(rt, tested),
+        (b'f', _) => show_exact(rt, tested),
+        (b't', _) => show_text(rt, tested),
+        (b'l', _) => show_line(rt, tested, true),
+        (b'm', _) => show_line(rt, tested, false),
+        (b'k', _) => show_kind(rt, tested),
+        (b'c', Some(row)) => show_record(rt, row, tested),
+        (b'd', Some(n)) => show_data(rt, n / 10, n % 10, tested),
+        (b's', Some(n)) => show_stored(rt, n / 10, number_in(tested)),
         _ => print!(rt; "?"),
     }
 }
@@ -194,37 +183,18 @@ fn answer_line(rt: &impl Print, line: &[u8]) -> io::Result<()> {
 
 // The answers to all lines that end in LF, each as a line of its own.
 fn answer_lines(rt: &impl Print, file: &[u8]) -> io::Result<()> {
-    let mut from = 0;
-    let mut i = 0;
-    while i < file.len() {
-        if file[i] == 10 {
-            answer_line(rt, &file[from..i])?;
+    for line in file.split_inclusive(|b| *b == b'\n') {
+        if let Some((b'\n', line)) = line.split_last() {
+            answer_line(rt, line)?;
             print!(rt; "\n")?;
-            from = i + 1;
         }
-        i += 1;
     }
     Ok(())
-}
-
-// Reads until the buffer is full or the input ends; how many bytes stand at the buffer's start then.
-fn read_full(input: &mut impl Read, buffer: &mut [u8]) -> io::Result<usize>
-    ensures { ReadsAtMost result buffer.new }
-{
-    let mut filled = 0;
-    while filled < buffer.len() {
-        let n = input.read(&mut buffer[filled..])?;
-        if n == 0 {
-            break;
-        }
-        filled += n;
-    }
-    Ok(filled)
 }
 
 // Standard input past 65,536 bytes is not read.
 fn main(rt: HostRuntime) -> io::Result<()> {
     let mut file = [0u8; 65536];
-    let n = read_full(&mut rt.reader(), &mut file)?;
+    let n = intake::read_full(&mut rt.reader(), &mut file)?;
     answer_lines(&rt, &file[..n])
 }

@@ -1,13 +1,11 @@
 -- The f64 of a number (01, "Reader": "A number with coefficient at most 9,007,199,254,740,992 and scale -22 to 22 is the coefficient
 -- times, or divided by, an exact power of ten: one operation, one rounding, the sign put on last, on zero too. Any other number makes
 -- the whole question 21").
-use Rattle.std.specs.Prelude.{Bool, true, false, ℕ, ◌^◌, leb, pos, Float}
+use Rattle.std.specs.Prelude.{Bool, true, false, ℕ, ◌^◌, leb, pos, Float, Option, Some, None}
 use Rattle.std.specs.Float.{binary64}
 use Rattle.std.specs.Float.Ieee.{of_int, mul, div, neg}
 use Rattle.std.specs.Float.Ieee.Exact.{HasValue}
 use Rattle.laws.specs.Choice.{pick}
-use Rattle.exact.specs.declared.Exact.{Exact}
-use Rattle.exact.specs.declared.Exact.TheVariants.{Value, Outside}
 
 -- the power of ten
 unfoldable pub ten_of : ℕ → Float
@@ -24,9 +22,10 @@ abbrev pub with_sign : Bool → Float → Float
 with_sign true x = neg x
 with_sign false x = x
 
--- of a sign (true: minus), a coefficient, whether the scale is below zero, and the scale's size
-unfoldable pub exact_of : Bool → ℕ → Bool → ℕ → Exact
-exact_of n c b k = pick (leb c 9007199254740992) (pick (leb k 22) (Value (with_sign n (magnitude_of c b k))) Outside) Outside
+-- of a sign (true: minus), a coefficient, whether the scale is below zero, and the scale's size; none where the number is outside the
+-- exact path
+unfoldable pub exact_of : Bool → ℕ → Bool → ℕ → Option Float
+exact_of n c b k = pick (leb c 9007199254740992) (pick (leb k 22) (Some (with_sign n (magnitude_of c b k))) None) None
 
 -- the f64 is the number n
 abbrev pub Is : Float → ℕ → Type 0

@@ -1,5 +1,5 @@
 -- Coefficient and power of ten are exact, so that the one operation rounds the number itself, and once. No answer is a NaN.
-use Rattle.std.specs.Prelude.{◌≡◌, refl, Bool, true, false, cond, ℕ, zero, suc, ◌+◌, ◌*◌, ◌^◌, ◌≤◌, ◌<◌, leb, ltb, pos, Float}
+use Rattle.std.specs.Prelude.{◌≡◌, refl, Bool, true, false, cond, ℕ, zero, suc, ◌+◌, ◌*◌, ◌^◌, ◌≤◌, ◌<◌, leb, ltb, pos, Float, Some, None}
 use Rattle.std.proofs.Common.{sym, ap, ◌∙◌, ⊎_elim, eq-or-lt_of_le, lt_of_lt_of_le, zero-lt-suc, mul-one, zero-mul, mul-pos, mul_comm, mul_assoc, mul_left_comm, arith, ltb-true, leb-true, ne_eqb, pow-add, pow_mono, shl_lt}
 use Rattle.std.proofs.Math.Nat.{one-le-pow}
 use Rattle.std.specs.Float.{nan, inf, fin, Format, binary64}
@@ -10,7 +10,6 @@ use Rattle.std.specs.Float.Ieee.Scale.{round_same}
 use Rattle.laws.specs.Choice.{pick}
 use Rattle.laws.specs.RangesLaws.{in_range}
 use Rattle.laws.specs.TableLaws.{agree_below}
-use Rattle.exact.specs.declared.Exact.TheVariants.{Value, Outside}
 use Rattle.exact.specs.Exact.{ten_of, magnitude_of, with_sign, exact_of, Is}
 
 -- a number below 2^53 times a power of two is an f64
@@ -113,11 +112,11 @@ magnitude_of_number : (c : ℕ) (b : Bool) (k : ℕ) → c ≤ 9007199254740992 
 magnitude_of_number c true k h g = rw (magnitude_of_divided c k h g) (round_number binary64 false c (10 ^ k))
 magnitude_of_number c false k h g = rw (magnitude_of_times c k h g) (round_number binary64 false (c * 10 ^ k) 1)
 
-pub exact_of_number : (n : Bool) (c : ℕ) (b : Bool) (k : ℕ) (x : Float) → exact_of n c b k ≡ Value x → is_nan x ≡ false
+pub exact_of_number : (n : Bool) (c : ℕ) (b : Bool) (k : ℕ) (x : Float) → exact_of n c b k ≡ Some x → is_nan x ≡ false
 unfolding exact_of
 exact_of_number n c b k x e = go (leb c 9007199254740992) (leb k 22) refl refl e
   where
-    go : (s t : Bool) → leb c 9007199254740992 ≡ s → leb k 22 ≡ t → pick s (pick t (Value (with_sign n (magnitude_of c b k))) Outside) Outside ≡ Value x → is_nan x ≡ false
+    go : (s t : Bool) → leb c 9007199254740992 ≡ s → leb k 22 ≡ t → pick s (pick t (Some (with_sign n (magnitude_of c b k))) None) None ≡ Some x → is_nan x ≡ false
     go true true p q h =
         let z : with_sign n (magnitude_of c b k) ≡ x = cc in
         rw (← z) (signed_number n (magnitude_of c b k) (magnitude_of_number c b k (leb-true _ _ p) (leb-true _ _ q)))

@@ -1,4 +1,3 @@
 pub mod Exact
 pub mod ExactLaws
 pub mod Bits
-pub mod BitsLaws

@@ -1,18 +1,17 @@
 -- Where the forms of the table may be left blank, and which of them are integers.
-use Rattle.std.specs.Prelude.{◌≡◌, refl, Bool, true, false, ◌&&◌, List, ℕ, zero, suc, ◌≤◌, ◌<◌, leb, ltb, eqb}
+use Rattle.std.specs.Prelude.{◌≡◌, refl, Bool, true, false, ◌&&◌, List, ℕ, zero, suc, ◌≤◌, ◌<◌, leb, ltb, eqb, Err, Ok}
 use Rattle.std.proofs.Common.{sym, ⊎_elim, arith, leb-true, ne_eqb}
 use Rattle.laws.specs.Choice.{pick}
 use Rattle.laws.specs.ChoiceLaws.{and_left, and_right, false_not_true, below_or_not}
 use Rattle.laws.specs.RangesLaws.{in_range}
 use Rattle.text.specs.Blank.{all_blank}
-use Rattle.integer.specs.Integer.{integer_of}
+use Rattle.integer.specs.Integer.{Held, valued, integer_of}
 use Rattle.codes.specs.Form.{Form, Optional, skip, text, identification, real, integer, never, within, forms, form_of, optional_of, rule_of, allowed_of, blank_from, blank_past, last_form}
 use Rattle.codes.specs.Rule.{Rule}
 use Rattle.codes.specs.FormLaws.{form_of_past}
-use Rattle.field.specs.Field.{columns_of, blank_in, may_blank, integer_number, field_number, integer_item}
+use Rattle.field.specs.Field.{columns_of, blank_in, may_blank, integer_number, field_number, integer_item, answered}
 use Rattle.field.specs.Item.{is_zero_integer}
-use Rattle.integer.specs.declared.Integer.{Integer}
-use Rattle.integer.specs.declared.Integer.TheVariants.{Blank, Value}
+use Rattle.integer.specs.declared.IntegerFault.TheVariants.{Blank}
 
 -- the columns named are some, and lie inside the line
 abbrev inside : Optional → Bool
@@ -86,15 +85,21 @@ unfolding field_number
 field_number_past k may cols h = rw (form_of_past k h) refl
 
 -- an integer that is 0, by its size
-pub is_zero_integer_value : (n : Bool) (v : ℕ) → is_zero_integer (integer_item (Value n v)) ≡ eqb v 0
+pub is_zero_integer_value : (n : Bool) (v : ℕ) → is_zero_integer (integer_item (valued n v)) ≡ eqb v 0
 is_zero_integer_value true zero = refl
 is_zero_integer_value true (suc v) = sym (ne_eqb (suc v) 0 (λ e. omega arith))
 is_zero_integer_value false v = refl
 
--- the number of an integer field, by what it holds and the test that decides
-pub integer_number_blank : (r : Rule) (may t : Bool) {i : Integer} → i ≡ Blank → may ≡ t → integer_number r may i ≡ pick t 0 24
-integer_number_blank r may t e m = rw (e, m) refl
-
-pub integer_number_value : (k : ℕ) (may t : Bool) (n : Bool) (v : ℕ) {i : Integer} → i ≡ Value n v → allowed_of k n v ≡ t → integer_number (rule_of (form_of k)) may i ≡ pick t 0 11
+-- the number of an integer field that holds an integer, by the test that decides
+pub integer_number_value : (k : ℕ) (may t : Bool) (n : Bool) (v : ℕ) {i : Held} → i ≡ valued n v → allowed_of k n v ≡ t → integer_number (rule_of (form_of k)) may i ≡ pick t 0 11
 unfolding allowed_of
 integer_number_value k may t n v e m = rw (e, m) refl
+
+-- the number, by the answer
+pub answered_ok : (n : ℕ) → Ok tt ≡ answered n → n ≡ 0
+answered_ok zero h = refl
+answered_ok (suc n) h = absurd (grind arith)
+
+pub answered_err : (n m : ℕ) → Err m ≡ answered n → (m ≡ n) × (0 < n)
+answered_err zero m h = absurd (grind arith)
+answered_err (suc n) m h = (grind arith, omega arith)

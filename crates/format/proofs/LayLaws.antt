@@ -1,106 +1,70 @@
 -- The steps of the functions that lay items and lists, as the code takes them.
-use Rattle.std.specs.Prelude.{◌≡◌, refl, true, false, List, ℕ, zero, suc, ◌+◌, ◌-◌, eqb, drop, get_or}
-use Rattle.std.proofs.Common.{sym, ◌∙◌, eq-eqb, ne_eqb}
-use Rattle.std.proofs.Math.Path.{ap}
-use Rattle.laws.specs.ChoiceLaws.{false_not_true}
+use Rattle.std.specs.Prelude.{◌≡◌, refl, Bool, true, false, List, ℕ, zero, suc, ◌+◌, ◌-◌, eqb, drop, get_or, Option, Some, None, option_and_then, option_map}
+use Rattle.std.proofs.Common.{sym, ap, ◌∙◌}
+use Rattle.laws.specs.Choice.{pick}
+use Rattle.format.specs.Format.{Count, Format}
 use Rattle.format.specs.Reading.{Counting, Parsed, none, some, count_of, leaf_of, item_of, list_of}
 use Rattle.format.specs.ListLaws.{item_leaf, item_group, item_none, list_last, list_more, list_none}
-use Rattle.format.specs.Measured.{tally_at, leaf_in, plain_leaf}
-use Rattle.format.proofs.MeasuredLaws.{found, leaf_in_leaf}
-use Rattle.format.proofs.StepLaws.{fewer, tally_none, tally_some}
-use Rattle.format.specs.Row.{Row, a_row, Laying, unlaid, laying_in, laid, laid_leaf, closed_laid}
-use Rattle.format.proofs.RowLaws.{laid_leaf_lem, laid_closed, laid_joined, laid_missing, laid_there, laid_at, laid_row}
+use Rattle.format.specs.Measured.{found, tally_at, plain_leaf}
+use Rattle.format.specs.Row.{Laying, a_laying, lay, laid}
+use Rattle.format.proofs.MeasuredLaws.{leaf_in_leaf}
+use Rattle.format.proofs.StepLaws.{fewer}
+use Rattle.format.proofs.RowLaws.{laid_leaf, group_laid, laid_leaf_lem, laid_closed, laid_joined}
 use Rattle.format.specs.declared.Tally.{Tally}
-use Rattle.format.specs.declared.Leaf as code
-use Rattle.format.specs.declared.Laid.{Laid}
+use Rattle.format.specs.declared.Fields.{Fields}
 
-pub item_zero : (n : ℕ) (l : List ℕ) (at : ℕ) (w : Row) (r : Laying) → n ≡ 0 → r ≡ unlaid → r ≡ laid w (item_of n l at)
+-- no byte is left
+pub item_zero : (n : ℕ) (l : List ℕ) (at : ℕ) (w : Fields) → n ≡ 0 → None ≡ laid w (item_of n l at)
 unfolding item_of laid
-item_zero n l at w r e q = rw e q
+item_zero n l at w e = rw e refl
 
-pub list_zero : (n : ℕ) (l : List ℕ) (at : ℕ) (w : Row) (r : Laying) → n ≡ 0 → r ≡ unlaid → r ≡ laid w (list_of n l at)
+pub list_zero : (n : ℕ) (l : List ℕ) (at : ℕ) (w : Fields) → n ≡ 0 → None ≡ laid w (list_of n l at)
 unfolding item_of laid
-list_zero n l at w r e q = rw e q
+list_zero n l at w e = rw e refl
 
-pub item_uncounted : (n : ℕ) (l : List ℕ) (at : ℕ) (w : Row) (c : Tally) (r : Laying) → (n ≡ 0 → ⊥) → c ≡ tally_at at (count_of (drop at l)) → c.found ≡ false → r ≡ unlaid
-    → r ≡ laid w (item_of n l at)
+-- an item after its count, where lists of fewer than n bytes are laid
+abbrev pub item_by : ℕ → List ℕ → Fields → Tally → Option Laying
+item_by n l w c =
+    pick (eqb (get_or l c.at 0) 40)
+    (option_and_then (group_laid w.count c l) (laid w (list_of n l (c.at + 1))))
+    (option_map (laid_leaf w) (plain_leaf c l))
+
+-- a list after its first item
+abbrev pub list_by : ℕ → List ℕ → Laying → Option Laying
+list_by n l i = pick (eqb (get_or l i.at 0) 44) (laid i.row (list_of n l (i.at + 1))) (Some i)
+
+item_next : (n : ℕ) (l : List ℕ) (at : ℕ) (w : Fields) → laid w (item_of (suc n) l at) ≡ option_and_then (item_by n l w) (tally_at at (count_of (drop at l)))
+unfolding laid tally_at
+item_next n l at w = go (count_of (drop at l)) refl
+  where
+    grouped : (d : Count) (k : ℕ) → count_of (drop at l) ≡ some d k → (b : Bool) → eqb (get_or l (at + k) 0) 40 ≡ b → laid w (item_of (suc n) l at) ≡ item_by n l w (found d (at + k))
+    grouped d k q true b = rw (b, item_group n l at d k q b) (laid_closed w d (at + k) l (list_of n l (at + k + 1)))
+    grouped d k q false b =
+        rw (b, item_leaf n l at d k q b) (laid_leaf_lem w (leaf_of d (at + k) l) ∙ ap (option_map (laid_leaf w)) (leaf_in_leaf d (at + k) l))
+
+    go : (x : Counting) → count_of (drop at l) ≡ x → laid w (item_of (suc n) l at) ≡ option_and_then (item_by n l w) (tally_at at (count_of (drop at l)))
+    go none q = rw (q, item_none n l at q) refl
+    go (some d k) q = rw q (grouped d k q (eqb (get_or l (at + k) 0) 40) refl)
+
+pub item_is : (n : ℕ) (l : List ℕ) (at : ℕ) (w : Fields) (r : Option Laying) → (n ≡ 0 → ⊥)
+    → r ≡ option_and_then (item_by (n - 1) l w) (tally_at at (count_of (drop at l))) → r ≡ laid w (item_of n l at)
+item_is zero l at w r z e = absurd (z refl)
+item_is (suc m) l at w r z e = rw (fewer m) at e ∙ sym (item_next m l at w)
+
+list_next : (n : ℕ) (l : List ℕ) (at : ℕ) (w : Fields) → laid w (list_of (suc n) l at) ≡ option_and_then (list_by n l) (laid w (item_of n l at))
 unfolding laid
-item_uncounted zero l at w c r z e h q = absurd (z refl)
-item_uncounted (suc m) l at w c r z e h q = go (count_of (drop at l)) refl
+list_next n l at w = go (item_of n l at) refl
   where
-    go : (x : Counting) → count_of (drop at l) ≡ x → r ≡ laid w (item_of (suc m) l at)
-    go none s = q ∙ ap (laid w) (sym (item_none m l at s))
-    go (some d k) s =
-        let is = tally_some at c d k (e ∙ ap (tally_at at) s) in
-        false_not_true (sym h ∙ ap (λ (x : Tally). x.found) is)
+    comma : (t : Format) (k : ℕ) → item_of n l at ≡ some t k → (b : Bool) → eqb (get_or l k 0) 44 ≡ b
+        → laid w (list_of (suc n) l at) ≡ pick b (laid (lay w t) (list_of n l (k + 1))) (Some (a_laying k (lay w t)))
+    comma t k q true b = rw (list_more n l at t k q b) (laid_joined w t (list_of n l (k + 1)))
+    comma t k q false b = rw (list_last n l at t k q b) refl
 
-pub item_grouped : (n : ℕ) (l : List ℕ) (at : ℕ) (w : Row) (c : Tally) (m r : Laying) → (n ≡ 0 → ⊥) → c ≡ tally_at at (count_of (drop at l)) → c.found ≡ true → get_or l c.at 0 ≡ 40
-    → m ≡ laid w (list_of (n - 1) l (c.at + 1)) → r ≡ closed_laid w.count c l m → r ≡ laid w (item_of n l at)
-item_grouped zero l at w c m r z e h b p q = absurd (z refl)
-item_grouped (suc n) l at w c m r z e h b p q = go (count_of (drop at l)) refl
-  where
-    go : (x : Counting) → count_of (drop at l) ≡ x → r ≡ laid w (item_of (suc n) l at)
-    go none s = false_not_true (tally_none at c (e ∙ ap (tally_at at) s) h)
-    go (some d k) s =
-        let is = tally_some at c d k (e ∙ ap (tally_at at) s) in
-        let place : c.at ≡ at + k = ap (λ (x : Tally). x.at) is in
-        let opens : eqb (get_or l (at + k) 0) 40 ≡ true = eq-eqb (get_or l (at + k) 0) 40 (ap (λ (x : ℕ). get_or l x 0) (sym place) ∙ b) in
-        let inside : m ≡ laid w (list_of n l (at + k + 1)) = p ∙ ap (λ (x : ℕ). laid w (list_of x l (c.at + 1))) (fewer n) ∙ ap (λ (x : ℕ). laid w (list_of n l (x + 1))) place in
-        q ∙ ap (λ (x : Tally). closed_laid w.count x l m) is ∙ ap (closed_laid w.count (found d (at + k)) l) inside
-        ∙ sym (laid_closed w d (at + k) l (list_of n l (at + k + 1))) ∙ ap (laid w) (sym (item_group n l at d k s opens))
+    go : (x : Parsed) → item_of n l at ≡ x → laid w (list_of (suc n) l at) ≡ option_and_then (list_by n l) (laid w (item_of n l at))
+    go none q = rw (q, list_none n l at q) refl
+    go (some t k) q = rw q (comma t k q (eqb (get_or l k 0) 44) refl)
 
-pub item_plain : (n : ℕ) (l : List ℕ) (at : ℕ) (w : Row) (c : Tally) (p : code.Leaf) (r : Laying) → (n ≡ 0 → ⊥) → c ≡ tally_at at (count_of (drop at l)) → c.found ≡ true
-    → (get_or l c.at 0 ≡ 40 → ⊥) → p ≡ plain_leaf c l → r ≡ laid_leaf w p → r ≡ laid w (item_of n l at)
-item_plain zero l at w c p r z e h b s q = absurd (z refl)
-item_plain (suc n) l at w c p r z e h b s q = go (count_of (drop at l)) refl
-  where
-    go : (x : Counting) → count_of (drop at l) ≡ x → r ≡ laid w (item_of (suc n) l at)
-    go none t = false_not_true (tally_none at c (e ∙ ap (tally_at at) t) h)
-    go (some d k) t =
-        let is = tally_some at c d k (e ∙ ap (tally_at at) t) in
-        let place : c.at ≡ at + k = ap (λ (x : Tally). x.at) is in
-        let other : eqb (get_or l (at + k) 0) 40 ≡ false = ne_eqb (get_or l (at + k) 0) 40 (λ y. b (ap (λ (x : ℕ). get_or l x 0) place ∙ y)) in
-        let leaf-is : p ≡ leaf_in (leaf_of d (at + k) l) = s ∙ ap (λ (x : Tally). plain_leaf x l) is ∙ sym (leaf_in_leaf d (at + k) l) in
-        q ∙ ap (laid_leaf w) leaf-is ∙ sym (laid_leaf_lem w (leaf_of d (at + k) l)) ∙ ap (laid w) (sym (item_leaf n l at d k t other))
-
-module _ (n : ℕ) (l : List ℕ) (at : ℕ) (w : Row) (i : Laid) (ks ws : List ℕ) (e : laying_in i ks ws ≡ laid w (item_of (suc n - 1) l at)) where
-  item_is : laying_in i ks ws ≡ laid w (item_of n l at)
-  item_is = e ∙ ap (λ (x : ℕ). laid w (item_of x l at)) (fewer n)
-
-  empty_step : (r : Laying) → i.found ≡ false → r ≡ unlaid → (x : Parsed) → item_of n l at ≡ x → r ≡ laid w (list_of (suc n) l at)
-  unfolding laid
-  empty_step r h q none s = q ∙ ap (laid w) (sym (list_none n l at s))
-  empty_step r h q (some t k) s = false_not_true (sym h ∙ laid_there w i ks ws t k (item_is ∙ ap (laid w) s))
-
-  comma_step : (r : Laying) → i.found ≡ true → get_or l i.at 0 ≡ 44 → r ≡ laid (a_row i.count ks ws) (list_of (suc n - 1) l (i.at + 1)) → (x : Parsed) → item_of n l at ≡ x
-      → r ≡ laid w (list_of (suc n) l at)
-  comma_step r h b p none s = false_not_true (laid_missing w i ks ws (item_is ∙ ap (laid w) s) h)
-  comma_step r h b p (some t k) s =
-      let is = item_is ∙ ap (laid w) s in
-      let place = laid_at w i ks ws t k is in
-      let row : Row = a_row i.count ks ws in
-      let comma : eqb (get_or l k 0) 44 ≡ true = eq-eqb (get_or l k 0) 44 (ap (λ (x : ℕ). get_or l x 0) (sym place) ∙ b) in
-      p ∙ ap (λ (x : ℕ). laid row (list_of x l (i.at + 1))) (fewer n) ∙ ap (λ (x : ℕ). laid row (list_of n l (x + 1))) place
-      ∙ ap (λ (x : Row). laid x (list_of n l (k + 1))) (laid_row w i ks ws t k is) ∙ sym (laid_joined w t (list_of n l (k + 1))) ∙ ap (laid w) (sym (list_more n l at t k s comma))
-
-  one_step : i.found ≡ true → (get_or l i.at 0 ≡ 44 → ⊥) → (x : Parsed) → item_of n l at ≡ x → laying_in i ks ws ≡ laid w (list_of (suc n) l at)
-  one_step h b none s = false_not_true (laid_missing w i ks ws (item_is ∙ ap (laid w) s) h)
-  one_step h b (some t k) s =
-      let is = item_is ∙ ap (laid w) s in
-      let other : eqb (get_or l k 0) 44 ≡ false = ne_eqb (get_or l k 0) 44 (λ y. b (ap (λ (x : ℕ). get_or l x 0) (laid_at w i ks ws t k is) ∙ y)) in
-      is ∙ ap (laid w) (sym (list_last n l at t k s other))
-
-pub list_empty : (n : ℕ) (l : List ℕ) (at : ℕ) (w : Row) (i : Laid) (ks ws : List ℕ) (r : Laying) → (n ≡ 0 → ⊥) → laying_in i ks ws ≡ laid w (item_of (n - 1) l at) → i.found ≡ false
-    → r ≡ unlaid → r ≡ laid w (list_of n l at)
-list_empty zero l at w i ks ws r z e h q = absurd (z refl)
-list_empty (suc n) l at w i ks ws r z e h q = empty_step n l at w i ks ws e r h q (item_of n l at) refl
-
-pub list_comma : (n : ℕ) (l : List ℕ) (at : ℕ) (w : Row) (i : Laid) (ks ws : List ℕ) (r : Laying) → (n ≡ 0 → ⊥) → laying_in i ks ws ≡ laid w (item_of (n - 1) l at) → i.found ≡ true
-    → get_or l i.at 0 ≡ 44 → r ≡ laid (a_row i.count ks ws) (list_of (n - 1) l (i.at + 1)) → r ≡ laid w (list_of n l at)
-list_comma zero l at w i ks ws r z e h b p = absurd (z refl)
-list_comma (suc n) l at w i ks ws r z e h b p = comma_step n l at w i ks ws e r h b p (item_of n l at) refl
-
-pub list_one : (n : ℕ) (l : List ℕ) (at : ℕ) (w : Row) (i : Laid) (ks ws : List ℕ) → (n ≡ 0 → ⊥) → laying_in i ks ws ≡ laid w (item_of (n - 1) l at) → i.found ≡ true
-    → (get_or l i.at 0 ≡ 44 → ⊥) → laying_in i ks ws ≡ laid w (list_of n l at)
-list_one zero l at w i ks ws z e h b = absurd (z refl)
-list_one (suc n) l at w i ks ws z e h b = one_step n l at w i ks ws e h b (item_of n l at) refl
+pub list_is : (n : ℕ) (l : List ℕ) (at : ℕ) (w : Fields) (r : Option Laying) → (n ≡ 0 → ⊥)
+    → r ≡ option_and_then (list_by (n - 1) l) (laid w (item_of (n - 1) l at)) → r ≡ laid w (list_of n l at)
+list_is zero l at w r z e = absurd (z refl)
+list_is (suc m) l at w r z e = rw (fewer m) at e ∙ sym (list_next m l at w)

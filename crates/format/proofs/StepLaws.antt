@@ -1,128 +1,72 @@
 -- The steps of the item and list functions, as the code takes them.
-use Rattle.std.specs.Prelude.{◌≡◌, refl, true, false, List, ℕ, zero, suc, ◌+◌, ◌-◌, eqb, drop, get_or}
-use Rattle.std.proofs.Common.{sym, ap, ◌∙◌, arith, eq-eqb, ne_eqb}
-use Rattle.laws.specs.ChoiceLaws.{false_not_true}
-use Rattle.format.specs.Format.{Count, Format}
+use Rattle.std.specs.Prelude.{◌≡◌, refl, Bool, true, false, List, ℕ, zero, suc, ◌+◌, ◌-◌, eqb, drop, get_or, min, Option, Some, None, option_and_then, option_map}
+use Rattle.std.proofs.Common.{sym, ap, ◌∙◌, arith}
+use Rattle.laws.specs.Choice.{pick}
+use Rattle.format.specs.Format.{Count, Format, depth, groups, columns}
 use Rattle.format.specs.Reading.{Counting, Parsed, none, some, count_of, leaf_of, item_of, list_of}
 use Rattle.format.specs.ListLaws.{item_leaf, item_group, item_none, list_last, list_more, list_none}
-use Rattle.format.specs.Measured.{tally_at, leaf_in, plain_leaf, unmeasured, measured, measured_leaf, closed_measure, joined_measure}
-use Rattle.format.proofs.MeasuredLaws.{found, leaf_in_leaf, measured_leaf_lem, measured_closed, measured_joined}
+use Rattle.format.specs.Measured.{capped, found, tally_at, plain_leaf, a_measure, measured, measured_leaf, closed_measure, joined_measure}
+use Rattle.format.proofs.MeasuredLaws.{leaf_in_leaf, measured_leaf_lem, measured_closed, measured_joined}
 use Rattle.format.specs.declared.Tally.{Tally}
-use Rattle.format.specs.declared.Leaf as code
 use Rattle.format.specs.declared.Measure.{Measure}
-
-pub item_zero : (n : ℕ) (l : List ℕ) (at : ℕ) → n ≡ 0 → unmeasured ≡ measured (item_of n l at)
-unfolding item_of measured
-item_zero n l at e = rw e refl
-
-pub list_zero : (n : ℕ) (l : List ℕ) (at : ℕ) → n ≡ 0 → unmeasured ≡ measured (list_of n l at)
-unfolding item_of measured
-list_zero n l at e = rw e refl
 
 -- one byte fewer is left
 pub fewer : (m : ℕ) → suc m - 1 ≡ m
 fewer m = omega arith
 
-pub tally_none : (at : ℕ) (c : Tally) → c ≡ tally_at at none → c.found ≡ true → false ≡ true
-unfolding tally_at
-tally_none at c e h = sym (ap (λ (x : Tally). x.found) e) ∙ h
+-- no byte is left
+pub item_zero : (n : ℕ) (l : List ℕ) (at : ℕ) → n ≡ 0 → None ≡ measured (item_of n l at)
+unfolding item_of measured
+item_zero n l at e = rw e refl
 
-pub tally_some : (at : ℕ) (c : Tally) (d : Count) (k : ℕ) → c ≡ tally_at at (some d k) → c ≡ found d (at + k)
-unfolding tally_at
-tally_some at c d k e = e
+pub list_zero : (n : ℕ) (l : List ℕ) (at : ℕ) → n ≡ 0 → None ≡ measured (list_of n l at)
+unfolding item_of measured
+list_zero n l at e = rw e refl
 
-pub item_uncounted : (n : ℕ) (l : List ℕ) (at : ℕ) (c : Tally) → (n ≡ 0 → ⊥) → c ≡ tally_at at (count_of (drop at l)) → c.found ≡ false → unmeasured ≡ measured (item_of n l at)
+-- an item after its count, where lists of fewer than n bytes are measured
+abbrev pub item_by : ℕ → List ℕ → Tally → Option Measure
+item_by n l c =
+    pick (eqb (get_or l c.at 0) 40)
+    (option_and_then (closed_measure c l) (measured (list_of n l (c.at + 1))))
+    (option_map measured_leaf (plain_leaf c l))
+
+-- a list after its first item
+abbrev pub list_by : ℕ → List ℕ → Measure → Option Measure
+list_by n l i = pick (eqb (get_or l i.at 0) 44) (option_map (joined_measure i) (measured (list_of n l (i.at + 1)))) (Some i)
+
+item_next : (n : ℕ) (l : List ℕ) (at : ℕ) → measured (item_of (suc n) l at) ≡ option_and_then (item_by n l) (tally_at at (count_of (drop at l)))
+unfolding measured tally_at
+item_next n l at = go (count_of (drop at l)) refl
+  where
+    grouped : (d : Count) (k : ℕ) → count_of (drop at l) ≡ some d k → (b : Bool) → eqb (get_or l (at + k) 0) 40 ≡ b → measured (item_of (suc n) l at) ≡ item_by n l (found d (at + k))
+    grouped d k q true b = rw (b, item_group n l at d k q b) (measured_closed d (at + k) l (list_of n l (at + k + 1)))
+    grouped d k q false b =
+        rw (b, item_leaf n l at d k q b) (measured_leaf_lem (leaf_of d (at + k) l) ∙ ap (option_map measured_leaf) (leaf_in_leaf d (at + k) l))
+
+    go : (x : Counting) → count_of (drop at l) ≡ x → measured (item_of (suc n) l at) ≡ option_and_then (item_by n l) (tally_at at (count_of (drop at l)))
+    go none q = rw (q, item_none n l at q) refl
+    go (some d k) q = rw q (grouped d k q (eqb (get_or l (at + k) 0) 40) refl)
+
+pub item_is : (n : ℕ) (l : List ℕ) (at : ℕ) (r : Option Measure) → (n ≡ 0 → ⊥)
+    → r ≡ option_and_then (item_by (n - 1) l) (tally_at at (count_of (drop at l))) → r ≡ measured (item_of n l at)
+item_is zero l at r z e = absurd (z refl)
+item_is (suc m) l at r z e = rw (fewer m) at e ∙ sym (item_next m l at)
+
+list_next : (n : ℕ) (l : List ℕ) (at : ℕ) → measured (list_of (suc n) l at) ≡ option_and_then (list_by n l) (measured (item_of n l at))
 unfolding measured
-item_uncounted zero l at c z e h = absurd (z refl)
-item_uncounted (suc m) l at c z e h = go (count_of (drop at l)) refl
+list_next n l at = go (item_of n l at) refl
   where
-    go : (x : Counting) → count_of (drop at l) ≡ x → unmeasured ≡ measured (item_of (suc m) l at)
-    go none q = ap measured (sym (item_none m l at q))
-    go (some d k) q =
-        let is = tally_some at c d k (e ∙ ap (tally_at at) q) in
-        false_not_true (sym h ∙ ap (λ (x : Tally). x.found) is)
+    comma : (t : Format) (k : ℕ) → item_of n l at ≡ some t k → (b : Bool) → eqb (get_or l k 0) 44 ≡ b
+        → measured (list_of (suc n) l at)
+        ≡ pick b (option_map (joined_measure (a_measure k (min (depth t) 4) (min (groups t) 4) (capped (columns t)))) (measured (list_of n l (k + 1)))) (measured (some t k))
+    comma t k q true b = rw (list_more n l at t k q b) (measured_joined t k (list_of n l (k + 1)))
+    comma t k q false b = rw (list_last n l at t k q b) refl
 
-pub item_grouped : (n : ℕ) (l : List ℕ) (at : ℕ) (c : Tally) (m r : Measure) → (n ≡ 0 → ⊥) → c ≡ tally_at at (count_of (drop at l)) → c.found ≡ true → get_or l c.at 0 ≡ 40
-    → m ≡ measured (list_of (n - 1) l (c.at + 1)) → r ≡ closed_measure c l m → r ≡ measured (item_of n l at)
-item_grouped zero l at c m r z e h b p q = absurd (z refl)
-item_grouped (suc n) l at c m r z e h b p q = go (count_of (drop at l)) refl
-  where
-    go : (x : Counting) → count_of (drop at l) ≡ x → r ≡ measured (item_of (suc n) l at)
-    go none s = false_not_true (tally_none at c (e ∙ ap (tally_at at) s) h)
-    go (some d k) s =
-        let is = tally_some at c d k (e ∙ ap (tally_at at) s) in
-        let place : c.at ≡ at + k = ap (λ (x : Tally). x.at) is in
-        let opens : eqb (get_or l (at + k) 0) 40 ≡ true = eq-eqb (get_or l (at + k) 0) 40 (ap (λ (x : ℕ). get_or l x 0) (sym place) ∙ b) in
-        let inside : m ≡ measured (list_of n l (at + k + 1)) = p ∙ ap (λ (x : ℕ). measured (list_of x l (c.at + 1))) (fewer n) ∙ ap (λ (x : ℕ). measured (list_of n l (x + 1))) place in
-        q ∙ ap (λ (x : Tally). closed_measure x l m) is ∙ ap (closed_measure (found d (at + k)) l) inside
-        ∙ sym (measured_closed d (at + k) l (list_of n l (at + k + 1))) ∙ ap measured (sym (item_group n l at d k s opens))
+    go : (x : Parsed) → item_of n l at ≡ x → measured (list_of (suc n) l at) ≡ option_and_then (list_by n l) (measured (item_of n l at))
+    go none q = rw (q, list_none n l at q) refl
+    go (some t k) q = rw q (comma t k q (eqb (get_or l k 0) 44) refl)
 
-pub item_plain : (n : ℕ) (l : List ℕ) (at : ℕ) (c : Tally) (p : code.Leaf) (r : Measure) → (n ≡ 0 → ⊥) → c ≡ tally_at at (count_of (drop at l)) → c.found ≡ true
-    → (get_or l c.at 0 ≡ 40 → ⊥) → p ≡ plain_leaf c l → r ≡ measured_leaf p → r ≡ measured (item_of n l at)
-item_plain zero l at c p r z e h b s q = absurd (z refl)
-item_plain (suc n) l at c p r z e h b s q = go (count_of (drop at l)) refl
-  where
-    go : (x : Counting) → count_of (drop at l) ≡ x → r ≡ measured (item_of (suc n) l at)
-    go none t = false_not_true (tally_none at c (e ∙ ap (tally_at at) t) h)
-    go (some d k) t =
-        let is = tally_some at c d k (e ∙ ap (tally_at at) t) in
-        let place : c.at ≡ at + k = ap (λ (x : Tally). x.at) is in
-        let other : eqb (get_or l (at + k) 0) 40 ≡ false = ne_eqb (get_or l (at + k) 0) 40 (λ y. b (ap (λ (x : ℕ). get_or l x 0) place ∙ y)) in
-        let leaf-is : p ≡ leaf_in (leaf_of d (at + k) l) = s ∙ ap (λ (x : Tally). plain_leaf x l) is ∙ sym (leaf_in_leaf d (at + k) l) in
-        q ∙ ap measured_leaf leaf-is ∙ sym (measured_leaf_lem (leaf_of d (at + k) l)) ∙ ap measured (sym (item_leaf n l at d k t other))
-
-missing : (i : Measure) → i ≡ measured none → i.found ≡ true → false ≡ true
-unfolding measured
-missing i e h = sym (ap (λ (x : Measure). x.found) e) ∙ h
-
-there : (i : Measure) (t : Format) (k : ℕ) → i ≡ measured (some t k) → i.found ≡ true
-unfolding measured
-there i t k e = ap (λ (x : Measure). x.found) e
-
-place : (i : Measure) (t : Format) (k : ℕ) → i ≡ measured (some t k) → i.at ≡ k
-unfolding measured
-place i t k e = ap (λ (x : Measure). x.at) e
-
-pub list_empty : (n : ℕ) (l : List ℕ) (at : ℕ) (i : Measure) → (n ≡ 0 → ⊥) → i ≡ measured (item_of (n - 1) l at) → i.found ≡ false → unmeasured ≡ measured (list_of n l at)
-unfolding measured
-list_empty zero l at i z e h = absurd (z refl)
-list_empty (suc n) l at i z e h = go (item_of n l at) refl
-  where
-    item_is : i ≡ measured (item_of n l at)
-    item_is = e ∙ ap (λ (x : ℕ). measured (item_of x l at)) (fewer n)
-
-    go : (x : Parsed) → item_of n l at ≡ x → unmeasured ≡ measured (list_of (suc n) l at)
-    go none q = ap measured (sym (list_none n l at q))
-    go (some t k) q = false_not_true (sym h ∙ there i t k (item_is ∙ ap measured q))
-
-pub list_comma : (n : ℕ) (l : List ℕ) (at : ℕ) (i m r : Measure) → (n ≡ 0 → ⊥) → i ≡ measured (item_of (n - 1) l at) → i.found ≡ true → get_or l i.at 0 ≡ 44
-    → m ≡ measured (list_of (n - 1) l (i.at + 1)) → r ≡ joined_measure i m → r ≡ measured (list_of n l at)
-list_comma zero l at i m r z e h b p q = absurd (z refl)
-list_comma (suc n) l at i m r z e h b p q = go (item_of n l at) refl
-  where
-    item_is : i ≡ measured (item_of n l at)
-    item_is = e ∙ ap (λ (x : ℕ). measured (item_of x l at)) (fewer n)
-
-    go : (x : Parsed) → item_of n l at ≡ x → r ≡ measured (list_of (suc n) l at)
-    go none s = false_not_true (missing i (item_is ∙ ap measured s) h)
-    go (some t k) s =
-        let is = item_is ∙ ap measured s in
-        let comma : eqb (get_or l k 0) 44 ≡ true = eq-eqb (get_or l k 0) 44 (ap (λ (x : ℕ). get_or l x 0) (sym (place i t k is)) ∙ b) in
-        let rest : m ≡ measured (list_of n l (k + 1)) = p ∙ ap (λ (x : ℕ). measured (list_of x l (i.at + 1))) (fewer n) ∙ ap (λ (x : ℕ). measured (list_of n l (x + 1))) (place i t k is) in
-        q ∙ ap (λ (x : Measure). joined_measure x m) is ∙ ap (joined_measure (measured (some t k))) rest ∙ sym
-        (measured_joined t k (list_of n l (k + 1))) ∙ ap measured (sym (list_more n l at t k s comma))
-
-pub list_one : (n : ℕ) (l : List ℕ) (at : ℕ) (i : Measure) → (n ≡ 0 → ⊥) → i ≡ measured (item_of (n - 1) l at) → i.found ≡ true → (get_or l i.at 0 ≡ 44 → ⊥)
-    → i ≡ measured (list_of n l at)
-list_one zero l at i z e h b = absurd (z refl)
-list_one (suc n) l at i z e h b = go (item_of n l at) refl
-  where
-    item_is : i ≡ measured (item_of n l at)
-    item_is = e ∙ ap (λ (x : ℕ). measured (item_of x l at)) (fewer n)
-
-    go : (x : Parsed) → item_of n l at ≡ x → i ≡ measured (list_of (suc n) l at)
-    go none s = false_not_true (missing i (item_is ∙ ap measured s) h)
-    go (some t k) s =
-        let is = item_is ∙ ap measured s in
-        let other : eqb (get_or l k 0) 44 ≡ false = ne_eqb (get_or l k 0) 44 (λ y. b (ap (λ (x : ℕ). get_or l x 0) (place i t k is) ∙ y)) in
-        is ∙ ap measured (sym (list_last n l at t k s other))
+pub list_is : (n : ℕ) (l : List ℕ) (at : ℕ) (r : Option Measure) → (n ≡ 0 → ⊥)
+    → r ≡ option_and_then (list_by (n - 1) l) (measured (item_of (n - 1) l at)) → r ≡ measured (list_of n l at)
+list_is zero l at r z e = absurd (z refl)
+list_is (suc m) l at r z e = rw (fewer m) at e ∙ sym (list_next m l at)

@@ -1,6 +1,7 @@
 -- Numbers and counts are read as they are spelled, in both directions; the laws of a loop over digits.
-use Rattle.std.specs.Prelude.{◌≡◌, refl, Bool, true, false, ◌&&◌, List, [], ◌∷◌, ◌++◌, ℕ, zero, suc, ◌+◌, ◌-◌, ◌*◌, ◌≤◌, ◌<◌, ltb, eqb, length, take, drop, get_or}
-use Rattle.std.proofs.Common.{sym, ap, ◌∙◌, add-one, arith, eqb-true, lt-ltb, ne_eqb, take-append-drop, drop_of_length-le, drop-cons, length-take-le}
+use Rattle.std.specs.Prelude.{◌≡◌, refl, Bool, true, false, ◌&&◌, List, [], ◌∷◌, ◌++◌, ℕ, zero, suc, ◌+◌, ◌-◌, ◌*◌, ◌≤◌, ◌<◌, ltb, eqb, length, take, drop, get_or, cond}
+use Rattle.std.specs.List.{prefix_len}
+use Rattle.std.proofs.Common.{sym, ap, ◌∙◌, arith, eqb-true, lt-ltb, ne_eqb, take-append-drop, length-take-le}
 use Rattle.std.proofs.lemmas.Bool.{eqb-false}
 use Rattle.std.proofs.Math.Seq.{take-append_seam}
 use Rattle.laws.specs.Choice.{pick}
@@ -11,18 +12,15 @@ use Rattle.text.specs.PartsLaws.{is_digit_low, is_digit_high, is_digit_complete}
 use Rattle.format.specs.Format.{Count, once, times, Numeral, nought, from, Counted, left_out, written}
 use Rattle.format.specs.Reading.{digits_before, with_digit, numbered, number_in, number_of, Counting, none, some, count_of}
 
--- a loop that looks for a byte that is no digit: one digit more, the byte, the end
-pub digits_before_next : (l : List ℕ) (i : ℕ) → i < length l → is_digit (get_or l i 0) ≡ true → digits_before (drop i l) ≡ suc (digits_before (drop (i + 1) l))
+-- std's own count
+pub digits_before_prefix : (l : List ℕ) → digits_before l ≡ prefix_len is_digit l
 unfolding digits_before
-digits_before_next l i h e = rw (add-one, drop-cons l i 0) (simp e)
-
-pub digits_before_here : (l : List ℕ) (i : ℕ) → i < length l → is_digit (get_or l i 0) ≡ false → digits_before (drop i l) ≡ 0
-unfolding digits_before
-digits_before_here l i h e = rw (drop-cons l i 0) (simp e)
-
-pub digits_before_end : (l : List ℕ) (i : ℕ) → length l ≤ i → digits_before (drop i l) ≡ 0
-unfolding digits_before
-digits_before_end l i h = rw drop_of_length-le
+digits_before_prefix [] = refl
+digits_before_prefix (b ∷ l) = go (is_digit b) (digits_before_prefix l)
+  where
+    go : (t : Bool) → digits_before l ≡ prefix_len is_digit l → pick t (suc (digits_before l)) 0 ≡ cond t (1 + prefix_len is_digit l) 0
+    go true h = omega arith
+    go false h = refl
 
 pub digits_before_most : (l : List ℕ) → digits_before l ≤ length l
 unfolding digits_before

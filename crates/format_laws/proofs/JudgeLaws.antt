@@ -17,7 +17,7 @@ use Rattle.walk.specs.Due.{row_due, after}
 use Rattle.walk.specs.Step.{state, unless, typed_step, step_of}
 use Rattle.walk.specs.declared.Place.TheVariants.{Typed}
 use Rattle.walk.specs.declared.State.{State}
-use Rattle.walk.specs.declared.Outcome.TheVariants.{Next, Refused}
+use Rattle.std.specs.Prelude.{Ok, Err}
 use Rattle.judge.specs.Judge.{at_line, line_outcome, line_step}
 use Rattle.reader.specs.Reader.{Said, refused_by}
 use Rattle.format_reader.specs.Unruled.{unruled_refusal}
@@ -50,17 +50,17 @@ pub first_first : (n c : ℕ) (g : Refusal) (x : Said Seen) → line_first (refu
 first_first zero c g x = refl
 first_first (suc n) c g x = rw (lt-ltb 0 (suc n) (omega arith)) refl
 
-unless_refused : (g f : Refusal) (t : State) → unless g t ≡ Refused f → (g ≡ f) × (0 < f.number)
+unless_refused : (g f : Refusal) (t : State) → unless g t ≡ Err f → (g ≡ f) × (0 < f.number)
 unless_refused g f t e = by g.number g.column e
   where
-    by : (n c : ℕ) → unless (refusal n c) t ≡ Refused f → (refusal n c ≡ f) × (0 < f.number)
+    by : (n c : ℕ) → unless (refusal n c) t ≡ Err f → (refusal n c ≡ f) × (0 < f.number)
     by zero c e = let z : ◌≡◌ {A = ℕ} 0 1 = cc in absurd (omega arith)
     by (suc n) c e = let same : refusal (suc n) c ≡ f = cc in (same, rw (← same) (omega arith))
 
-unless_next : (g : Refusal) (s t : State) → unless g t ≡ Next s → g.number ≡ 0
+unless_next : (g : Refusal) (s t : State) → unless g t ≡ Ok s → g.number ≡ 0
 unless_next g s t e = by g.number g.column e
   where
-    by : (n c : ℕ) → unless (refusal n c) t ≡ Next s → n ≡ 0
+    by : (n c : ℕ) → unless (refusal n c) t ≡ Ok s → n ≡ 0
     by zero c e = refl
     by (suc n) c e = let z : ◌≡◌ {A = ℕ} 0 1 = cc in absurd (omega arith)
 
@@ -107,7 +107,7 @@ module _ {s : State} {l text : List ℕ} (a : Asked s l text) where
   answer_refused f e h k = answer k ∙ rw (e, lt-ltb 0 f.number h) refl
 
   -- where the judge refuses the line, and not with 9, 11 or 14, the question has the same number and column
-  pub refused_same : (f : Refusal) → line_step s l ≡ Refused f → (Ruled f.number → ⊥) → (k : ℕ) → answer_of text k cs ≡ refused_by (at_line 0 f)
+  pub refused_same : (f : Refusal) → line_step s l ≡ Err f → (Ruled f.number → ⊥) → (k : ℕ) → answer_of text k cs ≡ refused_by (at_line 0 f)
   refused_same f e r k = by tied
     where
       u : (of_judge ≡ f) × (0 < f.number)
@@ -118,7 +118,7 @@ module _ {s : State} {l text : List ℕ} (a : Asked s l text) where
       by (inr q) = answer_refused f (q ∙ u.0) u.1 k
 
   -- where a field is shown, the judge passes the line or refuses it with 9, 11 or 14
-  pub shown_passes : (k : ℕ) → (answer_of text k cs).reply.number ≡ 0 → (f : Refusal) → line_step s l ≡ Refused f → Ruled f.number
+  pub shown_passes : (k : ℕ) → (answer_of text k cs).reply.number ≡ 0 → (f : Refusal) → line_step s l ≡ Err f → Ruled f.number
   shown_passes k z f e = by tied
     where
       u : (of_judge ≡ f) × (0 < f.number)
@@ -131,7 +131,7 @@ module _ {s : State} {l text : List ℕ} (a : Asked s l text) where
           absurd (omega (arith, u.1))
 
   -- where the judge passes the line, each field shows its item
-  module _ (t : State) (e : line_step s l ≡ Next t) where
+  module _ (t : State) (e : line_step s l ≡ Ok t) where
     none : of_judge.number ≡ 0
     none = unless_next of_judge t next (sym judge_step ∙ e)
 

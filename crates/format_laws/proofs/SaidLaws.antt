@@ -2,15 +2,15 @@
 use Rattle.std.proofs.Math.Path.{◌≡◌, refl, ap}
 use Rattle.std.proofs.Common.{◌∙◌, ⊎_elim, lt-ltb, le-ltb}
 use Rattle.std.proofs.Math.Bool.{true}
-use Rattle.std.specs.Prelude.{List, [], ◌∷◌, map, ltb, take, drop}
+use Rattle.std.specs.Prelude.{List, [], ◌∷◌, map, ltb, take, drop, Ok, Err}
 use Prim.Native.Nat.{ℕ, zero, suc, ◌+◌, ◌-◌, ◌≤◌, ◌<◌}
 use native.Mathlib.Omega.{arith}
 use Rattle.laws.specs.Choice.{pick}
 use Rattle.laws.specs.ChoiceLaws.{below_or_not}
 use Rattle.real.specs.Real.{real_of}
 use Rattle.real.proofs.RealLaws.{real_of_sound}
-use Rattle.real.specs.declared.Real.{Real}
-use Rattle.real.specs.declared.Real.TheVariants as R
+use Rattle.real.specs.Real.{Real}
+use Rattle.real.specs.declared.RealFault.TheVariants as R
 use Rattle.format.specs.Format.{Kind}
 use Rattle.format.specs.Format as Format
 use Rattle.format.specs.Reading.{Reading, reading_of}
@@ -106,9 +106,9 @@ module _ (l : List ℕ) (fs : List Format.Field) (at w : ℕ) (s : ℕ → Said 
 
   real_seen : (x : Real) → real_of (take w (drop at l)) ≡ x → looked_at (real_number x) ≡ 0 → SeenAs l at (at + w) (form_for Kind.real) (real_shown at (at + w) x)
   unfolding looked_at form_for
-  real_seen (R.Value v) e p = a_real v.minus v.coefficient v.below v.scale (rw (past_width at w) (real_of_sound (take w (drop at l)) v e).0)
-  real_seen R.Blank e p = absurd (omega arith)
-  real_seen R.Malformed e p = absurd (omega arith)
+  real_seen (Ok v) e p = a_real v.minus v.coefficient v.below v.scale (rw (past_width at w) (real_of_sound (take w (drop at l)) v e).0)
+  real_seen (Err R.Blank) e p = absurd (omega arith)
+  real_seen (Err R.Malformed) e p = absurd (omega arith)
 
   kind_picked : (q : Kind) (k : ℕ) → unruled_number (form_for q) l (take w (drop at l)) ≡ 0
       → Picked l (with q) at k (pick (ltb k (counts (kind_of (form_for q)))) (field_shown (kind_of (form_for q)) at (at + w) l) (s (k - counts (kind_of (form_for q)))))

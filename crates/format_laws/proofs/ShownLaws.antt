@@ -1,6 +1,6 @@
 -- On a line that passes, each field shows its item in its own columns.
 use Rattle.std.proofs.Math.Path.{◌≡◌, refl}
-use Rattle.std.specs.Prelude.{false, ℕ, zero, suc, ◌+◌, ◌-◌, ◌<◌, ltb, length, get_or, take, drop}
+use Rattle.std.specs.Prelude.{false, ℕ, zero, suc, ◌+◌, ◌-◌, ◌<◌, ltb, length, get_or, take, drop, Ok, Err}
 use mathlib.Core.List.{List, [], ◌∷◌, ◌++◌, append-nil}
 use native.Mathlib.Omega.{arith}
 use Rattle.std.proofs.Common.{le-ltb}
@@ -8,14 +8,13 @@ use Rattle.laws.specs.Choice.{pick}
 use Rattle.text.specs.Text.{TextIn, trimmed}
 use Rattle.text.proofs.TextLaws.{trimmed_sound}
 use Rattle.integer.specs.Spelling.{IntegerSpelling}
-use Rattle.integer.specs.Integer.{integer_of}
+use Rattle.integer.specs.Integer.{Held, integer_of}
 use Rattle.integer.proofs.IntegerLaws.{integer_of_value}
-use Rattle.integer.specs.declared.Integer.{Integer}
-use Rattle.integer.specs.declared.Integer.TheVariants.{Blank, Malformed, OutOfRange, Value}
+use Rattle.integer.specs.declared.IntegerFault.TheVariants.{Blank, Malformed, OutOfRange}
 use Rattle.real.specs.Real.{real_of}
 use Rattle.real.proofs.RealLaws.{real_of_sound}
-use Rattle.real.specs.declared.Real.{Real}
-use Rattle.real.specs.declared.Real.TheVariants as R
+use Rattle.real.specs.Real.{Real}
+use Rattle.real.specs.declared.RealFault.TheVariants as R
 use Rattle.codes.specs.Rule.{Rule}
 use Rattle.codes.specs.Form.{Form, skip, text, identification, real, integer}
 use Rattle.field.specs.Item.{Item}
@@ -60,17 +59,17 @@ module _ (line : List ℕ) where
     text_shown = let t : TextIn (trimmed cols) (columns_of at (at + w) line) = rw (past_width at w) (trimmed_sound cols) in a_text t
 
     real_shown_lem : (i : Real) → real_of cols ≡ i → real_number i ≡ 0 → Shows line at (at + w) (real_item i) (real_shown at (at + w) i)
-    real_shown_lem R.Blank e n = absurd (omega arith)
-    real_shown_lem R.Malformed e n = absurd (omega arith)
-    real_shown_lem (R.Value v) e n = a_real v.minus v.coefficient v.below v.scale (rw (past_width at w) (real_of_sound cols v e).0)
+    real_shown_lem (Err R.Blank) e n = absurd (omega arith)
+    real_shown_lem (Err R.Malformed) e n = absurd (omega arith)
+    real_shown_lem (Ok v) e n = a_real v.minus v.coefficient v.below v.scale (rw (past_width at w) (real_of_sound cols v e).0)
 
-    integer_shown : (r : Rule) (i : Integer) → integer_of cols ≡ i → integer_number r false i ≡ 0
+    integer_shown : (r : Rule) (i : Held) → integer_of cols ≡ i → integer_number r false i ≡ 0
         → Shows line at (at + w) (integer_item i) (said 0 2 (Question.columns at (at + w) ∷ []))
-    integer_shown r Blank e n = absurd (omega arith)
-    integer_shown r Malformed e n = absurd (omega arith)
-    integer_shown r OutOfRange e n = absurd (omega arith)
-    integer_shown r (Value n v) e p =
-        let t : IntegerSpelling n v (columns_of at (at + w) line) = rw (past_width at w) (integer_of_value cols n v e).0 in an_integer t
+    integer_shown r (Err Blank) e n = absurd (omega arith)
+    integer_shown r (Err Malformed) e n = absurd (omega arith)
+    integer_shown r (Err OutOfRange) e n = absurd (omega arith)
+    integer_shown r (Ok i) e p =
+        let t : IntegerSpelling i.minus i.size (columns_of at (at + w) line) = rw (past_width at w) (integer_of_value cols i.minus i.size e).0 in an_integer t
 
     field_shown_lem : (g : Form) → f.form ≡ g → (is : List Item) (s : ℕ → Said Seen) → field_number g (may_blank g line) cols ≡ 0 → may_blank g line ≡ false
         → AllShow fs (at + w) is s

@@ -5,9 +5,8 @@ use Prim.Native.String.{String}
 use Rattle.laws.specs.Run.{run}
 use Rattle.text.specs.Blank.{all_blank}
 use Rattle.text.specs.Parts.{is_digit}
-use Rattle.integer.specs.declared.Integer.{Integer}
 use Rattle.integer.specs.Integer as I
-use Rattle.real.specs.declared.Real.{Real}
+use Rattle.real.specs.Real.{Real}
 use Rattle.real.specs.Real as R
 use Rattle.format.specs.Computed.{computed_reading}
 use Rattle.line.specs.declared.Refusal.{Refusal}
@@ -23,7 +22,7 @@ use Rattle.format_reader.specs.Question.{Seen, columns, number, kind_of, field_s
 use Rattle.format_laws.specs.Printed.{bytes_of}
 
 -- to open one of these names is to open every definition that it computes with
-unfoldable computed_integer : List ℕ → Integer
+unfoldable computed_integer : List ℕ → I.Held
 unfolding run is_digit I.push I.step_integer I.end_integer I.integer_of
 computed_integer field = I.integer_of field
 

@@ -1,5 +1,5 @@
 -- Reading by a FORMAT that reads as a row's fields is reading by the row's fields, before 9, 11 and 14 are looked at.
-use Rattle.std.specs.Prelude.{◌≡◌, Bool, true, false, ◌||◌, ℕ, ◌+◌, take, drop}
+use Rattle.std.specs.Prelude.{◌≡◌, Bool, true, false, ◌||◌, ℕ, ◌+◌, take, drop, Ok, Err}
 use Rattle.std.proofs.Math.Path.{refl}
 use Rattle.std.proofs.Common.{sym, ◌∙◌}
 use mathlib.Core.List.{List, [], ◌∷◌}
@@ -7,9 +7,7 @@ use Rattle.laws.specs.Choice.{pick}
 use Rattle.laws.specs.ChoiceLaws.{false_not_true}
 use Rattle.text.specs.Blank.{all_blank}
 use Rattle.text.specs.Parts.{signed}
-use Rattle.integer.specs.Integer.{integer_of}
-use Rattle.integer.specs.declared.Integer.{Integer}
-use Rattle.integer.specs.declared.Integer.TheVariants.{Blank, Malformed, OutOfRange, Value}
+use Rattle.integer.specs.Integer.{Held, integer_of}
 use Rattle.line.specs.Line.{filled}
 use Rattle.codes.specs.Rule.{Rule, any, keeps}
 use Rattle.codes.specs.Form.{Form, skip, text, identification, real, integer}
@@ -42,11 +40,9 @@ unfolding looked_at
 text_pick true = refl
 text_pick false = refl
 
-same_integer : (r q : Rule) (i : Integer) → looked_at (integer_number r false i) ≡ looked_at (integer_number q false i)
-same_integer r q Blank = refl
-same_integer r q Malformed = refl
-same_integer r q OutOfRange = refl
-same_integer r q (Value n v) = ruled_pick (keeps r (signed n v)) (keeps q (signed n v))
+same_integer : (r q : Rule) (i : Held) → looked_at (integer_number r false i) ≡ looked_at (integer_number q false i)
+same_integer r q (Err f) = refl
+same_integer r q (Ok i) = ruled_pick (keeps r (signed i.minus i.size)) (keeps q (signed i.minus i.size))
 
 same_number : (f : Form) (line cols : List ℕ) → may_blank f line ≡ false → unruled_number (form_for (kind_of f)) line cols ≡ unruled_number f line cols
 unfolding unruled_number field_number form_for kind_of may_blank looked_at

@@ -1,11 +1,12 @@
 -- The question of C-15: "to type in a set's printed FORMAT and read a line's fields, by number from 0".
-use Rattle.std.specs.Prelude.{true, List, [], ◌∷◌, map, ℕ, ◌+◌, ◌-◌, ltb, eqb, take, drop}
+use Rattle.std.specs.Prelude.{true, List, [], ◌∷◌, map, ℕ, ◌+◌, ◌-◌, ltb, take, drop, Ok, Err, Result}
 use Rattle.laws.specs.Choice.{pick}
 use Rattle.real.specs.Real.{real_of}
-use Rattle.real.specs.declared.Real.{Real}
-use Rattle.real.specs.declared.Real.TheVariants.{Blank, Malformed, Value}
+use Rattle.real.specs.Real.{Real}
 use Rattle.format.specs.Format.{Kind}
 use Rattle.format.specs.Format as Format
+use Rattle.format.specs.declared.Kind as own
+use Rattle.format.specs.declared.Kind.TheVariants as own_kind
 use Rattle.format.specs.Reading.{Reading, malformed, too_large, fields, reading_of}
 use Rattle.line.specs.Line.{line_fault, filled}
 use Rattle.line.specs.declared.Refusal.{Refusal}
@@ -15,8 +16,9 @@ use Rattle.record_table.specs.Row.{Field}
 use Rattle.judge.specs.Judge.{at_line}
 use Rattle.reader.specs.Reader.{Said, said, refused_by, refused, Shown, shown}
 use Rattle.format_reader.specs.Unruled.{unruled_refusal}
-use Rattle.format_reader.specs.declared.FieldAnswer.{FieldAnswer}
-use Rattle.format_reader.specs.declared.FieldAnswer.TheVariants as field
+use Rattle.judge.specs.declared.Reply.{Reply}
+use Rattle.format_reader.specs.declared.Field as answer
+use Rattle.format_reader.specs.declared.Field.TheVariants as field
 
 -- "a text or integer being shown as the first and past byte of its columns, a real as the reader shows it, bytes from 0 in the line filled
 -- with blanks"
@@ -25,17 +27,16 @@ pub data Seen : Type 0 where
   number : Shown → Seen
 
 -- what each case of the answer says; the place is the kind: 1 a text, 2 an integer, 3 a real
-abbrev pub paper_field : FieldAnswer → Said Seen
-paper_field (field.Text a e) = said 0 1 (columns a e ∷ [])
-paper_field (field.Integer a e) = said 0 2 (columns a e ∷ [])
-paper_field (field.Real s) = said 0 3 (number (shown s.first s.past s.minus s.coefficient s.below s.scale) ∷ [])
-paper_field (field.Refused r) = refused_by r
+abbrev pub paper_field : Result answer.Field Reply → Said Seen
+paper_field (Ok (field.Text a e)) = said 0 1 (columns a e ∷ [])
+paper_field (Ok (field.Integer a e)) = said 0 2 (columns a e ∷ [])
+paper_field (Ok (field.Real s)) = said 0 3 (number (shown s.first s.past s.minus s.coefficient s.below s.scale) ∷ [])
+paper_field (Err r) = refused_by r
 
 -- a real, by its columns and what they mean; 18 where they hold none, which no line has whose fields pass
 abbrev pub real_shown : ℕ → ℕ → Real → Said Seen
-real_shown a e (Value n) = said 0 3 (number (shown a e n.minus n.coefficient n.below n.scale) ∷ [])
-real_shown a e Blank = refused 18 0
-real_shown a e Malformed = refused 18 0
+real_shown a e (Ok n) = said 0 3 (number (shown a e n.minus n.coefficient n.below n.scale) ∷ [])
+real_shown a e (Err _) = refused 18 0
 
 -- the kind of a field in a FORMAT, by its form
 unfoldable pub kind_of : Form → Kind
@@ -98,6 +99,9 @@ answer_by (fields fs) k line = field_of (map row_field fs) k line
 unfoldable pub answer_of : List ℕ → ℕ → List ℕ → Said Seen
 answer_of format k line = answer_by (reading_of format) k line
 
--- the code's number of a form, by the number of a kind
-unfoldable pub form_number : ℕ → ℕ
-form_number k = pick (eqb k 2) 4 k
+-- the code's number of a form, by its kind
+abbrev pub form_number : own.Kind → ℕ
+form_number own_kind.Skip = 0
+form_number own_kind.Text = 1
+form_number own_kind.Integer = 4
+form_number own_kind.Real = 3

@@ -1,7 +1,7 @@
 -- The kinds of the forms by number, and the turns of the loop that finds a field.
-use Rattle.std.specs.Prelude.{◌≡◌, List, ◌++◌, map, ℕ, suc, ◌+◌, ◌-◌, ◌≤◌, ◌<◌, eqb, length, set, take, drop, Bool, false}
+use Rattle.std.specs.Prelude.{Ok, Err, ◌≡◌, List, ℕ, ◌+◌, ◌-◌, ◌≤◌, ◌<◌, eqb, length, drop, Bool, false}
 use Rattle.std.proofs.Math.Path.{refl, sym}
-use Rattle.std.proofs.Common.{◌∙◌, append_assoc, append-nil, add-one, arith, length-set, drop_of_length-le, drop-cons, take-suc-set, drop-set-lt, take_all}
+use Rattle.std.proofs.Common.{◌∙◌, arith}
 use borrow.Author.Tests.{eqb-true, lt-ltb, le-ltb}
 use Rattle.std.proofs.Math.ListN.{get_or}
 use Rattle.std.proofs.Math.Bool.{true}
@@ -10,14 +10,15 @@ use Rattle.laws.specs.RangesLaws.{in_range}
 use Rattle.codes.specs.Form.{forms, form_of, last_form}
 use Rattle.codes.specs.FormLaws.{form_of_past}
 use Rattle.format.specs.Format.{Kind}
+use Rattle.line.specs.Line.{verdict}
+use Rattle.line.specs.LineLaws.{verdict_ok, verdict_err}
 use Rattle.line.specs.declared.Refusal.{Refusal}
 use Rattle.layout.specs.Columns.{total}
 use Rattle.record_table.specs.Records.{field_list}
-use Rattle.record.specs.CheckLaws.{field_list_stop, field_list_end, total_next}
+use Rattle.record.specs.CheckLaws.{field_list_stop, field_list_end, listed, total_next}
 use Rattle.judge.specs.declared.Reply.{Reply}
 use Rattle.judge.specs.Judge.{reply_at}
 use Rattle.reader.specs.Reader.{Said, refused, refused_by}
-use Rattle.format_reader.specs.UnruledLaws.{listed}
 use Rattle.format_reader.specs.Question.{Seen, kind_of, field_shown, counts, shown_from, line_first}
 
 -- 0 and the forms past the last are skipped columns, 1 and 2 texts, 3 is a real, those from 4 on are integers
@@ -107,30 +108,9 @@ unfolding counts kind_of form_of forms
 counts_field k n h = eqb-true _ _ (in_range (λ (i : ℕ). eqb (counts (kind_of (form_of i))) 1) true 1 30 k refl (omega arith) (omega arith))
 
 -- a refusal of the line is the answer; where there is none, what follows is
-module _ {f g : Refusal} (s : Said Seen) (e : f ≡ g) where
-  pub first_refused : {r : Reply} → r ≡ reply_at f.number 1 f.column → 0 < f.number → refused_by r ≡ line_first g s
-  first_refused q h = rw (q, ← e, lt-ltb 0 f.number h) refl
+module _ (g : Refusal) (s : Said Seen) where
+  pub first_refused : {f : Refusal} {r : Reply} → Err f ≡ verdict g → r ≡ reply_at f.number 1 f.column → refused_by r ≡ line_first g s
+  first_refused {f} e q = let told = verdict_err g f e in rw (q, told.0, lt-ltb 0 g.number told.1) refl
 
-  pub first_passed : f.number ≤ 0 → s ≡ line_first g s
-  first_passed h = rw (← e, le-ltb 0 f.number h) refl
-
--- a list of which the first i numbers are changed by f
-pub record Changing (f : ℕ → ℕ) (l₀ l : List ℕ) (i : ℕ) : Type 0 where
-  pub within : i ≤ 80
-  pub all : length l ≡ 80
-  pub same : take i l ++ map f (drop i l) ≡ map f l₀
-
-module _ {f : ℕ → ℕ} {l₀ l : List ℕ} {i : ℕ} (g : Changing f l₀ l i) where
-  pub changing_next : {v : ℕ} → v ≡ f (get_or l i 0) → i < 80 → Changing f l₀ (set l i v) (i + 1)
-  changing_next {v} e h =
-      let n : i < length l = omega (arith, g.all) in
-      record {
-        within = omega arith;
-        all = length-set l i v ∙ g.all;
-        same = rw (add-one, take-suc-set l i v n, drop-set-lt (suc i) l i v (omega arith), append_assoc, e) (rw (drop-cons l i 0 n) at g.same);
-      }
-
-  pub changing_done : 80 ≤ i → l ≡ map f l₀
-  changing_done h =
-      let n : length l ≤ i = omega (arith, g.all) in
-      sym (append-nil l) ∙ sym (rw (take_all i l n, drop_of_length-le l n) refl) ∙ g.same
+  pub first_passed : Ok tt ≡ verdict g → s ≡ line_first g s
+  first_passed e = rw (verdict_ok g e) refl

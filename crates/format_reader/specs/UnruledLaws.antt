@@ -1,43 +1,43 @@
--- The turns of the loop over a line's fields, and the line's refusal by what it finds.
-use Rattle.std.specs.Prelude.{◌≡◌, List, ◌∷◌, ℕ, zero, suc, ◌+◌, ◌≤◌, ◌<◌, length, get_or, take, drop}
+-- A record's check with 9 and 11 overlooked is the question's, and the line's refusal by what it finds.
+use Rattle.std.specs.Prelude.{◌≡◌, Bool, true, false, ◌||◌, List, [], ◌∷◌, ℕ, zero, suc, ◌+◌, ◌≤◌, ◌<◌, eqb, take, drop}
 use Rattle.std.proofs.Math.Path.{refl}
-use Rattle.std.proofs.Common.{sym, ◌∙◌, arith}
+use Rattle.std.proofs.Common.{sym, ◌∙◌, arith, eqb-true, eq-eqb, ne_eqb}
+use Rattle.laws.specs.Choice.{above_zero, pick}
+use Rattle.laws.specs.ChoiceLaws.{above_zero_none, above_zero_some, false_not_true}
 use Rattle.line.specs.Line.{refusal, passed}
 use Rattle.line.specs.declared.Refusal.{Refusal}
-use Rattle.codes.specs.Form.{form_of}
-use Rattle.record_table.specs.Row.{Field}
-use Rattle.record_table.specs.Records.{field_list}
 use Rattle.field.specs.Field.{may_blank, field_number}
-use Rattle.record.specs.Check.{or_else, stray_fault, stray}
-use Rattle.record.specs.CheckLaws.{or_else_here, or_else_on, otherwise_here, otherwise_on, field_list_stop, field_list_next, field_list_end}
+use Rattle.record_table.specs.Row.{Field}
+use Rattle.record.specs.Check.{stray_fault, stray}
+use Rattle.record.specs.CheckLaws.{otherwise_here, otherwise_on}
+use Rattle.record.specs.Overlooked.{number_but, fault_but, refusal_but}
 use Rattle.format_reader.specs.Unruled.{looked_at, unruled_number, unruled_fault, unruled_refusal}
 
--- one turn: field k, of width w, from the column at on
-module _ (ks ws line : List ℕ) (k at w : ℕ) (h : k < length ws) (l : length ws ≤ length ks) (q : w ≡ get_or ws k 0) where
-  pub unruled_stop : w ≡ 0 → unruled_fault (field_list (drop k ks) (drop k ws)) at line ≡ passed
-  unfolding unruled_fault
-  unruled_stop e = rw (field_list_stop ks ws k h l (sym q ∙ e)) refl
+swap : (a b : ℕ) → eqb a b ≡ eqb b a
+swap a b = by (eqb b a) refl
+  where
+    by : (t : Bool) → eqb b a ≡ t → eqb a b ≡ t
+    by true e = eq-eqb a b (sym (eqb-true b a e))
+    by false e = ne_eqb a b (λ h. false_not_true (sym e ∙ eq-eqb b a (sym h)))
 
-  module _ (z : w ≡ 0 → ⊥) where
-    pub listed : field_list (drop k ks) (drop k ws) ≡ record { form = form_of (get_or ks k 0); width = w } ∷ field_list (drop (k + 1) ks) (drop (k + 1) ws)
-    listed = field_list_next ks ws k h l (λ e. z (q ∙ e)) ∙ rw (← q) refl
+pub looked_but : (n : ℕ) → number_but (9 ∷ 11 ∷ []) n ≡ looked_at n
+unfolding number_but looked_at
+looked_but n = rw (swap 9 n, swap 11 n) (by (eqb n 9) (eqb n 11))
+  where
+    by : (a b : Bool) → pick (a || (b || false)) 0 n ≡ pick (a || b) 0 n
+    by true b = refl
+    by false true = refl
+    by false false = refl
 
-    module _ (m n : ℕ) (d : m ≡ field_number (form_of (get_or ks k 0)) (may_blank (form_of (get_or ks k 0)) line) (take w (drop at line))) (e : n ≡ looked_at m) where
-      turn : unruled_fault (field_list (drop k ks) (drop k ws)) at line
-          ≡ or_else n (at + 1) (unruled_fault (field_list (drop (k + 1) ks) (drop (k + 1) ws)) (at + w) line)
-      unfolding unruled_fault unruled_number
-      turn = rw listed (rw (← d, ← e) refl)
+pub fault_unruled : (fs : List Field) (at : ℕ) (line : List ℕ) → fault_but (9 ∷ 11 ∷ []) fs at line ≡ unruled_fault fs at line
+unfolding fault_but unruled_fault unruled_number
+fault_unruled [] at line = refl
+fault_unruled (f ∷ fs) at line =
+    rw (looked_but (field_number f.form (may_blank f.form line) (take f.width (drop at line))), fault_unruled fs (at + f.width) line) refl
 
-      pub unruled_here : 0 < n → unruled_fault (field_list (drop k ks) (drop k ws)) at line ≡ refusal n (at + 1)
-      unruled_here p = turn ∙ or_else_here n (at + 1) _ p
-
-      pub unruled_on : n ≤ 0 → unruled_fault (field_list (drop k ks) (drop k ws)) at line
-          ≡ unruled_fault (field_list (drop (k + 1) ks) (drop (k + 1) ws)) (at + w) line
-      unruled_on p = turn ∙ or_else_on n (at + 1) _ p
-
-pub unruled_end : (ks ws line : List ℕ) (k at : ℕ) → length ws ≤ k → unruled_fault (field_list (drop k ks) (drop k ws)) at line ≡ passed
-unfolding unruled_fault
-unruled_end ks ws line k at h = rw (field_list_end ks ws k h) refl
+pub refusal_unruled : (fs : List Field) (line : List ℕ) → refusal_but (9 ∷ 11 ∷ []) fs line ≡ unruled_refusal fs line
+unfolding refusal_but unruled_refusal
+refusal_unruled fs line = rw (fault_unruled fs 0 line) refl
 
 module _ (fs : List Field) (line : List ℕ) (f : Refusal) (e : f ≡ unruled_fault fs 0 line) where
   pub unruled_refusal_field : 0 < f.number → unruled_refusal fs line ≡ f

@@ -1,122 +1,70 @@
 // A line's fields by a printed FORMAT: the question of C-15.
+// An `as` is proved to lose nothing; where one stands, std has no From between the two types, and `try_from` would ask for an answer to an error that cannot be.
 #![tactic(auto)]
 
-ghost use Rattle.std.specs.Prelude.{◌≡◌, ◌≤◌, ◌+◌, length, map};
+ghost use Rattle.std.specs.Prelude.{◌≡◌, ◌≤◌, length, map};
 ghost use Rattle.codes.specs.Form.{form_of};
 ghost use Rattle.layout.specs.Columns.{total};
 ghost use Rattle.record_table.specs.Records.{field_list};
-ghost use Rattle.reader.specs.Reader.{refused};
-ghost use Rattle.format_reader.specs.Unruled.{looked_at, unruled_fault, unruled_refusal};
+ghost use Rattle.judge.specs.Judge.{reply};
+ghost use Rattle.line.specs.Line.{verdict};
+ghost use Rattle.format_reader.specs.Unruled.{unruled_refusal};
 ghost use Rattle.format_reader.specs.Question.{paper_field, kind_of, field_shown, counts, shown_from, field_in, field_of, form_number, answer_of};
-ghost use Rattle.format.specs.Format.{Kind};
+ghost use Rattle.format.specs.Format as Format;
 ghost use Rattle.format.specs.Reading.{reading_of};
 ghost use Rattle.format.specs.Laid.{fields_in};
 
-use codes::{INTEGER, LAST_FORM, REAL, SKIP};
+use codes::{INTEGER, LAST_FORM, REAL, SKIP, TEXT};
+use format::Kind;
 use judge::Reply;
-use laws::index;
 use line::Refusal;
 use reader::Stored;
-use real::{Real, real_field};
+use real::real_field;
 
-// What the question answers: a text or an integer by the first and past byte of its columns, a real as a stored number, or a refusal.
+// A field of a line: a text or an integer by the first and past byte of its columns, a real as a stored number.
 #[derive(Clone, Copy)]
-pub enum FieldAnswer {
+pub enum Field {
     Text(usize, usize),
     Integer(usize, usize),
     Real(Stored),
-    Refused(Reply),
 }
 
-// Nothing is wrong.
-const PASSED: Refusal = Refusal {
-    number: 0,
-    column: 0,
-};
-
-// A refusal's number, 0 where it is not looked at: 9 and 11.
-fn looked_at(number: u8) -> u8
-    ensures { result ≡ looked_at number }
-{
-    if number == 9 {
-        return 0;
-    }
-    if number == 11 {
-        return 0;
-    }
-    number
-}
-
-// The first refusal of the fields by their spelling, left to right; number 0 where they pass.
-fn check_spellings(line: &[u8; 80], forms: &[u8], widths: &[u8]) -> Refusal
+// The first refusal of a line by its fields' spelling, which is a record's with 9 and 11 overlooked.
+fn check_line(line: &[u8; 80], forms: &[u8], widths: &[u8]) -> Result<(), Refusal>
     requires { (length widths.now ≤ length forms.now) × (total widths.now ≤ 80) }
-    ensures { result ≡ unruled_fault (field_list forms.now widths.now) 0 line.now }
+    ensures { result ≡ verdict (unruled_refusal (field_list forms.now widths.now) line.now) }
 {
-    let mut at = 0;
-    let mut k = 0;
-    while k < widths.len() {
-        let width = index(widths[k]);
-        if width == 0 {
-            return PASSED;
-        }
-        let number = looked_at(record::number_at(line, forms[k], at, width));
-        if 0 < number {
-            return Refusal {
-                number,
-                column: at + 1,
-            };
-        }
-        at += width;
-        k += 1;
-    }
-    PASSED
-}
-
-// The first refusal of a line by its fields' spelling: their own, then 13; number 0 where it passes.
-fn check_line(line: &[u8; 80], forms: &[u8], widths: &[u8]) -> Refusal
-    requires { (length widths.now ≤ length forms.now) × (total widths.now ≤ 80) }
-    ensures { result ≡ unruled_refusal (field_list forms.now widths.now) line.now }
-{
-    let found = check_spellings(line, forms, widths);
-    if 0 < found.number {
-        return found;
-    }
-    let column = record::first_stray(line, forms, widths);
-    if 0 < column {
-        return Refusal { number: 13, column };
-    }
-    PASSED
+    record::check_columns_but(line, forms, widths, &[9, 11])
 }
 
 // No such field: 18.
-fn no_field() -> FieldAnswer
-    ensures { paper_field result ≡ refused 18 0 }
+fn no_field() -> Reply
+    ensures { result ≡ reply 18 0 }
 {
-    FieldAnswer::Refused(judge::bare_reply(18, 0))
+    judge::bare_reply(18, 0)
 }
 
 // The real in the columns from `first` to before `past`.
-fn show_real(line: &[u8; 80], first: usize, past: usize) -> FieldAnswer
+fn show_real(line: &[u8; 80], first: usize, past: usize) -> Result<Field, Reply>
     requires { (first ≤ past) × (past ≤ 80) }
-    ensures { paper_field result ≡ field_shown Kind.real first past line.now }
+    ensures { paper_field result ≡ field_shown Format.real first past line.now }
 {
     let columns: &[u8] = line;
     match real_field(&columns[first..past]) {
-        Real::Value(n) => FieldAnswer::Real(Stored {
+        Ok(n) => Ok(Field::Real(Stored {
             first,
             past,
             minus: n.minus,
             coefficient: n.coefficient,
             below: n.below,
             scale: n.scale,
-        }),
-        Real::Blank => no_field(),
-        Real::Malformed => no_field(),
+        })),
+        Err(_) => Err(no_field()),
     }
 }
 
 // The field of this form in the columns from `first` to before `past`.
-fn show(line: &[u8; 80], form: u8, first: usize, past: usize) -> FieldAnswer
+fn show(line: &[u8; 80], form: u8, first: usize, past: usize) -> Result<Field, Reply>
     requires { (first ≤ past) × (past ≤ 80) }
     ensures { paper_field result ≡ field_shown (kind_of (form_of form)) first past line.now }
 {
@@ -124,15 +72,15 @@ fn show(line: &[u8; 80], form: u8, first: usize, past: usize) -> FieldAnswer
         return show_real(line, first, past);
     }
     if form == SKIP {
-        return no_field();
+        return Err(no_field());
     }
     if LAST_FORM < form {
-        return no_field();
+        return Err(no_field());
     }
     if form < INTEGER {
-        return FieldAnswer::Text(first, past);
+        return Ok(Field::Text(first, past));
     }
-    FieldAnswer::Integer(first, past)
+    Ok(Field::Integer(first, past))
 }
 
 // How many fields columns of this form are: skipped ones none.
@@ -149,49 +97,45 @@ fn count_of(form: u8) -> usize
 }
 
 // A field by its number, counted from 0.
-fn show_field(line: &[u8; 80], forms: &[u8], widths: &[u8], field: usize) -> FieldAnswer
+fn show_field(line: &[u8; 80], forms: &[u8], widths: &[u8], field: usize) -> Result<Field, Reply>
     requires { (length widths.now ≤ length forms.now) × (total widths.now ≤ 80) }
     ensures { paper_field result ≡ shown_from (field_list forms.now widths.now) 0 field line.now }
 {
     let mut at = 0;
-    let mut k = 0;
     let mut left = field;
-    while k < widths.len() {
-        let width = index(widths[k]);
+    for (form, width) in forms.iter().zip(widths) {
+        let width = usize::from(*width);
         if width == 0 {
-            return no_field();
+            return Err(no_field());
         }
-        let own = count_of(forms[k]);
+        let own = count_of(*form);
         if left < own {
-            return show(line, forms[k], at, at + width);
+            return show(line, *form, at, at + width);
         }
         left -= own;
         at += width;
-        k += 1;
     }
-    no_field()
+    Err(no_field())
 }
 
 // A field of a line's 80 columns; the line's refusals by its fields come before.
-fn read_columns(line: &[u8; 80], forms: &[u8], widths: &[u8], field: usize) -> FieldAnswer
+fn read_columns(line: &[u8; 80], forms: &[u8], widths: &[u8], field: usize) -> Result<Field, Reply>
     requires { (length widths.now ≤ length forms.now) × (total widths.now ≤ 80) }
     ensures { paper_field result ≡ field_in (field_list forms.now widths.now) field line.now }
 {
-    let found = check_line(line, forms, widths);
-    if 0 < found.number {
-        return FieldAnswer::Refused(judge::reply_at(found.number, 1, found.column));
+    if let Err(found) = check_line(line, forms, widths) {
+        return Err(judge::reply_at(found.number, 1, found.column));
     }
     show_field(line, forms, widths, field)
 }
 
 // A field of a line lent alone; the line's own refusals come before.
-fn read_line(line: &[u8], forms: &[u8], widths: &[u8], field: usize) -> FieldAnswer
+fn read_line(line: &[u8], forms: &[u8], widths: &[u8], field: usize) -> Result<Field, Reply>
     requires { (length widths.now ≤ length forms.now) × (total widths.now ≤ 80) }
     ensures { paper_field result ≡ field_of (field_list forms.now widths.now) field line.now }
 {
-    let own = line::line_fault(line, true);
-    if 0 < own.number {
-        return FieldAnswer::Refused(judge::reply_at(own.number, 1, own.column));
+    if let Err(own) = line::line_fault(line, true) {
+        return Err(judge::reply_at(own.number, 1, own.column));
     }
     let mut columns = [32u8; 80];
     line::fill_line(&mut columns, line);
@@ -199,38 +143,33 @@ fn read_line(line: &[u8], forms: &[u8], widths: &[u8], field: usize) -> FieldAns
 }
 
 // The form of a field of this kind, as the table of records numbers forms.
-fn form_of(kind: u8) -> u8
+fn form_of(kind: Kind) -> u8
     ensures { result ≡ form_number kind }
 {
-    if kind == 2 {
-        return INTEGER;
+    match kind {
+        Kind::Skip => SKIP,
+        Kind::Text => TEXT,
+        Kind::Integer => INTEGER,
+        Kind::Real => REAL,
     }
-    kind
 }
 
 // The same of all fields.
-fn forms_of(kinds: [u8; 80]) -> [u8; 80]
+fn forms_of(kinds: [Kind; 80]) -> [u8; 80]
     ensures { result ≡ map form_number kinds }
 {
-    let mut forms = kinds;
-    let mut i = 0;
-    while i < 80 {
-        forms[i] = form_of(forms[i]);
-        i += 1;
-    }
-    forms
+    kinds.map(|kind| form_of(kind))
 }
 
 // The question: a field of a line lent alone, by a FORMAT and the field's number, counted from 0.
-pub fn ask(format: &[u8], line: &[u8], field: u32) -> FieldAnswer
+pub fn ask(format: &[u8], line: &[u8], field: u32) -> Result<Field, Reply>
     ensures { paper_field result ≡ answer_of format.now field line.now }
 {
-    let fields = format::read(format);
-    if 0 < fields.number {
-        return FieldAnswer::Refused(judge::bare_reply(fields.number, 0));
-    }
-    let kinds = fields.kinds;
-    let forms = forms_of(kinds);
+    let fields = match format::read(format) {
+        Ok(fields) => fields,
+        Err(fault) => return Err(judge::bare_reply(fault.number(), 0)),
+    };
+    let forms = forms_of(fields.kinds);
     let widths = fields.widths;
     read_line(line, &forms, &widths, field as usize)
 }

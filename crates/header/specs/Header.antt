@@ -15,17 +15,27 @@ use Rattle.walk.specs.Step.{state}
 use Rattle.judge.specs.declared.Reply.{Reply}
 use Rattle.judge.specs.Judge.{line_step, Run, going, refused, on_outcome, reply, at_line}
 use Rattle.header.specs.declared.Header.{Header}
+use Rattle.std.specs.Prelude.{Result, Ok, Err}
 
 -- a reply, and where its number is 0 the case of the 58 and how many numbers it stores
-abbrev pub answer_with : Reply → ℕ → ℕ → Header
+pub record Answer : Type 0 where
+  pub reply : Reply
+  pub case : ℕ
+  pub stored : ℕ
+
+-- what the function answers: the reply of a refusal, or what a header that passes leaves
+abbrev pub result_of : Answer → Result Header Reply
+result_of a = pick (ltb 0 a.reply.number) (Err a.reply) (Ok (record { case = a.case; stored = a.stored }))
+
+abbrev pub answer_with : Reply → ℕ → ℕ → Answer
 answer_with r c s = record { reply = r; case = c; stored = s }
 
 -- a number and a place, no column
-abbrev pub answer : ℕ → ℕ → ℕ → ℕ → Header
+abbrev pub answer : ℕ → ℕ → ℕ → ℕ → Answer
 answer n p c s = answer_with (reply n p) c s
 
 -- refused at line n + 1
-abbrev pub refused_at : ℕ → Refusal → Header
+abbrev pub refused_at : ℕ → Refusal → Answer
 refused_at n f = answer_with (at_line n f) 0 0
 
 -- a 58 opens, before its line 1
@@ -46,19 +56,19 @@ header_step (going s n) l = pick (ltb n header_lines) (on_outcome n (line_step s
 header_step (refused r) l = refused r
 
 -- what eleven lines leave due: the numbers of the data lines. No other place is left (`writer_laws`: `refused_place`)
-abbrev pub leaves : Place → Header
+abbrev pub leaves : Place → Answer
 leaves Outside = answer 7 0 0 0
 leaves Number = answer 7 0 0 0
 leaves Plain = answer 7 0 0 0
 leaves (Typed d) = answer 0 0 d.case d.left
 
 -- at the end, with the bytes after the last LF
-abbrev pub header_end : Run → List ℕ → Header
+abbrev pub header_end : Run → List ℕ → Answer
 header_end (going s n) [] = pick (ltb n header_lines) (refused_at n (refusal 7 1)) (leaves s.place)
 header_end (going s n) (b ∷ bs) = refused_at n (line_fault false (b ∷ bs))
 header_end (refused r) rest = answer_with r 0 0
 
-unfoldable pub header_of : List ℕ → Header
+unfoldable pub header_of : List ℕ → Answer
 header_of bytes = Cut.judge header_step header_end (going opened 0) bytes
 
 -- the bytes of the first eleven lines; all of them where there are fewer

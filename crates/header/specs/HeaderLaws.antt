@@ -1,7 +1,7 @@
 -- The laws that the header's judge needs: its first eleven lines, a line past them, and its end.
-use Rattle.std.specs.Prelude.{◌≡◌, refl, Bool, true, false, List, [], ◌∷◌, ◌++◌, ℕ, zero, suc, ◌+◌, ◌-◌, ◌≤◌, ◌<◌, eqb, length, take}
+use Rattle.std.specs.Prelude.{◌≡◌, refl, Bool, true, false, List, [], ◌∷◌, ◌++◌, ℕ, zero, suc, ◌+◌, ◌-◌, ◌≤◌, ◌<◌, eqb, ltb, length, take}
 use Rattle.std.proofs.Math.Path.{sym, ap}
-use Rattle.std.proofs.Common.{◌∙◌, ⊎_elim, le_of_suc-le-suc, arith, lt-ltb, le-ltb, eq-eqb, ne_eqb, length-append, length-drop, take-append-drop, length-take-le, take_all}
+use Rattle.std.proofs.Common.{◌∙◌, ⊎_elim, le_of_suc-le-suc, arith, ltb-true, ltb-false, lt-ltb, le-ltb, eq-eqb, ne_eqb, length-append, length-drop, take-append-drop, length-take-le, take_all}
 use Rattle.std.proofs.Math.ListN.{drop}
 use Rattle.std.proofs.Math.Seq.{take-append-add}
 use Rattle.std.proofs.lemmas.List.{drop-append-le}
@@ -12,17 +12,45 @@ use Rattle.laws.specs.CutLaws.{cut_append, cut_open, over_append, judge_at}
 use Rattle.line.specs.Line.{refusal, columns, line_fault}
 use Rattle.line.specs.LineLaws.{columns_take}
 use Rattle.line.specs.declared.Refusal.{Refusal}
-use Rattle.record_table.specs.TypedSets.{header_lines}
+use Rattle.record_table.specs.TypedSets.{header_lines, kind58, is_typed, kind_of, typed_sets}
 use Rattle.walk.specs.declared.Place.{Place}
+use Rattle.walk.specs.declared.Place.TheVariants.{Typed}
+use Rattle.walk.specs.Due.{opening}
+use Rattle.walk.specs.Step as Step
 use Rattle.walk.specs.declared.State.{State}
-use Rattle.walk.specs.declared.Outcome.{Outcome}
-use Rattle.walk.specs.declared.Outcome.TheVariants.{Next, Refused}
+use Rattle.std.specs.Prelude.{Result, Ok, Err}
 use Rattle.judge.specs.declared.Reply.{Reply}
-use Rattle.judge.specs.declared.Lines.{Lines}
 use Rattle.judge.specs.Judge.{line_step, Run, going, refused, on_outcome, reply_at, at_line, run_step}
 use Rattle.judge.specs.JudgeLaws as Judge
-use Rattle.judge.specs.Lines.{run_of, LinesJudged}
-use Rattle.header.specs.Header.{answer_with, refused_at, opened, past_fault, header_step, leaves, header_end, header_of, FirstEleven}
+use Rattle.judge.specs.Lines.{Account, run_of, LinesJudged}
+use Rattle.header.specs.declared.Header.{Header}
+use Rattle.header.specs.Header.{Answer, result_of, answer_with, refused_at, opened, past_fault, header_step, leaves, header_end, header_of, FirstEleven}
+
+-- a set 58 opens
+pub opened_58 : Step.opened 58 ≡ Typed (opening kind58)
+unfolding Step.opened is_typed kind_of typed_sets
+opened_58 = refl
+
+-- a refusal's result
+pub refused_is : (r : Reply) (a : Answer) → 0 < r.number → answer_with r 0 0 ≡ a → Err r ≡ result_of a
+refused_is r a p e = rw (← e, lt-ltb 0 r.number p) refl
+
+-- what a result says of the answer
+pub result_refused : (a : Answer) (r : Reply) → Err r ≡ result_of a → (0 < a.reply.number) × (r ≡ a.reply)
+result_refused a r q = by (ltb 0 a.reply.number) refl q
+  where
+    by : (t : Bool) → ltb 0 a.reply.number ≡ t → ◌≡◌ {A = Result Header Reply} (Err r) (pick t (Err a.reply) (Ok (record { case = a.case; stored = a.stored }))) → (0 < a.reply.number) × (r ≡ a.reply)
+    by true e u = (ltb-true 0 a.reply.number e, cc)
+    by false e u = let z : ◌≡◌ {A = ℕ} 0 1 = cc in absurd (omega arith)
+
+pub result_passes : (a : Answer) (h : Header) → Ok h ≡ result_of a → (a.reply.number ≤ 0) × (h.case ≡ a.case) × (h.stored ≡ a.stored)
+result_passes a h q = by (ltb 0 a.reply.number) refl q
+  where
+    by :
+        (t : Bool) → ltb 0 a.reply.number ≡ t → ◌≡◌ {A = Result Header Reply} (Ok h) (pick t (Err a.reply) (Ok (record { case = a.case; stored = a.stored })))
+        → (a.reply.number ≤ 0) × (h.case ≡ a.case) × (h.stored ≡ a.stored)
+    by true e u = let z : ◌≡◌ {A = ℕ} 0 1 = cc in absurd (omega arith)
+    by false e u = (ltb-false 0 a.reply.number e, cc, cc)
 
 -- a line past the eleventh
 module _ (l : List ℕ) (n : ℕ) (e : n ≡ length (columns true l)) (f : Refusal) (q : f ≡ line_fault true (take n l)) where
@@ -38,6 +66,13 @@ module _ (l : List ℕ) (n : ℕ) (e : n ≡ length (columns true l)) (f : Refus
 
   pub past_eight : f.number ≤ 0 → refusal 8 1 ≡ past_fault (line_fault true (columns true l))
   past_eight p = let z : f.number ≡ 0 = omega arith in sym (rw z refl) ∙ ap past_fault own
+
+pub past_fault_some : (f : Refusal) → 0 < (past_fault f).number
+past_fault_some f = by f.number refl
+  where
+    by : (m : ℕ) → f.number ≡ m → 0 < (past_fault f).number
+    by zero e = rw e (omega arith)
+    by (suc m) e = rw e (omega (arith, e))
 
 -- the end of a header
 module _ (s : State) (n : ℕ) where
@@ -116,10 +151,10 @@ unfolding over
 over_same s n [] h = refl
 over_same s n (l ∷ ls) h = rw (lt-ltb n header_lines (omega arith)) (go (line_step s l) (λ t. over_same t (n + 1) ls (omega arith)))
   where
-    go : (o : Outcome) → ((t : State) → over header_step (going t (n + 1)) ls ≡ over run_step (going t (n + 1)) ls)
+    go : (o : Result State Refusal) → ((t : State) → over header_step (going t (n + 1)) ls ≡ over run_step (going t (n + 1)) ls)
         → over header_step (on_outcome n o) ls ≡ over run_step (on_outcome n o) ls
-    go (Next t) ih = ih t
-    go (Refused f) ih = over_refused (at_line n f) ls ∙ sym (Judge.over_refused (at_line n f) ls)
+    go (Ok t) ih = ih t
+    go (Err f) ih = over_refused (at_line n f) ls ∙ sym (Judge.over_refused (at_line n f) ls)
 
 -- a run that goes on counts the lines
 over_count : (s : State) (n : ℕ) (ls : List (List ℕ)) (t : State) (m : ℕ) → going t m ≡ over run_step (going s n) ls → m ≡ n + length ls
@@ -127,10 +162,10 @@ unfolding over
 over_count s n [] t m e = let z : m ≡ n = cc in omega arith
 over_count s n (l ∷ ls) t m e = go (line_step s l) (λ t' e'. over_count t' (n + 1) ls t m e') e
   where
-    go : (o : Outcome) → ((t' : State) → going t m ≡ over run_step (going t' (n + 1)) ls → m ≡ n + 1 + length ls)
+    go : (o : Result State Refusal) → ((t' : State) → going t m ≡ over run_step (going t' (n + 1)) ls → m ≡ n + 1 + length ls)
         → going t m ≡ over run_step (on_outcome n o) ls → m ≡ n + suc (length ls)
-    go (Next t') ih e' = omega (arith, ih t' e')
-    go (Refused f) ih e' =
+    go (Ok t') ih e' = omega (arith, ih t' e')
+    go (Err f) ih e' =
         let u : going t m ≡ refused (at_line n f) = e' ∙ Judge.over_refused (at_line n f) ls in
         let z : ◌≡◌ {A = ℕ} 0 1 = cc in
         absurd (omega arith)
@@ -152,16 +187,13 @@ unfolding judge
 judge_append x a d = rw (cut_append a d, over_append header_step x (cut a).lines (cut ((cut a).rest ++ d)).lines) refl
 
 -- the first eleven lines judged, and what is left of the header
-module _ (b : List ℕ) (k : ℕ) (f : FirstEleven b k) (r : Lines) (j : LinesJudged opened 0 (take k b) 0 r) where
+module _ (b : List ℕ) (k : ℕ) (f : FirstEleven b k) (r : Account) (j : LinesJudged opened 0 (take k b) 0 r) where
   whole : (x : Run) → run_of r.state r.lines r.number r.column ≡ x → header_of b ≡ judge header_step header_end x ((cut (take k b)).rest ++ drop k b)
   unfolding header_of
   whole x u =
       ap (judge header_step header_end (going opened 0)) (sym (take-append-drop k b)) ∙
       judge_append (going opened 0) (take k b) (drop k b) ∙
       ap (λ (y : Run). judge header_step header_end y ((cut (take k b)).rest ++ drop k b)) (over_same opened 0 (cut (take k b)).lines (omega (arith, f.few)) ∙ sym j.run ∙ u)
-
-  pub refused_most : 0 < r.number → r.lines < length b
-  refused_most z = omega (arith, j.fewer z, length-take-le k b f.within, f.within)
 
   pub header_refused : 0 < r.number → answer_with (reply_at r.number (r.lines + 1) r.column) 0 0 ≡ header_of b
   header_refused z = sym (whole (refused (reply_at r.number (r.lines + 1) r.column)) (rw (ne_eqb r.number 0 (λ y. omega arith)) refl) ∙ judge_refused _ _)

@@ -1,15 +1,16 @@
 -- Bytes laid one number after the other, and the reply and the buffer that they make.
-use Rattle.std.specs.Prelude.{◌≡◌, Bool, ℕ, zero, suc, ◌+◌, ◌-◌, ◌%◌, ◌≤◌, ◌<◌, Float, length}
+use Rattle.std.specs.Prelude.{◌≡◌, Bool, ℕ, zero, suc, ◌+◌, ◌*◌, ◌/◌, ◌%◌, ◌≤◌, ◌<◌, Float, length, take, get_or}
 use Rattle.std.proofs.Math.Path.{refl, ap}
-use Rattle.std.proofs.Common.{◌∙◌, arith, lt-ltb, le-ltb}
+use Rattle.std.proofs.Common.{◌∙◌, sym, add-one, arith, lt-ltb, le-ltb, append-nil, append_assoc, length-append, length-take-le, take_all}
 use Rattle.std.proofs.Math.Bool.{true, false}
+use mir.Val.{bool_byte}
 use mathlib.Core.List.{List, [], ◌∷◌, ◌++◌}
 use Rattle.std.proofs.Math.ListN.{drop}
 use Rattle.laws.specs.Choice.{pick}
 use Rattle.text.specs.Parts.{signed}
 use Rattle.exact.specs.Bits.{bits_of}
 use Rattle.output.specs.Output.{placed, bytes_of}
-use Rattle.output.specs.OutputLaws.{placed_then, placed_first}
+use Rattle.output.specs.OutputLaws.{placed_then, placed_first, bytes_of_length}
 use Rattle.reader.specs.Reader.{shown, Said}
 use Rattle.format_reader.specs.Question.{columns}
 use Rattle.host.specs.Packed.{word, packed}
@@ -24,18 +25,18 @@ after out o₁ o₂ p t q r =
 -- a stored number, part by part
 module _ (o o₁ o₂ o₃ o₄ o₅ : List ℕ) (a e c : ℕ) (m b : Bool) (k : ℕ) where
   pub laid_number : o₁ ≡ placed 0 (bytes_of 4 a) o → o₂ ≡ placed 4 (bytes_of 4 e) o₁ → o₃ ≡ placed 8 (bytes_of 8 c) o₂
-      → o₄ ≡ placed 16 (bytes_of 2 (twos_complement (signed b k))) o₃ → o₅ ≡ placed 18 (bytes_of 2 (pick m 1 0)) o₄
+      → o₄ ≡ placed 16 (bytes_of 2 (twos_complement (signed b k))) o₃ → o₅ ≡ placed 18 (bytes_of 2 (bool_byte m)) o₄
       → o₅ ≡ number_bytes (shown a e m c b k) ++ drop 20 o
   unfolding number_bytes bytes_of
   laid_number q₁ q₂ q₃ q₄ q₅ =
       let r₂ = after o o₁ o₂ (bytes_of 4 a) (bytes_of 4 e) q₁ q₂ in
       let r₃ = after o o₂ o₃ (bytes_of 4 a ++ bytes_of 4 e) (bytes_of 8 c) r₂ q₃ in
       let r₄ = after o o₃ o₄ ((bytes_of 4 a ++ bytes_of 4 e) ++ bytes_of 8 c) (bytes_of 2 (twos_complement (signed b k))) r₃ q₄ in
-      after o o₄ o₅ (((bytes_of 4 a ++ bytes_of 4 e) ++ bytes_of 8 c) ++ bytes_of 2 (twos_complement (signed b k))) (bytes_of 2 (pick m 1 0)) r₄ q₅
+      after o o₄ o₅ (((bytes_of 4 a ++ bytes_of 4 e) ++ bytes_of 8 c) ++ bytes_of 2 (twos_complement (signed b k))) (bytes_of 2 (bool_byte m)) r₄ q₅
       ∙ placed_first _ o
       ∙ ap (λ (x : List ℕ). ((((bytes_of 4 a ++ bytes_of 4 e) ++ bytes_of 8 c) ++ bytes_of 2 (twos_complement (signed b k))) ++ x) ++ drop 20 o) (sign m)
     where
-      sign : (m : Bool) → bytes_of 2 (pick m 1 0) ≡ pick m 1 0 ∷ 0 ∷ []
+      sign : (m : Bool) → bytes_of 2 (bool_byte m) ≡ pick m 1 0 ∷ 0 ∷ []
       sign true = refl
       sign false = refl
 
@@ -45,34 +46,45 @@ pub laid_columns : (o o₁ o₂ : List ℕ) (a e : ℕ) → o₁ ≡ placed 0 (b
 unfolding field_bytes seen_bytes bytes_of
 laid_columns o o₁ o₂ a e q₁ q₂ = after o o₁ o₂ (bytes_of 4 a) (bytes_of 4 e) q₁ q₂ ∙ placed_first _ o
 
--- one f64, two, three
-module _ (o o₁ : List ℕ) (x : Float) (k : ℕ) (e : k ≡ bits_of x) (q : o₁ ≡ placed 0 (bytes_of 8 k) o) where
-  one : o₁ ≡ placed 0 (value_bytes (x ∷ [])) o
-  unfolding value_bytes bytes_of
-  one = q ∙ rw e refl
+-- the bytes of f64, one after the other
+reals_length : (xs : List Float) → length (value_bytes xs) ≡ 8 * length xs
+unfolding value_bytes
+reals_length [] = refl
+reals_length (x ∷ xs) = length-append (bytes_of 8 (bits_of x)) (value_bytes xs) ∙ omega (arith, bytes_of_length 8 (bits_of x), reals_length xs)
 
-  pub laid_one : o₁ ≡ value_bytes (x ∷ []) ++ drop 8 o
-  unfolding value_bytes bytes_of
-  laid_one = one ∙ placed_first _ o
+reals_next : (xs : List Float) (i : ℕ) (d : Float) → i < length xs → value_bytes (take (suc i) xs) ≡ value_bytes (take i xs) ++ bytes_of 8 (bits_of (get_or xs i d))
+unfolding value_bytes
+reals_next [] i d h = absurd (omega arith)
+reals_next (x ∷ xs) zero d h = append-nil (bytes_of 8 (bits_of x))
+reals_next (x ∷ xs) (suc i) d h =
+    let b : List ℕ = bytes_of 8 (bits_of x) in
+    ap (λ l. b ++ l) (reals_next xs i d (omega arith)) ∙ sym (append_assoc b (value_bytes (take i xs)) (bytes_of 8 (bits_of (get_or xs i d))))
 
-  module _ (o₂ : List ℕ) (y : Float) (m : ℕ) (f : m ≡ bits_of y) (r : o₂ ≡ placed 8 (bytes_of 8 m) o₁) where
-    two : o₂ ≡ placed 0 (value_bytes (x ∷ y ∷ [])) o
-    unfolding value_bytes bytes_of
-    two = after o o₁ o₂ (value_bytes (x ∷ [])) (bytes_of 8 m) one r ∙ rw f refl
+module _ (xs : List Float) (o : List ℕ) where
+  pub reals_none : o ≡ placed 0 (value_bytes (take 0 xs)) o
+  unfolding value_bytes placed
+  reals_none = refl
 
-    pub laid_two : o₂ ≡ value_bytes (x ∷ y ∷ []) ++ drop 16 o
-    unfolding value_bytes bytes_of
-    laid_two = two ∙ placed_first _ o
+  pub reals_more : (o₁ o₂ : List ℕ) (i : ℕ) (d : Float) → i < length xs → o₁ ≡ placed 0 (value_bytes (take i xs)) o → o₂ ≡ placed (8 * i) (bytes_of 8 (bits_of (get_or xs i d))) o₁
+      → o₂ ≡ placed 0 (value_bytes (take (i + 1) xs)) o
+  reals_more o₁ o₂ i d h q r =
+      let n : length (value_bytes (take i xs)) ≡ 8 * i = reals_length (take i xs) ∙ ap (λ k. 8 * k) (length-take-le i xs (omega arith)) in
+      after o o₁ o₂ (value_bytes (take i xs)) (bytes_of 8 (bits_of (get_or xs i d))) q (rw n r) ∙ rw (add-one i, reals_next xs i d h) refl
 
-    pub laid_three : (o₃ : List ℕ) (z : Float) (n : ℕ) → n ≡ bits_of z → o₃ ≡ placed 16 (bytes_of 8 n) o₂ → o₃ ≡ value_bytes (x ∷ y ∷ z ∷ []) ++ drop 24 o
-    unfolding value_bytes bytes_of
-    laid_three o₃ z n g s = after o o₂ o₃ (value_bytes (x ∷ y ∷ [])) (bytes_of 8 n) two s ∙ rw g (placed_first _ o)
+  pub reals_all : (o₁ : List ℕ) (i : ℕ) → length xs ≤ i → o₁ ≡ placed 0 (value_bytes (take i xs)) o → o₁ ≡ value_bytes xs ++ drop (length (value_bytes xs)) o
+  reals_all o₁ i h q = q ∙ rw (take_all i xs h) (placed_first (value_bytes xs) o)
+
+pub reals_room : (xs : List Float) (n : ℕ) → length xs ≤ n / 8 → length (value_bytes xs) ≤ n
+reals_room xs n h = rw (reals_length xs) (omega arith)
+
+pub reals_short : (xs : List Float) (n : ℕ) → n / 8 < length xs → n < length (value_bytes xs)
+reals_short xs n h = rw (reals_length xs) (omega arith)
 
 -- a scale below zero by its size
-pub twos_complement_below : (k : ℕ) → k < 65536 → (65536 - k) % 65536 ≡ twos_complement (signed true k)
+pub twos_complement_below : (k n : ℕ) → k < 65536 → n < 65536 → (n + k) % 65536 ≡ 0 → n ≡ twos_complement (signed true k)
 unfolding twos_complement
-twos_complement_below zero h = refl
-twos_complement_below (suc k) h = omega arith
+twos_complement_below zero n h l e = omega arith
+twos_complement_below (suc k) n h l e = omega arith
 
 pub twos_complement_above : (k : ℕ) → k < 65536 → k ≡ twos_complement (signed false k)
 unfolding twos_complement

@@ -1,7 +1,8 @@
 -- A column fits its 25 bits, and the word loses nothing of a reply that fits it.
-use Rattle.std.specs.Prelude.{◌≡◌, refl, Bool, true, false, ℕ, ◌+◌, ◌*◌, ◌%◌, ◌≤◌, ◌<◌, ltb}
-use Rattle.std.proofs.Common.{sym, ◌∙◌, arith, le-ltb, ltb-false}
+use Rattle.std.specs.Prelude.{◌≡◌, refl, Bool, true, false, ℕ, ◌+◌, ◌*◌, ◌%◌, ◌≤◌, ◌<◌, ltb, min}
+use Rattle.std.proofs.Common.{sym, ◌∙◌, arith, ⊎_elim, lt-ltb, le-ltb, ltb-false}
 use Rattle.laws.specs.Choice.{pick}
+use Rattle.laws.specs.ChoiceLaws.{below_or_not}
 use Rattle.judge.specs.declared.Reply.{Reply}
 use Rattle.judge.specs.Judge.{reply_at}
 use Rattle.host.specs.Packed.{column_bits, word, InWord, number_in, Carries}
@@ -13,6 +14,11 @@ column_bits_most c = by (ltb 33554431 c) refl
     by : (t : Bool) → ltb 33554431 c ≡ t → pick t 33554431 c ≤ 33554431
     by true e = omega arith
     by false e = ltb-false 33554431 c e
+
+-- the smaller of two
+pub column_bits_least : (c : ℕ) → min c 33554431 ≡ column_bits c
+unfolding column_bits
+column_bits_least c = ⊎_elim (λ l. rw (lt-ltb 33554431 c l) (omega arith)) (λ l. rw (le-ltb 33554431 c l) (omega arith)) (below_or_not 33554431 c)
 
 word_whole : (r : Reply) → InWord r → word r ≡ r.number * 144115188075855872 + (r.column * 4294967296 + r.place)
 unfolding word column_bits

@@ -1,10 +1,10 @@
 // The calls for C hosts. Lent buffers do not overlap; a null pointer with count 0 is an empty slice.
+// An `as` is proved to lose nothing; where one stands, std has no From between the two types, and `try_from` would ask for an answer to an error that cannot be.
 #![tactic(auto)]
 
 ghost use Rattle.std.specs.Prelude.{◌≡◌, [], ◌∷◌, ◌++◌, ◌≤◌, length, drop};
 ghost use Rattle.host.specs.Packed.{column_bits, word, packed};
 ghost use Rattle.host.specs.Answer.{twos_complement, number_bytes, number_answer, value_answer, field_answer, reply_for, bytes_after};
-ghost use Rattle.laws.specs.Choice.{pick};
 ghost use Rattle.text.specs.Parts.{signed};
 ghost use Rattle.judge.specs.Judge.{judged};
 ghost use Rattle.stream_c.specs.Lent.{start_reply, start_numbers, start_line, Burst, end_of, end_numbers};
@@ -16,20 +16,16 @@ ghost use Rattle.reader.specs.Reader.{said, shown, paper, paper_number, stored_n
 ghost use Rattle.format_reader.specs.Question.{columns, number, paper_field, answer_of};
 
 use exact::bits;
-use format_reader::FieldAnswer;
+use format_reader::Field;
 use judge::Reply;
-use laws::wide;
 use output::put_bytes;
-use reader::{NumberAnswer, Stored, ValueAnswer};
+use reader::{Numbers, Stored};
 
 // A column as the word has it.
 fn column_bits(column: usize) -> u64
     ensures { result ≡ column_bits column }
 {
-    if 33554431 < column {
-        return 33554431;
-    }
-    column as u64
+    column.min(33554431) as u64
 }
 
 // A reply as one word.
@@ -38,7 +34,7 @@ fn pack(r: Reply) -> u64
 {
     let column = column_bits(r.column) * 4294967296;
     let place = (r.place % 4294967296) as u64;
-    wide(r.number % 128) * 144115188075855872 + (column + place)
+    u64::from(r.number % 128) * 144115188075855872 + (column + place)
 }
 
 // A number and a place as one word, no column.
@@ -68,21 +64,10 @@ pub fn uff_list(file: &[u8], rows: &mut [u32]) -> u64
 fn scale_bits(below: bool, size: u16) -> u64
     ensures { result ≡ twos_complement (signed below size) }
 {
-    let k = size as u64;
     if below {
-        return (65536 - k) % 65536;
+        return u64::from(size.wrapping_neg());
     }
-    k
-}
-
-// The byte of a sign.
-fn sign_byte(minus: bool) -> u64
-    ensures { result ≡ pick minus 1 0 }
-{
-    if minus {
-        return 1;
-    }
-    0
+    u64::from(size)
 }
 
 // Lays a stored number.
@@ -94,22 +79,22 @@ fn put_number(out: &mut [u8], s: Stored)
     put_bytes(out, 4, 8, s.past as u64);
     put_bytes(out, 8, 16, s.coefficient);
     put_bytes(out, 16, 18, scale_bits(s.below, s.scale));
-    put_bytes(out, 18, 20, sign_byte(s.minus));
+    put_bytes(out, 18, 20, u64::from(s.minus));
 }
 
 // Answers with a stored number, or with its refusal; 20 where it has no room.
-fn answer_number(out: &mut [u8], a: NumberAnswer) -> u64
+fn answer_number(out: &mut [u8], a: Result<Stored, Reply>) -> u64
     ensures { (result ≡ reply_for (number_answer (paper_number a)) (length out.old)) × (out.new ≡ bytes_after (number_answer (paper_number a)) out.old) }
 {
     match a {
-        NumberAnswer::Number(s) => {
+        Ok(s) => {
             if out.len() < 20 {
                 return bare(20, 0);
             }
             put_number(out, s);
             bare(0, 20)
         }
-        NumberAnswer::Refused(r) => pack(r),
+        Err(r) => pack(r),
     }
 }
 
@@ -120,52 +105,29 @@ pub fn uff_number(file: &[u8], set: u32, index: u32, out: &mut [u8]) -> u64
     answer_number(out, reader::number(file, set, index))
 }
 
-// Answers with one f64; 20 where it has no room.
-fn answer_one(out: &mut [u8], x: f64) -> u64
-    ensures { (result ≡ reply_for (value_answer (said 0 1 (x ∷ []))) (length out.old)) × (out.new ≡ bytes_after (value_answer (said 0 1 (x ∷ []))) out.old) }
+// Answers with the f64 of a value of this kind; 20 where they have no room.
+fn answer_reals(out: &mut [u8], kind: usize, xs: &[f64]) -> u64
+    ensures { (result ≡ reply_for (value_answer (said 0 kind xs.now)) (length out.old)) × (out.new ≡ bytes_after (value_answer (said 0 kind xs.now)) out.old) }
 {
-    if out.len() < 8 {
+    if out.len() / 8 < xs.len() {
         return bare(20, 0);
     }
-    put_bytes(out, 0, 8, bits(x));
-    bare(0, 1)
-}
-
-// Answers with two f64, a value of this kind.
-fn answer_two(out: &mut [u8], kind: usize, x: f64, y: f64) -> u64
-    ensures { (result ≡ reply_for (value_answer (said 0 kind (x ∷ y ∷ []))) (length out.old)) × (out.new ≡ bytes_after (value_answer (said 0 kind (x ∷ y ∷ []))) out.old) }
-{
-    if out.len() < 16 {
-        return bare(20, 0);
+    for (i, x) in xs.iter().enumerate() {
+        put_bytes(out, 8 * i, 8 * i + 8, bits(*x));
     }
-    put_bytes(out, 0, 8, bits(x));
-    put_bytes(out, 8, 16, bits(y));
     bare(0, kind)
 }
 
-// Answers with three f64.
-fn answer_three(out: &mut [u8], x: f64, y: f64, z: f64) -> u64
-    ensures { (result ≡ reply_for (value_answer (said 0 4 (x ∷ y ∷ z ∷ []))) (length out.old)) × (out.new ≡ bytes_after (value_answer (said 0 4 (x ∷ y ∷ z ∷ []))) out.old) }
-{
-    if out.len() < 24 {
-        return bare(20, 0);
-    }
-    put_bytes(out, 0, 8, bits(x));
-    put_bytes(out, 8, 16, bits(y));
-    put_bytes(out, 16, 24, bits(z));
-    bare(0, 4)
-}
-
 // Answers with a value, or with its refusal.
-fn answer_value(out: &mut [u8], a: ValueAnswer) -> u64
+fn answer_value(out: &mut [u8], a: Result<Numbers, Reply>) -> u64
     ensures { (result ≡ reply_for (value_answer (paper a)) (length out.old)) × (out.new ≡ bytes_after (value_answer (paper a)) out.old) }
 {
     match a {
-        ValueAnswer::Real(x) => answer_one(out, x),
-        ValueAnswer::Complex(x, y) => answer_two(out, 2, x, y),
-        ValueAnswer::RealAt(x, y) => answer_two(out, 3, x, y),
-        ValueAnswer::ComplexAt(x, y, z) => answer_three(out, x, y, z),
-        ValueAnswer::Refused(r) => pack(r),
+        Ok(Numbers::Real(x)) => answer_reals(out, 1, &[x]),
+        Ok(Numbers::Complex(x, y)) => answer_reals(out, 2, &[x, y]),
+        Ok(Numbers::RealAt(x, y)) => answer_reals(out, 3, &[x, y]),
+        Ok(Numbers::ComplexAt(x, y, z)) => answer_reals(out, 4, &[x, y, z]),
+        Err(r) => pack(r),
     }
 }
 
@@ -209,14 +171,14 @@ fn answer_real(out: &mut [u8], s: Stored) -> u64
 }
 
 // Answers with a line's field, or with its refusal.
-fn answer_field(out: &mut [u8], a: FieldAnswer) -> u64
+fn answer_field(out: &mut [u8], a: Result<Field, Reply>) -> u64
     ensures { (result ≡ reply_for (field_answer (paper_field a)) (length out.old)) × (out.new ≡ bytes_after (field_answer (paper_field a)) out.old) }
 {
     match a {
-        FieldAnswer::Text(first, past) => answer_columns(out, 1, first, past),
-        FieldAnswer::Integer(first, past) => answer_columns(out, 2, first, past),
-        FieldAnswer::Real(s) => answer_real(out, s),
-        FieldAnswer::Refused(r) => pack(r),
+        Ok(Field::Text(first, past)) => answer_columns(out, 1, first, past),
+        Ok(Field::Integer(first, past)) => answer_columns(out, 2, first, past),
+        Ok(Field::Real(s)) => answer_real(out, s),
+        Err(r) => pack(r),
     }
 }
 

@@ -1,13 +1,14 @@
 // Integer fields of any width.
+// An `as` is proved to lose nothing; where one stands, std has no From between the two types, and `try_from` would ask for an answer to an error that cannot be.
 #![tactic(auto)]
 
 ghost use Rattle.std.specs.Prelude.{◌≡◌};
 ghost use Rattle.integer.specs.Integer.{push, step_integer, end_integer, integer_of};
 
-use laws::wide;
 use text::{blanks_before, is_digit};
 
 // How far a field is read. Phase 0: only blanks so far; 1: a sign; 2: digits; 3: malformed.
+// The phase stays a number: `scan_step` and `finish` are public and promise for every one; an enum of four would ask more of callers.
 #[derive(Clone, Copy)]
 pub struct Scan {
     pub phase: u8,
@@ -15,27 +16,27 @@ pub struct Scan {
     pub size: u64,
 }
 
-// What an integer field holds. A value is whether a minus stands before it, and its size; -0 is 0.
-#[derive(Clone, Copy)]
-pub enum Integer {
+// An integer: whether a minus stands before it, and its size; -0 is 0.
+#[derive(Clone, Copy, Debug, PartialEq, Eq)]
+pub struct Integer {
+    pub minus: bool,
+    pub size: u32,
+}
+
+// Why an integer field holds no integer.
+#[derive(Clone, Copy, Debug, PartialEq, Eq)]
+pub enum IntegerFault {
     Blank,
     Malformed,
     OutOfRange,
-    Value(bool, u32),
 }
 
 // The size with one digit more; at 2^32, which is past the range, it stays.
 pub fn pushed(m: u64, d: u8) -> u64
     ensures { result ≡ push m d }
 {
-    if 4294967296 <= m {
-        return 4294967296;
-    }
-    let size = m * 10 + wide(d);
-    if size < 4294967296 {
-        return size;
-    }
-    4294967296
+    let size = m.min(4294967296) * 10 + u64::from(d);
+    size.min(4294967296)
 }
 
 // A malformed field.
@@ -83,40 +84,36 @@ pub fn scan_step(s: Scan, b: u8) -> Scan
 }
 
 // What a field that is read to its end holds.
-pub fn finish(s: Scan) -> Integer
+pub fn finish(s: Scan) -> Result<Integer, IntegerFault>
     ensures { result ≡ end_integer s }
 {
     if s.phase == 0 {
-        return Integer::Blank;
+        return Err(IntegerFault::Blank);
     }
-    if s.phase == 2 {
-        if s.minus {
-            if s.size <= 2147483648 {
-                return Integer::Value(true, s.size as u32);
-            }
-            return Integer::OutOfRange;
-        }
-        if s.size <= 2147483647 {
-            return Integer::Value(false, s.size as u32);
-        }
-        return Integer::OutOfRange;
+    if s.phase != 2 {
+        return Err(IntegerFault::Malformed);
     }
-    Integer::Malformed
+    let limit = if s.minus { 2147483648 } else { 2147483647 };
+    if limit < s.size {
+        return Err(IntegerFault::OutOfRange);
+    }
+    Ok(Integer {
+        minus: s.minus,
+        size: s.size as u32,
+    })
 }
 
+// Nothing but blanks so far.
+const START: Scan = Scan {
+    phase: 0,
+    minus: false,
+    size: 0,
+};
+
 // What an integer field holds.
-pub fn integer_field(s: &[u8]) -> Integer
+pub fn integer_field(s: &[u8]) -> Result<Integer, IntegerFault>
     ensures { result ≡ integer_of s.now }
 {
-    let mut st = Scan {
-        phase: 0,
-        minus: false,
-        size: 0,
-    };
-    let mut i = blanks_before(s);
-    while i < s.len() {
-        st = scan_step(st, s[i]);
-        i += 1;
-    }
-    finish(st)
+    let rest = &s[blanks_before(s)..];
+    finish(rest.iter().fold(START, |st, b| scan_step(st, *b)))
 }

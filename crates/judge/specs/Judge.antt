@@ -9,8 +9,7 @@ use Rattle.line.specs.declared.Refusal.{Refusal}
 use Rattle.walk.specs.declared.Place.{Place}
 use Rattle.walk.specs.declared.Place.TheVariants.{Outside, Number, Plain, Typed}
 use Rattle.walk.specs.declared.State.{State}
-use Rattle.walk.specs.declared.Outcome.{Outcome}
-use Rattle.walk.specs.declared.Outcome.TheVariants.{Next, Refused}
+use Rattle.std.specs.Prelude.{Result, Ok, Err}
 use Rattle.walk.specs.Step.{start, step_of}
 use Rattle.judge.specs.declared.Reply.{Reply}
 
@@ -23,15 +22,15 @@ abbrev pub reply : ℕ → ℕ → Reply
 reply n p = reply_at n p 0
 
 -- a line's own refusal first, then that of its place
-abbrev pub line_outcome : State → Refusal → List ℕ → Outcome
+abbrev pub line_outcome : State → Refusal → List ℕ → Result State Refusal
 line_outcome s f cs = own f.number
   where
-    own : ℕ → Outcome
+    own : ℕ → Result State Refusal
     own zero = step_of s (filled cs)
-    own (suc n) = Refused f
+    own (suc n) = Err f
 
 -- a line that has its LF, by the bytes before it
-unfoldable pub line_step : State → List ℕ → Outcome
+unfoldable pub line_step : State → List ℕ → Result State Refusal
 line_step s l = line_outcome s (line_fault true (columns true l)) (columns true l)
 
 -- the refusal of line n + 1
@@ -43,9 +42,9 @@ pub data Run : Type 0 where
   going : State → ℕ → Run
   refused : Reply → Run
 
-abbrev pub on_outcome : ℕ → Outcome → Run
-on_outcome n (Next s) = going s (n + 1)
-on_outcome n (Refused f) = refused (at_line n f)
+abbrev pub on_outcome : ℕ → Result State Refusal → Run
+on_outcome n (Ok s) = going s (n + 1)
+on_outcome n (Err f) = refused (at_line n f)
 
 abbrev pub run_step : Run → List ℕ → Run
 run_step (going s n) l = on_outcome n (line_step s l)

@@ -10,15 +10,13 @@ use Rattle.laws.specs.ChoiceLaws.{and_left, below_or_not}
 use Rattle.laws.specs.CutLaws.{cut_line, cut_open}
 use Rattle.line.specs.declared.Refusal.{Refusal}
 use Rattle.walk.specs.declared.State.{State}
-use Rattle.walk.specs.declared.Outcome.{Outcome}
-use Rattle.walk.specs.declared.Outcome.TheVariants.{Next, Refused}
+use Rattle.std.specs.Prelude.{Result, Ok, Err}
 use Rattle.judge.specs.declared.Reply.{Reply}
-use Rattle.judge.specs.declared.Lines.{Lines}
 use Rattle.judge.specs.Judge.{reply_at, at_line, line_step, Run, going, refused, on_outcome, run_step, run_end}
 use Rattle.usual.specs.declared.Ahead.{Ahead}
 use Rattle.usual.specs.Taken.{LineTaken, Taken, RanAhead}
 use Rattle.usual.specs.TakenLaws.{taken_within}
-use Rattle.judge.specs.Lines.{run_of, lines_at, lines_to, LinesJudged}
+use Rattle.judge.specs.Lines.{Account, run_of, lines_at, lines_to, LinesJudged}
 use Rattle.judge.specs.JudgeLaws.{over_refused}
 use Rattle.judge.specs.Refusal.{LineNumber}
 use Rattle.judge.specs.RefusalLaws.{refusal_sure, line_number}
@@ -35,24 +33,24 @@ module _ (b : List ℕ) (from e : ℕ) (a : from ≤ length b) (q : e ≡ from +
     pub rest_next : (cut (drop (e + 1) b)).rest ≡ (cut (drop from b)).rest
     rest_next = rw cut_next refl
 
-    module _ (s : State) (n : ℕ) (o : Outcome) (p : o ≡ line_step s (take (e - from) (drop from b))) where
-      turn : (x : Outcome) → o ≡ x → over run_step (going s n) (cut (drop from b)).lines ≡ over run_step (on_outcome n x) (cut (drop (e + 1) b)).lines
+    module _ (s : State) (n : ℕ) (o : Result State Refusal) (p : o ≡ line_step s (take (e - from) (drop from b))) where
+      turn : (x : Result State Refusal) → o ≡ x → over run_step (going s n) (cut (drop from b)).lines ≡ over run_step (on_outcome n x) (cut (drop (e + 1) b)).lines
       unfolding over
-      turn x u = rw cut_next (ap (λ (y : Outcome). over run_step (on_outcome n y) (cut (drop (e + 1) b)).lines) (sym p ∙ u))
+      turn x u = rw cut_next (ap (λ (y : Result State Refusal). over run_step (on_outcome n y) (cut (drop (e + 1) b)).lines) (sym p ∙ u))
 
-      pub lines_next : (t : State) → o ≡ Next t → over run_step (going t (n + 1)) (cut (drop (e + 1) b)).lines ≡ over run_step (going s n) (cut (drop from b)).lines
-      lines_next t u = sym (turn (Next t) u)
+      pub lines_next : (t : State) → o ≡ Ok t → over run_step (going t (n + 1)) (cut (drop (e + 1) b)).lines ≡ over run_step (going s n) (cut (drop from b)).lines
+      lines_next t u = sym (turn (Ok t) u)
 
-      lines_stop : (f : Refusal) → o ≡ Refused f → refused (at_line n f) ≡ over run_step (going s n) (cut (drop from b)).lines
-      lines_stop f u = sym (turn (Refused f) u ∙ over_refused (at_line n f) (cut (drop (e + 1) b)).lines)
+      lines_stop : (f : Refusal) → o ≡ Err f → refused (at_line n f) ≡ over run_step (going s n) (cut (drop from b)).lines
+      lines_stop f u = sym (turn (Err f) u ∙ over_refused (at_line n f) (cut (drop (e + 1) b)).lines)
 
   cut_last_lem : length b ≤ e → cut (drop from b) ≡ text [] (drop from b)
   cut_last_lem h = cut_open (drop from b) (simp length-drop (omega arith))
 
   module _ (s₀ : State) (n₀ at : ℕ) (w : at ≤ length b) (s : State) (n : ℕ) (few : n + at ≤ n₀ + from)
       (run : over run_step (going s n) (cut (drop from b)).lines ≡ over run_step (going s₀ n₀) (cut (drop at b)).lines) where
-    pub judged_to_stop : e < length b → (o : Outcome) → o ≡ line_step s (take (e - from) (drop from b)) → (f : Refusal) → o ≡ Refused f
-        → (r : Lines) → r ≡ lines_at s n f.number f.column from → LinesJudged s₀ n₀ b at r
+    pub judged_to_stop : e < length b → (o : Result State Refusal) → o ≡ line_step s (take (e - from) (drop from b)) → (f : Refusal) → o ≡ Err f
+        → (r : Account) → r ≡ lines_at s n f.number f.column from → LinesJudged s₀ n₀ b at r
     judged_to_stop h o p f u r is =
         let z : 0 < f.number = refusal_sure s (take (e - from) (drop from b)) f (sym p ∙ u) in
         rw is
@@ -64,7 +62,7 @@ module _ (b : List ℕ) (from e : ℕ) (a : from ≤ length b) (q : e ≡ from +
           fewer = λ y. omega arith;
         }
 
-    pub judged_to_end : length b ≤ e → (cut (drop from b)).rest ≡ (cut (drop at b)).rest → (r : Lines) → r ≡ lines_to s n from → LinesJudged s₀ n₀ b at r
+    pub judged_to_end : length b ≤ e → (cut (drop from b)).rest ≡ (cut (drop at b)).rest → (r : Account) → r ≡ lines_to s n from → LinesJudged s₀ n₀ b at r
     unfolding over
     judged_to_end h rest r is =
         rw is
@@ -84,7 +82,7 @@ module _ (b : List ℕ) (s t : State) (from to : ℕ) (h : from ≤ length b) (l
   inside : end < length b
   inside = omega (arith, l.ends, l.within)
 
-  stepped : line_step s (take (end - from) (drop from b)) ≡ Next t
+  stepped : line_step s (take (end - from) (drop from b)) ≡ Ok t
   unfolding line_step
   stepped = let n : end - from ≡ line_len (drop from b) = omega arith in rw (n, l.whole) l.step
 
@@ -137,7 +135,7 @@ pub line_less : (b : List ℕ) (from e wait w : ℕ) → e ≡ from + line_len (
 line_less b from e wait w q h = let m : length b - (e + 1) + 1 ≤ length b - from = omega arith in omega arith
 
 -- the whole of the bytes, from their finished lines judged
-module _ (s : State) (n : ℕ) (b : List ℕ) (r : Lines) (j : LinesJudged s n b 0 r) where
+module _ (s : State) (n : ℕ) (b : List ℕ) (r : Account) (j : LinesJudged s n b 0 r) where
   pub whole_refused : 0 < r.number → reply_at r.number (r.lines + 1) r.column ≡ judge run_step run_end (going s n) b
   unfolding judge
   whole_refused z =
@@ -165,7 +163,7 @@ abbrev lines_of : Run → ℕ
 lines_of (going s n) = n
 lines_of (refused r) = r.place
 
-module _ (s : State) (n : ℕ) (l : List ℕ) (q : length l ≤ line_len l) (r : Lines) (j : LinesJudged s n (l ++ (10 ∷ [])) 0 r) where
+module _ (s : State) (n : ℕ) (l : List ℕ) (q : length l ≤ line_len l) (r : Account) (j : LinesJudged s n (l ++ (10 ∷ [])) 0 r) where
   pub one_run : run_of r.state r.lines r.number r.column ≡ on_outcome n (line_step s l)
   unfolding over
   one_run = j.run ∙ rw (line_ended l q) refl
@@ -173,11 +171,11 @@ module _ (s : State) (n : ℕ) (l : List ℕ) (q : length l ≤ line_len l) (r :
   pub one_more : r.lines ≤ n + 1
   one_more = go (eqb r.number 0) (line_step s l) one_run
     where
-      go : (t : Bool) (o : Outcome) → pick t (going r.state r.lines) (refused (reply_at r.number (r.lines + 1) r.column)) ≡ on_outcome n o → r.lines ≤ n + 1
-      go true (Next t) e = omega (arith, ap lines_of e)
-      go true (Refused f) e = omega (arith, ap lines_of e)
-      go false (Next t) e = omega (arith, ap lines_of e)
-      go false (Refused f) e = omega (arith, ap lines_of e)
+      go : (t : Bool) (o : Result State Refusal) → pick t (going r.state r.lines) (refused (reply_at r.number (r.lines + 1) r.column)) ≡ on_outcome n o → r.lines ≤ n + 1
+      go true (Ok t) e = omega (arith, ap lines_of e)
+      go true (Err f) e = omega (arith, ap lines_of e)
+      go false (Ok t) e = omega (arith, ap lines_of e)
+      go false (Err f) e = omega (arith, ap lines_of e)
 
 -- a run that is refused has a line's number
 abbrev Numbered : Run → Type 0
@@ -187,9 +185,9 @@ Numbered (refused r) = LineNumber r.number
 outcome_numbered : (s : State) (n : ℕ) (l : List ℕ) → Numbered (on_outcome n (line_step s l))
 outcome_numbered s n l = by (line_step s l) refl
   where
-    by : (o : Outcome) → line_step s l ≡ o → Numbered (on_outcome n o)
-    by (Next t) e = tt
-    by (Refused f) e = line_number s l f e
+    by : (o : Result State Refusal) → line_step s l ≡ o → Numbered (on_outcome n o)
+    by (Ok t) e = tt
+    by (Err f) e = line_number s l f e
 
 step_numbered : (r : Run) (l : List ℕ) → Numbered r → Numbered (run_step r l)
 step_numbered (going s n) l h = outcome_numbered s n l
@@ -203,7 +201,7 @@ run_numbered (l ∷ ls) r h = run_numbered ls (run_step r l) (step_numbered r l 
 pub outcome_number : (s : State) (n : ℕ) (l : List ℕ) (r : Reply) → refused r ≡ on_outcome n (line_step s l) → LineNumber r.number
 outcome_number s n l r h = rw (← h) at (outcome_numbered s n l)
 
-pub judged_number : (s : State) (n : ℕ) (b : List ℕ) (at : ℕ) (r : Lines) → LinesJudged s n b at r → 0 < r.number → LineNumber r.number
+pub judged_number : (s : State) (n : ℕ) (b : List ℕ) (at : ℕ) (r : Account) → LinesJudged s n b at r → 0 < r.number → LineNumber r.number
 judged_number s n b at r j z =
     let e : refused (reply_at r.number (r.lines + 1) r.column) ≡ over run_step (going s n) (cut (drop at b)).lines = rw (ne_eqb r.number 0 (λ y. omega arith)) at j.run in
     rw (← e) at (run_numbered (cut (drop at b)).lines (going s n) tt)

@@ -1,13 +1,13 @@
 -- A delimiter and a number line in their usual spelling: what their bytes say, and their step.
-use Rattle.std.specs.Prelude.{◌≡◌, Bool, true, false, ◌&&◌, eqb, get_or}
+use Rattle.std.specs.Prelude.{◌≡◌, Bool, true, false, zero, suc, IfSome}
 use Rattle.std.proofs.Math.Path.{refl}
 use Rattle.std.proofs.Common.{sym, arith}
-use mathlib.Core.List.{List, [], ◌∷◌}
+use mathlib.Core.List.{List}
 use Prim.Native.Nat.{ℕ, ◌-◌, ◌<◌}
-use borrow.Author.Tests.{eqb-true, lt-ltb}
+use borrow.Author.Tests.{lt-ltb}
 use Rattle.std.proofs.Math.ListN.{length, replicate}
 use Rattle.std.proofs.Math.Seq.{take_at, drop_at}
-use Rattle.laws.specs.ChoiceLaws.{and_left, and_right}
+use Rattle.laws.specs.Choice.{above_zero}
 use Rattle.text.specs.Blank.{Blanks}
 use Rattle.text.specs.BlankLaws.{all_blank_complete, blanks_take, blanks_replicate}
 use Rattle.text.specs.Parts.{Sign, Digits}
@@ -20,42 +20,14 @@ use Rattle.delimiter.specs.Kind.{Delimiter, delimiter, positive, dataset_number}
 use Rattle.delimiter.proofs.KindLaws.{positive_value}
 use Rattle.walk.specs.declared.Place.TheVariants.{Number}
 use Rattle.walk.specs.declared.State.{State}
-use Rattle.walk.specs.declared.Outcome.{Outcome}
-use Rattle.walk.specs.declared.Outcome.TheVariants.{Next}
+use Rattle.std.specs.Prelude.{Result, Ok}
+use Rattle.line.specs.declared.Refusal.{Refusal}
 use Rattle.walk.specs.Step.{state, opened, number_step, step_of}
 use Rattle.judge.specs.Judge.{line_step}
 use Rattle.judge.specs.Plain.{plain_delimiter, PlainNumber}
 
--- six bytes that are each a delimiter's
-pub plain_bytes : (l : List ℕ) → length l ≡ 6
-    → ((((eqb (get_or l 0 0) 32 && eqb (get_or l 1 0) 32) && eqb (get_or l 2 0) 32) && eqb (get_or l 3 0) 32) && eqb (get_or l 4 0) 45) && eqb (get_or l 5 0) 49 ≡ true
-    → l ≡ plain_delimiter
-plain_bytes [] n h = absurd (omega arith)
-plain_bytes (a ∷ []) n h = absurd (omega arith)
-plain_bytes (a ∷ b ∷ []) n h = absurd (omega arith)
-plain_bytes (a ∷ b ∷ c ∷ []) n h = absurd (omega arith)
-plain_bytes (a ∷ b ∷ c ∷ d ∷ []) n h = absurd (omega arith)
-plain_bytes (a ∷ b ∷ c ∷ d ∷ e ∷ []) n h = absurd (omega arith)
-plain_bytes (a ∷ b ∷ c ∷ d ∷ e ∷ f ∷ []) n h =
-    let t2 : Bool = eqb a 32 && eqb b 32 in
-    let t3 : Bool = t2 && eqb c 32 in
-    let t4 : Bool = t3 && eqb d 32 in
-    let t5 : Bool = t4 && eqb e 45 in
-    let h5 : t5 ≡ true = and_left t5 (eqb f 49) h in
-    let h4 : t4 ≡ true = and_left t4 (eqb e 45) h5 in
-    let h3 : t3 ≡ true = and_left t3 (eqb d 32) h4 in
-    let h2 : t2 ≡ true = and_left t2 (eqb c 32) h3 in
-    let pa : a ≡ 32 = eqb-true a 32 (and_left (eqb a 32) (eqb b 32) h2) in
-    let pb : b ≡ 32 = eqb-true b 32 (and_right (eqb a 32) (eqb b 32) h2) in
-    let pc : c ≡ 32 = eqb-true c 32 (and_right t2 (eqb c 32) h3) in
-    let pd : d ≡ 32 = eqb-true d 32 (and_right t3 (eqb d 32) h4) in
-    let pe : e ≡ 45 = eqb-true e 45 (and_right t4 (eqb e 45) h5) in
-    let pf : f ≡ 49 = eqb-true f 49 (and_right t5 (eqb f 49) h) in
-    cc
-plain_bytes (a ∷ b ∷ c ∷ d ∷ e ∷ f ∷ g ∷ l) n h = absurd (omega arith)
-
 -- its step is that of any delimiter
-pub plain_step_lem : (s : State) (o : Outcome) {l : List ℕ} → l ≡ plain_delimiter → ((line : List ℕ) → Delimiter line → o ≡ step_of s line) → o ≡ line_step s l
+pub plain_step_lem : (s : State) (o : Result State Refusal) {l : List ℕ} → l ≡ plain_delimiter → ((line : List ℕ) → Delimiter line → o ≡ step_of s line) → o ≡ line_step s l
 unfolding line_step columns without_return line_fault first_bad is_allowed filled
 plain_step_lem s o e h = rw e (h (filled plain_delimiter) (delimiter (blanks_take 74 (blanks_replicate 80))))
 
@@ -79,6 +51,15 @@ integer_allowed (spelled bl sg ds b s d h) = allowed_append (blanks_allowed b) (
 number_allowed : {v : ℕ} (cs : List ℕ) → 0 < v → v ≡ positive (integer_of cs) → Allowed cs
 number_allowed {v} cs p e = integer_allowed (integer_of_value cs false v (positive_value (integer_of cs) v (omega arith) (sym e))).0
 
+-- what is read of six columns where a number line is due
+pub plain_number_due : (s : State) (cs : List ℕ) → s.place ≡ Number → length cs ≡ 6
+    → IfSome (above_zero (positive (integer_of cs))) (λ v. (s.place ≡ Number) × (0 < v) × PlainNumber v cs)
+plain_number_due s cs p l = by (positive (integer_of cs)) refl
+  where
+    by : (n : ℕ) → n ≡ positive (integer_of cs) → IfSome (above_zero n) (λ v. (s.place ≡ Number) × (0 < v) × PlainNumber v cs)
+    by zero e = tt
+    by (suc n) e = (p, omega arith, record { six = l; read = e })
+
 -- a number line's step: a set of its number opens
 module _ {v : ℕ} {cs : List ℕ} (p : 0 < v) (r : PlainNumber v cs) where
   pub plain_number_filled : dataset_number (filled cs) ≡ v
@@ -91,10 +72,10 @@ module _ {v : ℕ} {cs : List ℕ} (p : 0 < v) (r : PlainNumber v cs) where
   pub plain_number_passes : line_fault true cs ≡ passed
   plain_number_passes = line_fault_complete true cs refl (omega (arith, r.six)) (number_allowed cs p r.read)
 
-  pub plain_number_step : (s : State) → s.place ≡ Number → step_of s (filled cs) ≡ Next (state (opened v) s.sets)
+  pub plain_number_step : (s : State) → s.place ≡ Number → step_of s (filled cs) ≡ Ok (state (opened v) s.sets)
   unfolding step_of number_step
   plain_number_step s e = rw (e, plain_number_filled, lt-ltb 0 v p) refl
 
-  pub plain_number_line_lem : (s : State) (l : List ℕ) → cs ≡ columns true l → s.place ≡ Number → Next (state (opened v) s.sets) ≡ line_step s l
+  pub plain_number_line_lem : (s : State) (l : List ℕ) → cs ≡ columns true l → s.place ≡ Number → Ok (state (opened v) s.sets) ≡ line_step s l
   unfolding line_step
   plain_number_line_lem s l q e = rw (← q, plain_number_passes) (sym (plain_number_step s e))

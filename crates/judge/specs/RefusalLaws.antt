@@ -16,8 +16,7 @@ use Rattle.record.specs.NumberLaws.{row_number}
 use Rattle.walk.specs.declared.Place.{Place}
 use Rattle.walk.specs.declared.Place.TheVariants.{Outside, Number, Plain, Typed}
 use Rattle.walk.specs.declared.State.{State}
-use Rattle.walk.specs.declared.Outcome.{Outcome}
-use Rattle.walk.specs.declared.Outcome.TheVariants.{Next, Refused}
+use Rattle.std.specs.Prelude.{Result, Ok, Err}
 use Rattle.walk.specs.Due.{may_close, may_continue, row_due, after}
 use Rattle.walk.specs.Step.{state, unless, outside_step, number_step, plain_step, typed_step, place_step, step_of}
 use Rattle.judge.specs.Judge.{line_outcome, line_step}
@@ -25,7 +24,7 @@ use Rattle.judge.specs.Refusal.{Refusing, LineNumber}
 
 -- a property of every refusal of a line
 module _ (P : Refusal → Type 0) where
-  picked : (t : Bool) (a b : Outcome) → Refusing P a → Refusing P b → Refusing P (pick t a b)
+  picked : (t : Bool) (a b : Result State Refusal) → Refusing P a → Refusing P b → Refusing P (pick t a b)
   picked true a b p q = p
   picked false a b p q = q
 
@@ -45,14 +44,14 @@ module _ (P : Refusal → Type 0) where
     at_place Outside n line =
         picked (all_blank line) _ _ tt
         (picked (is_delimiter line) _ _
-        (picked (ltb n 4096) (Next (state Number (n + 1))) (Refused (refusal 15 1)) tt (place 15 (omega arith) (omega arith)))
+        (picked (ltb n 4096) (Ok (state Number (n + 1))) (Err (refusal 15 1)) tt (place 15 (omega arith) (omega arith)))
         (place 5 (omega arith) (omega arith)))
     at_place Number n line = picked (ltb 0 (dataset_number line)) _ _ tt (place 6 (omega arith) (omega arith))
-    at_place Plain n line = picked (is_delimiter line) (Next (state Outside n)) (Next (state Plain n)) tt tt
+    at_place Plain n line = picked (is_delimiter line) (Ok (state Outside n)) (Ok (state Plain n)) tt tt
     at_place (Typed d) n line =
         picked (is_delimiter line) _ _
-        (picked (may_close d) (Next (state Outside n)) (Refused (refusal 7 1)) tt (place 7 (omega arith) (omega arith)))
-        (picked (may_continue d) _ (Refused (refusal 8 1)) (by_row (row_refusal (row_due d) line) (state (Typed (after d line)) n) (row (row_due d) line))
+        (picked (may_close d) (Ok (state Outside n)) (Err (refusal 7 1)) tt (place 7 (omega arith) (omega arith)))
+        (picked (may_continue d) _ (Err (refusal 8 1)) (by_row (row_refusal (row_due d) line) (state (Typed (after d line)) n) (row (row_due d) line))
         (place 8 (omega arith) (omega arith)))
 
     on_line : (s : State) (n c : ℕ) (cs : List ℕ) → (0 < n → P (refusal n c)) → Refusing P (line_outcome s (refusal n c) cs)
@@ -60,7 +59,7 @@ module _ (P : Refusal → Type 0) where
     on_line s zero c cs h = at_place s.place s.sets (filled cs)
     on_line s (suc n) c cs h = h (omega arith)
 
-    pub refusal_is : (s : State) (l : List ℕ) (f : Refusal) → line_step s l ≡ Refused f → P f
+    pub refusal_is : (s : State) (l : List ℕ) (f : Refusal) → line_step s l ≡ Err f → P f
     unfolding line_step
     refusal_is s l f e =
         let cs : List ℕ = columns true l in
@@ -77,13 +76,13 @@ own_number cs h = by (ltb 0 (first_bad 1 cs)) (ltb 80 (length cs)) h
     by false true h = (omega arith, inl (omega arith))
     by false false h = absurd (omega arith)
 
-pub line_number : (s : State) (l : List ℕ) (f : Refusal) → line_step s l ≡ Refused f → LineNumber f.number
+pub line_number : (s : State) (l : List ℕ) (f : Refusal) → line_step s l ≡ Err f → LineNumber f.number
 line_number =
     refusal_is (λ (f : Refusal). LineNumber f.number) (λ n p q. (omega arith, inl q))
     (row_number (λ (n : ℕ). 0 < n → LineNumber n) (λ h. absurd (omega arith)) (λ n p q h. (omega arith, inl (omega arith))) (λ n p q h. (omega arith, inr (p, q)))) own_number
 
 -- a refusal has a number
-pub refusal_sure : (s : State) (l : List ℕ) (f : Refusal) → line_step s l ≡ Refused f → 0 < f.number
+pub refusal_sure : (s : State) (l : List ℕ) (f : Refusal) → line_step s l ≡ Err f → 0 < f.number
 refusal_sure s l f e = omega (arith, (line_number s l f e).0)
 
 -- a line with no refusal of its own passes

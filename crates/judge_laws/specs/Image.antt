@@ -4,8 +4,7 @@ use Rattle.std.specs.Prelude.{◌+◌, ◌<◌, length}
 use Rattle.line.specs.declared.Refusal.{Refusal}
 use Rattle.walk.specs.declared.Place.TheVariants.{Outside, Number, Plain, Typed}
 use Rattle.walk.specs.declared.State.{State}
-use Rattle.walk.specs.declared.Outcome.{Outcome}
-use Rattle.walk.specs.declared.Outcome.TheVariants.{Next, Refused}
+use Rattle.std.specs.Prelude.{Result, Ok, Err}
 use Rattle.walk.specs.Step.{start, state}
 use Rattle.judge_laws.specs.ListReader.{Reading, outside, number, plain, typed, bad}
 
@@ -26,6 +25,6 @@ image (typed acc v iss d) = state (Typed d) (length acc + 1)
 image bad = start
 
 -- a line's outcome agrees with the reading after it: the image of one that stands, or a refusal of some number
-pub data Agrees : Outcome → Reading → Type 0 where
-  stands : (r : Reading) → Standing r → Agrees (Next (image r)) r
-  refused : {f : Refusal} → 0 < f.number → Agrees (Refused f) bad
+pub data Agrees : Result State Refusal → Reading → Type 0 where
+  stands : (r : Reading) → Standing r → Agrees (Ok (image r)) r
+  refused : {f : Refusal} → 0 < f.number → Agrees (Err f) bad

@@ -12,8 +12,8 @@ use Rattle.record_table.specs.TypedSets.{is_typed}
 use Rattle.record.specs.Check.{row_refusal}
 use Rattle.walk.specs.declared.Due.{Due}
 use Rattle.walk.specs.declared.Place.TheVariants.{Outside, Plain, Typed}
-use Rattle.walk.specs.declared.Outcome.{Outcome}
-use Rattle.walk.specs.declared.Outcome.TheVariants.{Next, Refused}
+use Rattle.std.specs.Prelude.{Result, Ok, Err}
+use Rattle.walk.specs.declared.State.{State}
 use Rattle.walk.specs.Due.{may_close, may_continue, row_due}
 use Rattle.walk.specs.Step as Step
 use Rattle.theory.specs.Sets.{Set, set}
@@ -21,16 +21,16 @@ use Rattle.judge_laws.specs.ListReader.{Reading, outside, number, plain, typed, 
 use Rattle.judge_laws.specs.Image.{Standing, image, Agrees, stands, refused}
 
 -- a refusal of some number
-agrees_refused : (n c : ℕ) → Agrees (Refused (refusal (suc n) c)) bad
+agrees_refused : (n c : ℕ) → Agrees (Err (refusal (suc n) c)) bad
 agrees_refused n c = refused {f = refusal (suc n) c} (omega arith)
 
 -- two choices by one test agree where their parts do
-agrees_pick : (t : Bool) {o o' : Outcome} {r r' : Reading} → Agrees o r → Agrees o' r' → Agrees (pick t o o') (pick t r r')
+agrees_pick : (t : Bool) {o o' : Result State Refusal} {r r' : Reading} → Agrees o r → Agrees o' r' → Agrees (pick t o o') (pick t r r')
 agrees_pick true a b = a
 agrees_pick false a b = b
 
 -- a set that closes was counted when it opened
-agrees_closed : (acc : List Set) (v : ℕ) (iss : List (List Item)) → Agrees (Next (Step.state Outside (length acc + 1))) (closed acc v iss)
+agrees_closed : (acc : List Set) (v : ℕ) (iss : List (List Item)) → Agrees (Ok (Step.state Outside (length acc + 1))) (closed acc v iss)
 agrees_closed acc v iss =
     let e : length (acc ++ (set v iss ∷ [])) ≡ length acc + 1 = length-append acc (set v iss ∷ []) in
     rw e at (stands (closed acc v iss) tt)
@@ -38,7 +38,7 @@ agrees_closed acc v iss =
 -- a set that opens is typed or plain
 agrees_opened :
     (acc : List Set) (v : ℕ) (d : Due) (t : Bool) →
-    Agrees (Next (Step.state (pick t (Typed d) Plain) (length acc + 1))) (pick t (typed acc v [] d) (plain acc v []))
+    Agrees (Ok (Step.state (pick t (Typed d) Plain) (length acc + 1))) (pick t (typed acc v [] d) (plain acc v []))
 agrees_opened acc v d true = stands (typed acc v [] d) tt
 agrees_opened acc v d false = stands (plain acc v []) tt
 

@@ -10,7 +10,8 @@ use Rattle.laws.specs.Choice.{pick}
 use Rattle.laws.specs.Cut as Cut
 use Rattle.line.specs.Line.{columns, first_bad, line_fault, refusal, passed}
 use Rattle.line.specs.declared.Refusal.{Refusal}
-use Rattle.walk.specs.declared.Outcome.{Outcome}
+use Rattle.std.specs.Prelude.{Result}
+use Rattle.walk.specs.declared.State.{State}
 use Rattle.judge.specs.declared.Reply.{Reply}
 use Rattle.judge.specs.Judge.{reply_at, line_step, Run, going, refused, on_outcome}
 use Rattle.line_laws.specs.Ends.{AllPass}
@@ -48,7 +49,7 @@ line_fault_zero ended cs = by_tests ended (ltb 0 (first_bad 1 cs)) (ltb 80 (leng
 
 -- the run from a line's outcome on
 ran_agrees :
-    (ls : List (List ℕ)) (k : ℕ) {o : Outcome} {r : Reading} →
+    (ls : List (List ℕ)) (k : ℕ) {o : Result State Refusal} {r : Reading} →
     Agrees o r →
     (Standing r → Ran ls r (k + 1) (run_over (going (image r) (k + 1)) ls)) →
     Ran ls r (k + 1) (run_over (on_outcome k o) ls)

@@ -96,6 +96,16 @@ pub table_cell : (t : List (List ℕ)) (c k : ℕ) (d : List ℕ) → t ≡ tabu
     → get_or (get_or t c d) k 0 ≡ cell_of c k
 table_cell t c k d e h l = table_at (cell_of c) (get_or t c d) 8 k 0 (table_row t c d e h) l
 
+-- anywhere, 0 where the table has no such place
+pub table_number : (t : List (List ℕ)) (c k : ℕ) → t ≡ tabulate (λ (i : ℕ). tabulate (cell_of i) 0 8) 0 8 → get_or (get_or t c []) k 0 ≡ cell_of c k
+table_number t c k e = ⊎_elim (λ h. ⊎_elim (table_cell t c k [] e h) (row_end h) (below_or_not k 8)) table_end (below_or_not c 8)
+  where
+    row_end : c < 8 → 8 ≤ k → get_or (get_or t c []) k 0 ≡ cell_of c k
+    row_end h l = rw (table_row t c [] e h, cell_of_place_past c k l) (get_or-eq_default (tabulate (cell_of c) 0 8) 0 l)
+
+    table_end : 8 ≤ c → get_or (get_or t c []) k 0 ≡ cell_of c k
+    table_end h = rw (cell_of_case_past c k h, e, get_or-eq_default (tabulate (λ (i : ℕ). tabulate (cell_of i) 0 8) 0 8) [] h) refl
+
 -- a field past the sixth begins where all of them end
 pub field_start_past : (c j k : ℕ) → 6 ≤ j → j ≤ k → field_start (layout_of c).widths j ≡ field_start (layout_of c).widths k
 field_start_past c j k h l =

@@ -1,13 +1,10 @@
 // The layout of 58's data lines: the eight cases as one table, and the columns computed from it.
 #![tactic(auto)]
 
-ghost use Rattle.std.specs.Prelude.{◌≡◌, eqb, get_or};
-ghost use Rattle.laws.specs.Choice.{pick};
+ghost use Rattle.std.specs.Prelude.{◌≡◌, get_or};
 ghost use Rattle.laws.specs.Table.{tabulate};
 ghost use Rattle.layout.specs.Columns.{field_start};
 ghost use Rattle.layout.specs.Layout.{layout_of, fields_of, values_of, case_for, numbers_of, cell_of};
-
-use laws::index;
 
 // A row a case: the widths of a full line's fields (0 past the last), how many fields, how many values.
 pub const LAYOUTS: [[u8; 8]; 8] = [
@@ -21,50 +18,31 @@ pub const LAYOUTS: [[u8; 8]; 8] = [
     [13, 20, 20, 0, 0, 0, 3, 1],
 ];
 
-// The even case where the spacing is 1, the uneven one where it is 0; 8 for any other spacing.
-fn by_spacing(spacing: u32, even: usize, uneven: usize) -> usize
-    ensures { result ≡ pick (eqb spacing 1) even (pick (eqb spacing 0) uneven 8) }
-{
-    if spacing == 1 {
-        return even;
-    }
-    if spacing == 0 {
-        return uneven;
-    }
-    8
-}
-
-// The case, counted from 0, of an ordinate type and a spacing (1 even, 0 uneven); 8 where there is none.
+// The case, counted from 0, of an ordinate type and a spacing (1 even, 0 uneven); 8 where there is none: it stays a number,
+// since `walk::Due.case` holds it, which C may lend. The widths, fields, values and numbers of no case are 0, which is their count.
+#[tactic(auto, unfolding(crate::specs::Layout::case_for, crate::specs::Layout::layouts))]
 pub fn case_of(ordinate_type: u32, spacing: u32) -> usize
     ensures { result ≡ case_for ordinate_type spacing }
 {
-    if ordinate_type == 2 {
-        return by_spacing(spacing, 0, 1);
+    match (ordinate_type, spacing) {
+        (2, 1) => 0,
+        (2, 0) => 1,
+        (5, 1) => 2,
+        (5, 0) => 3,
+        (4, 1) => 4,
+        (4, 0) => 5,
+        (6, 1) => 6,
+        (6, 0) => 7,
+        _ => 8,
     }
-    if ordinate_type == 5 {
-        return by_spacing(spacing, 2, 3);
-    }
-    if ordinate_type == 4 {
-        return by_spacing(spacing, 4, 5);
-    }
-    if ordinate_type == 6 {
-        return by_spacing(spacing, 6, 7);
-    }
-    8
 }
 
 // The number at a place of a case's row in the table; 0 where there is none.
 fn cell(case: usize, place: usize) -> usize
     ensures { result ≡ cell_of case place }
 {
-    if 8 <= case {
-        return 0;
-    }
-    if 8 <= place {
-        return 0;
-    }
-    let row = LAYOUTS[case];
-    index(row[place])
+    let number = LAYOUTS.get(case).and_then(|row| row.get(place));
+    number.map_or(0, |n| usize::from(*n))
 }
 
 // The width of a field of a case's full line; 0 where there is none.
@@ -81,10 +59,9 @@ pub fn field_width(case: usize, field: usize) -> usize
 pub fn line_widths(case: usize) -> [u8; 6]
     ensures { result ≡ tabulate (cell_of case) 0 6 }
 {
-    if 8 <= case {
+    let Some(row) = LAYOUTS.get(case) else {
         return [0; 6];
-    }
-    let row = LAYOUTS[case];
+    };
     [row[0], row[1], row[2], row[3], row[4], row[5]]
 }
 
@@ -106,11 +83,7 @@ pub fn values_of(case: usize) -> usize
 pub fn numbers_of(case: usize) -> usize
     ensures { result ≡ numbers_of case }
 {
-    let values = values_of(case);
-    if values == 0 {
-        return 0;
-    }
-    fields_of(case) / values
+    fields_of(case).checked_div(values_of(case)).unwrap_or(0)
 }
 
 // The first column, from 0, of a field of a case; past the last field the column past them all.
@@ -118,14 +91,10 @@ pub fn field_start(case: usize, field: usize) -> usize
     ensures { result ≡ field_start (layout_of case).widths field }
 {
     let widths = line_widths(case);
+    let before = &widths[..field.min(6)];
     let mut at = 0;
-    let mut k = 0;
-    while k < field {
-        if 6 <= k {
-            return at;
-        }
-        at += index(widths[k]);
-        k += 1;
+    for w in before {
+        at += usize::from(*w);
     }
     at
 }

@@ -1,6 +1,6 @@
 -- Lines (01, "Lines and sets"): "Bytes are 32 to 126, LF, and CR directly before LF. Each line ends in LF or CR LF and has at most
 -- 80 columns, its end not counted. A short line reads as if filled with blanks."
-use Rattle.std.specs.Prelude.{Bool, true, false, ◌&&◌, List, [], ◌∷◌, ◌++◌, ℕ, ◌+◌, ◌≤◌, leb, ltb, eqb, length, take, replicate}
+use Rattle.std.specs.Prelude.{Bool, true, false, ◌&&◌, List, [], ◌∷◌, ◌++◌, ℕ, ◌+◌, ◌≤◌, leb, ltb, eqb, length, take, replicate, Result, Ok, Err}
 use Rattle.laws.specs.Choice.{pick}
 use Rattle.line.specs.declared.Refusal.{Refusal}
 
@@ -11,6 +11,10 @@ refusal n c = record { number = n; column = c }
 -- nothing is wrong
 abbrev pub passed : Refusal
 passed = refusal 0 0
+
+-- what a check answers: nothing is wrong where the number is 0; any other is a refusal
+unfoldable pub verdict : Refusal → Result (Unit {0}) Refusal
+verdict f = pick (eqb f.number 0) (Ok tt) (Err f)
 
 -- "Bytes are 32 to 126"
 pub data Allowed : List ℕ → Type 0 where

@@ -1,13 +1,15 @@
 -- What belongs to a line's columns and what to its end, that a line passes exactly when it keeps the rules on bytes, columns and
 -- its end, and how it is filled. Each group closes with the laws of a loop over a line.
 use Rattle.std.proofs.Common.{⊎_elim, sym, ◌∙◌, ap, append_assoc, add-one, arith, le-ltb, ltb-false, le-leb, leb-true, ne_eqb, length-append, length-take, length-drop, drop_of_length-le, drop-cons, drop-drop, take-suc, take_all, take_at, take-take, length-take-le}
-use Rattle.std.specs.Prelude.{◌≡◌, refl, Bool, true, false, ◌&&◌, List, [], ◌∷◌, ◌++◌, ℕ, zero, suc, ◌+◌, ◌-◌, ◌≤◌, ◌<◌, min, leb, ltb, eqb, length, get_or, take, drop, set, replicate}
-use Rattle.std.proofs.lemmas.List.{length-replicate, replicate-append-replicate, take-append-le, set_at}
+use Rattle.std.specs.Prelude.{◌≡◌, refl, Result, Ok, Err, MatchResult, Bool, true, false, ◌&&◌, List, [], ◌∷◌, ◌++◌, ℕ, zero, suc, ◌+◌, ◌-◌, ◌≤◌, ◌<◌, min, leb, ltb, eqb, length, get_or, take, drop, replicate, fold}
+use Rattle.std.proofs.lemmas.Bool.{eqb-true}
+use Rattle.std.proofs.lemmas.Bool.Decides.{nat_tests}
+use Rattle.std.proofs.lemmas.List.{length-replicate, drop-replicate, replicate-append-replicate, take-append-le}
 use Rattle.laws.specs.Choice.{pick}
 use Rattle.laws.specs.ChoiceLaws.{and_left, and_right, and_both, and_assoc, below_or_not}
 use Rattle.laws.specs.Cut.{line_len}
 use Rattle.line.specs.declared.Refusal.{Refusal}
-use Rattle.line.specs.Line.{refusal, passed, Allowed, none, more, is_allowed, without_return, columns, first_bad, line_fault, filled, all_allowed}
+use Rattle.line.specs.Line.{refusal, passed, Allowed, none, more, is_allowed, without_return, columns, first_bad, line_fault, filled, all_allowed, verdict}
 
 -- the first LF is within the bytes
 pub line_len_most : (l : List ℕ) → line_len l ≤ length l
@@ -144,19 +146,13 @@ pub filled_length : (cs : List ℕ) → length (filled cs) ≡ 80
 unfolding filled
 filled_length cs = length-take-le 80 (cs ++ replicate 80 32) (omega (arith, length-append cs (replicate 80 32)))
 
--- a loop that copies a line's bytes over blanks: what it has made after i of them
+-- the first bytes over blanks
 filled_part : (l : List ℕ) (i : ℕ) → i ≤ length l → i ≤ 80 → filled (take i l) ≡ take i l ++ replicate (80 - i) 32
 filled_part l i h s =
     let n : length (take i l) ≡ i = length-take-le i l h in
     filled_short (take i l) (omega arith) ∙ rw n refl
 
--- one more byte, all of them, the first 80
-pub filled_next : (l : List ℕ) (i : ℕ) → i < length l → i < 80 → set (filled (take i l)) i (get_or l i 0) ≡ filled (take (i + 1) l)
-filled_next l i h s =
-    let n : 80 - i ≡ suc (80 - (i + 1)) = omega arith in
-    rw (filled_part l i (omega arith) (omega arith), filled_part l (i + 1) (omega arith) (omega arith), n, add-one i, take-suc l i 0, append_assoc)
-    (set_at (take i l) 32 (replicate (80 - suc i) 32) (get_or l i 0) i (length-take-le i l (omega arith)))
-
+-- all of them, the first 80
 pub filled_all : (l : List ℕ) (i : ℕ) → length l ≤ i → filled (take i l) ≡ filled l
 filled_all l i h = rw (take_all i l h) refl
 
@@ -166,15 +162,15 @@ filled_eighty l i e h =
     let n : 80 ≤ length (take i l) = rw (length-take-le i l h) e in
     take-append-le 80 (take i l) (replicate 80 32) n ∙ take-take 80 i l e ∙ sym (take-append-le 80 l (replicate 80 32) (omega arith))
 
--- a loop over the bytes, that keeps whether all of them were allowed so far
-pub all_allowed_next : (t : Bool) (l : List ℕ) (i : ℕ) → i < length l → (t && is_allowed (get_or l i 0)) && all_allowed (drop (i + 1) l) ≡ t && all_allowed (drop i l)
+-- a fold over the bytes, that keeps whether all of them were allowed so far
+all_allowed_from : (t : Bool) (l : List ℕ) → fold (λ (fine : Bool) (b : ℕ). fine && is_allowed b) t l ≡ t && all_allowed l
 unfolding all_allowed
-all_allowed_next t l i h = rw (add-one, drop-cons l i 0) (sym (and_assoc t (is_allowed (get_or l i 0)) (all_allowed (drop (suc i) l))))
+all_allowed_from true [] = refl
+all_allowed_from false [] = refl
+all_allowed_from t (b ∷ l) = all_allowed_from (t && is_allowed b) l ∙ sym (and_assoc t (is_allowed b) (all_allowed l))
 
-pub all_allowed_end : (t : Bool) (l : List ℕ) (i : ℕ) → length l ≤ i → t && all_allowed (drop i l) ≡ t
-unfolding all_allowed
-all_allowed_end true l i h = rw (drop_of_length-le l h) refl
-all_allowed_end false l i h = refl
+pub all_allowed_fold : (l : List ℕ) → fold (λ (fine : Bool) (b : ℕ). fine && is_allowed b) true l ≡ all_allowed l
+all_allowed_fold l = all_allowed_from true l
 
 -- bytes that may stand in columns hold no LF
 not_end : (b : ℕ) → is_allowed b ≡ true → eqb b 10 ≡ false
@@ -204,3 +200,50 @@ first_bad_none k (b ∷ l) h = rw (and_left (is_allowed b) (all_allowed l) h) (f
 -- the first bytes, as many as a line has columns, fill it
 pub filled_most : (l : List ℕ) (i : ℕ) → min (length l) 80 ≤ i → i ≤ length l → filled (take i l) ≡ filled l
 filled_most l i h m = ⊎_elim (λ s. filled_all l i (omega arith)) (λ e. filled_eighty l i (omega arith) m) (below_or_not (length l) 80)
+
+-- copied over blanks
+pub filled_copied : (l ys : List ℕ) (n : ℕ) → n ≡ min (length l) 80 → ys ≡ take n l → ys ++ drop n (replicate 80 32) ≡ filled l
+filled_copied l ys n h e =
+    rw (e, drop-replicate) (sym (filled_part l n (omega arith) (omega arith))) ∙ filled_most l n (omega arith) (omega arith)
+
+-- what a check answers: that nothing is wrong, or the refusal
+pub verdict_passed : verdict passed ≡ Ok tt
+unfolding verdict
+verdict_passed = refl
+
+pub verdict_refused : (n c : ℕ) → 0 < n → verdict (refusal n c) ≡ Err (refusal n c)
+unfolding verdict
+verdict_refused n c h = rw (ne_eqb n 0 (λ e. omega arith)) refl
+
+pub ok_passed : {f : Refusal} → f ≡ passed → Ok tt ≡ verdict f
+ok_passed e = rw e (sym verdict_passed)
+
+pub err_refused : {f : Refusal} {n c : ℕ} → f ≡ refusal n c → 0 < n → Err (refusal n c) ≡ verdict f
+err_refused {f} {n} {c} e h = rw e (sym (verdict_refused n c h))
+
+-- what an answer says of the refusal that was looked for
+verdict_told : (f : Refusal) (t : Bool) → eqb f.number 0 ≡ t → (x : Result (Unit {0}) Refusal) → x ≡ pick t (Ok tt) (Err f)
+    → MatchResult x (λ _. f.number ≡ 0) (λ r. (r ≡ f) × (0 < f.number))
+verdict_told f true e x h = rw h (eqb-true f.number 0 e)
+verdict_told f false e x h = rw h (refl, grind (arith, nat_tests))
+
+pub verdict_ok : (f : Refusal) → Ok tt ≡ verdict f → f.number ≡ 0
+unfolding verdict
+verdict_ok f h = verdict_told f (eqb f.number 0) refl (Ok tt) h
+
+pub verdict_err : (f r : Refusal) → Err r ≡ verdict f → (r ≡ f) × (0 < f.number)
+unfolding verdict
+verdict_err f r h = verdict_told f (eqb f.number 0) refl (Err r) h
+
+-- bytes with no LF after them never pass
+pub unended_refused : (cs : List ℕ) → 0 < (line_fault false cs).number
+unfolding line_fault
+unended_refused cs = by (ltb 0 (first_bad 1 cs)) (ltb 80 (length cs))
+  where
+    by : (bad long : Bool) → 0 < (pick bad (refusal 2 (first_bad 1 cs)) (pick long (refusal 3 1) (refusal 4 1))).number
+    by true long = omega arith
+    by false true = omega arith
+    by false false = omega arith
+
+pub unended_err : (cs : List ℕ) → Ok tt ≡ verdict (line_fault false cs) → ⊥
+unended_err cs h = let z : (line_fault false cs).number ≡ 0 = verdict_ok _ h in omega (arith, unended_refused cs)

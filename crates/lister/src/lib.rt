@@ -1,4 +1,5 @@
 // Document 01's lister: where the sets of a file stand.
+// An `as` is proved to lose nothing; where one stands, std has no From between the two types, and `try_from` would ask for an answer to an error that cannot be.
 #![tactic(auto)]
 
 ghost use Rattle.std.specs.Prelude.{◌≡◌, ◌++◌, ◌+◌, ◌*◌, ◌≤◌, ◌<◌, length, take, drop};
@@ -16,13 +17,6 @@ use walk::{Place, State};
 
 // How many places a set has in the rows.
 pub const ROW_NUMBERS: usize = 7;
-
-// The judge's reply, and for an accepted file how many sets it has.
-#[derive(Clone, Copy)]
-pub struct Judged {
-    pub reply: Reply,
-    pub sets: u32,
-}
 
 // What line 7 of a 58 declares, its case and its count, and the first byte of its data lines.
 #[derive(Clone, Copy)]
@@ -56,33 +50,30 @@ pub struct Listed {
     pub through: usize,
 }
 
-// Judges a file, and counts its sets on the way.
-fn judge_sets(file: &[u8]) -> Judged
+// How many sets an accepted file has, counted as it is judged; of any other the judge's reply.
+fn judge_sets(file: &[u8]) -> Result<u32, Reply>
     ensures { Counted file.now result }
 {
     if 16777216 < file.len() {
-        return Judged {
-            reply: judge::bare_reply(1, 0),
-            sets: 0,
-        };
+        return Err(judge::bare_reply(1, 0));
     }
     let start = State {
         place: Place::Outside,
         sets: 0,
     };
-    let read = judge::judge_lines(start, 0, file, 0);
-    if 0 < read.number {
-        return Judged {
-            reply: judge::reply_at(read.number, read.lines + 1, read.column),
-            sets: 0,
-        };
+    let read = match judge::judge_lines(start, 0, file, 0) {
+        Ok(read) => read,
+        Err(stop) => return Err(judge::reply_at(
+            stop.fault.number,
+            stop.read.lines + 1,
+            stop.fault.column,
+        )),
+    };
+    let reply = judge::finish(read.state, read.lines, &file[read.at..]);
+    if 0 < reply.number {
+        return Err(reply);
     }
-    let at = read.at;
-    let state = read.state;
-    Judged {
-        reply: judge::finish(state, read.lines, &file[at..]),
-        sets: state.sets,
-    }
+    Ok(read.state.sets)
 }
 
 // Lays out the 80 columns of the line that begins at byte `at`; the byte past its LF.
@@ -135,7 +126,7 @@ fn next_listed(file: &[u8], from: usize, before: usize) -> Listed
     requires { (from ≤ length file.now) × ((before ≤ from) × (AllComplete (remaining file.now before from) × (0 < length (remaining file.now before from)))) }
     ensures { result ≡ listed_first (remaining file.now before from) }
 {
-    let opening = find_delimiter(file, from, before);
+    let opening = find_delimiter(file, from, before).unwrap();
     let line = opening.past;
     let end = line::find_end(file, line);
     let number = parts::line_number(&file[line..end]);
@@ -153,7 +144,7 @@ fn next_listed(file: &[u8], from: usize, before: usize) -> Listed
             through: opening.lines + f.lines + 3,
         };
     }
-    let closing = find_delimiter(file, body, opening.lines + 2);
+    let closing = find_delimiter(file, body, opening.lines + 2).unwrap();
     Listed {
         lines: opening.lines,
         number,
@@ -185,14 +176,13 @@ fn put_rows(file: &[u8], sets: usize, rows: &mut [u32])
     requires { (length file.now ≤ 16777216) × ((sets ≡ length (parts_of file.now)) × (AllComplete (parts_of file.now) × (row_numbers * sets ≤ length rows.old))) }
     ensures { rows.new ≡ rows_of (parts_of file.now) ++ drop (row_numbers * length (parts_of file.now)) rows.old }
 {
-    let mut i = 0;
     let mut at = 0;
     let mut lines = 0;
-    while i < ROW_NUMBERS * sets {
+    for k in 0..sets {
         let l = next_listed(file, at, lines);
+        let i = ROW_NUMBERS * k;
         let past = i + ROW_NUMBERS;
         put_row(&mut rows[i..past], l);
-        i = past;
         at = l.past;
         lines = l.through;
     }
@@ -202,12 +192,10 @@ fn put_rows(file: &[u8], sets: usize, rows: &mut [u32])
 pub fn list(file: &[u8], rows: &mut [u32]) -> Reply
     ensures { (result ≡ list_reply file.now (length rows.old)) × (rows.new ≡ list_rows file.now rows.old) }
 {
-    let judged = judge_sets(file);
-    let reply = judged.reply;
-    if 0 < reply.number {
-        return reply;
-    }
-    let sets = judged.sets as usize;
+    let sets = match judge_sets(file) {
+        Ok(sets) => sets as usize,
+        Err(reply) => return reply,
+    };
     if rows.len() < ROW_NUMBERS * sets {
         return judge::bare_reply(17, 0);
     }

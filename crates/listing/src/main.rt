@@ -2,12 +2,11 @@
 #![tactic(auto)]
 
 ghost use Rattle.std.specs.Prelude.{◌*◌, ◌≤◌, ◌≡◌, length};
-ghost use Rattle.std.specs.Io.{ReadsAtMost};
 ghost use Rattle.lister.specs.Lister.{row_numbers};
 
 use lister::ROW_NUMBERS;
 use std::io;
-use std::io::{Input, Read};
+use std::io::Input;
 
 // The program's own limit on a file.
 const LIMIT: usize = 32768;
@@ -15,7 +14,7 @@ const LIMIT: usize = 32768;
 // Places for the rows, seven a set: a set has at least 21 bytes, so a file within the limit has at most 1,560. One row is to spare.
 const PLACES: usize = 10927;
 
-// The one line of a refusal.
+// The one line of a refusal. `receive` has the same: a shared one would be public, and no contract says what is printed.
 fn show_refusal(rt: &impl Print, number: u8, place: usize) -> io::Result<()> {
     println!(rt; "refused {number} at line {place}")
 }
@@ -31,12 +30,11 @@ fn show_set(rt: &impl Print, set: usize, row: &[u32]) -> io::Result<()>
 fn show_sets(rt: &impl Print, rows: &[u32], sets: usize) -> io::Result<()>
     requires { row_numbers * sets ≤ length rows.now }
 {
-    let mut set = 0;
-    while set < sets {
-        let from = ROW_NUMBERS * set;
-        let past = from + ROW_NUMBERS;
-        set += 1;
-        show_set(rt, set, &rows[from..past])?;
+    for (set, row) in rows[..ROW_NUMBERS * sets]
+        .chunks_exact(ROW_NUMBERS)
+        .enumerate()
+    {
+        show_set(rt, set + 1, row)?;
     }
     Ok(())
 }
@@ -53,25 +51,10 @@ fn show_file(rt: &impl Print, file: &[u8]) -> io::Result<()> {
     println!(rt; "accepted {}", reply.place)
 }
 
-// Reads until the buffer is full or the input ends; how many bytes stand at the buffer's start then.
-fn read_full(input: &mut impl Read, buffer: &mut [u8]) -> io::Result<usize>
-    ensures { ReadsAtMost result buffer.new }
-{
-    let mut filled = 0;
-    while filled < buffer.len() {
-        let n = input.read(&mut buffer[filled..])?;
-        if n == 0 {
-            break;
-        }
-        filled += n;
-    }
-    Ok(filled)
-}
-
 // Reads one byte past the limit, and so sees a file that is too long.
 fn main(rt: HostRuntime) -> io::Result<()> {
     let mut file = [0u8; LIMIT + 1];
-    let n = read_full(&mut rt.reader(), &mut file)?;
+    let n = intake::read_full(&mut rt.reader(), &mut file)?;
     if LIMIT < n {
         return show_refusal(&rt, 1, 0);
     }

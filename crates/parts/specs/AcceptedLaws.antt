@@ -18,25 +18,23 @@ use Rattle.walk.specs.declared.Place.{Place}
 use Rattle.walk.specs.declared.Place.TheVariants.{Outside, Number, Plain, Typed}
 use Rattle.walk.specs.declared.Due.{Due}
 use Rattle.walk.specs.declared.State.{State}
-use Rattle.walk.specs.declared.Outcome.{Outcome}
-use Rattle.walk.specs.declared.Outcome.TheVariants.{Next, Refused}
+use Rattle.std.specs.Prelude.{Result, Ok, Err}
 use Rattle.walk.specs.Due.{opening, may_close, may_continue, row_due, after}
 use Rattle.walk.specs.Step.{state, start, unless, outside_step, number_step, plain_step, typed_step, place_step, step_of}
 use Rattle.walk.specs.Step as Walk
 use Rattle.judge.specs.declared.Reply.{Reply}
-use Rattle.judge.specs.declared.Lines.{Lines}
 use Rattle.judge.specs.Judge.{reply, at_line, line_outcome, line_step, Run, going, refused, on_outcome, run_step, at_end, run_end, judged}
 use Rattle.judge.specs.JudgeLaws.{over_refused}
 use Rattle.judge.specs.RefusalLaws.{refusal_sure}
-use Rattle.judge.specs.Lines.{LinesJudged}
+use Rattle.judge.specs.Lines.{Account, LinesJudged}
 use Rattle.parts.specs.Parts.{columns_in, closes, Part, part, PartState, outside, opened, inside, next, ended, parts_from, parts_of}
 use Rattle.parts.specs.SixLaws.{delimiter_six, number_six}
 use Rattle.parts.specs.Accepted.{Alike, out, number, plain, typed, open_in, AllSixes, none, more, Stepped, Walked}
 
-never : {A : Type 0} (f : Refusal) (t : State) → Refused f ≡ Next t → A
+never : {A : Type 0} (f : Refusal) (t : State) → Err f ≡ Ok t → A
 never f t e = let z : ◌≡◌ {A = ℕ} 0 1 = cc in absurd (omega arith)
 
-stepped_to : (pl : Place) (k : ℕ) (t u : State) (p : PartState) (n at : ℕ) (l : List ℕ) → Next u ≡ Next t → Stepped pl k u p n at l → Stepped pl k t p n at l
+stepped_to : (pl : Place) (k : ℕ) (t u : State) (p : PartState) (n at : ℕ) (l : List ℕ) → ◌≡◌ {A = Result State Refusal} (Ok u) (Ok t) → Stepped pl k u p n at l → Stepped pl k t p n at l
 stepped_to pl k t u p n at l e s = let z : t ≡ u = cc in rw z s
 
 -- a blank line is no delimiter
@@ -61,7 +59,7 @@ all_append (more s p) q = more s (all_append p q)
 
 module _ (k n at : ℕ) (l : List ℕ) (t : State) where
   outside_by : (a d c : Bool) → all_blank (columns_in l) ≡ a → is_delimiter (columns_in l) ≡ d
-      → pick a (Next (state Outside k)) (pick d (pick c (Next (state Number (k + 1))) (Refused (refusal 15 1))) (Refused (refusal 5 1))) ≡ Next t
+      → pick a (Ok (state Outside k)) (pick d (pick c (Ok (state Number (k + 1))) (Err (refusal 15 1))) (Err (refusal 5 1))) ≡ Ok t
       → Stepped Outside k t outside n at l
   unfolding closes
   outside_by true true c p q h = absurd (blank_open l p q)
@@ -70,18 +68,18 @@ module _ (k n at : ℕ) (l : List ℕ) (t : State) where
   outside_by false true false p q h = never _ t h
   outside_by false false c p q h = never _ t h
 
-  outside_step_lem : outside_step k (columns_in l) ≡ Next t → Stepped Outside k t outside n at l
+  outside_step_lem : outside_step k (columns_in l) ≡ Ok t → Stepped Outside k t outside n at l
   unfolding outside_step
   outside_step_lem h = outside_by (all_blank (columns_in l)) (is_delimiter (columns_in l)) (ltb k 4096) refl refl h
 
   number_by_lem : (m b : ℕ) (o : List ℕ) (c u : Bool) → 6 ≤ length o → ltb 0 (dataset_number (columns_in l)) ≡ c
-      → pick c (Next (state (pick u (Typed (opening (kind_of (dataset_number (columns_in l))))) Plain) k)) (Refused (refusal 6 1)) ≡ Next t
+      → pick c (Ok (state (pick u (Typed (opening (kind_of (dataset_number (columns_in l))))) Plain) k)) (Err (refusal 6 1)) ≡ Ok t
       → Stepped Number k t (opened m b o) n at l
   number_by_lem m b o true true g q h = stepped_to _ _ _ _ _ _ _ _ h (record { alike = typed g (number_long l q); count = omega arith; sixes = none })
   number_by_lem m b o true false g q h = stepped_to _ _ _ _ _ _ _ _ h (record { alike = plain g (number_long l q); count = omega arith; sixes = none })
   number_by_lem m b o false u g q h = never _ t h
 
-  number_step_lem : (m b : ℕ) (o : List ℕ) → 6 ≤ length o → number_step k (columns_in l) ≡ Next t → Stepped Number k t (opened m b o) n at l
+  number_step_lem : (m b : ℕ) (o : List ℕ) → 6 ≤ length o → number_step k (columns_in l) ≡ Ok t → Stepped Number k t (opened m b o) n at l
   unfolding number_step Walk.opened
   number_step_lem m b o g h = number_by_lem m b o (ltb 0 (dataset_number (columns_in l))) (is_typed (dataset_number (columns_in l))) g refl h
 
@@ -89,22 +87,22 @@ module _ (k n at : ℕ) (l : List ℕ) (t : State) where
     closed : is_delimiter (columns_in l) ≡ true → AllSixes (part m b o v ls l ∷ [])
     closed q = more (record { opening = x; number = y; closing = delimiter_long l q }) none
 
-    plain_by : (d : Bool) → is_delimiter (columns_in l) ≡ d → pick d (Next (state Outside k)) (Next (state Plain k)) ≡ Next t → Stepped Plain k t (inside m b o v ls) n at l
+    plain_by : (d : Bool) → is_delimiter (columns_in l) ≡ d → pick {A = Result State Refusal} d (Ok (state Outside k)) (Ok (state Plain k)) ≡ Ok t → Stepped Plain k t (inside m b o v ls) n at l
     unfolding closes
     plain_by true q h = stepped_to _ _ _ _ _ _ _ _ h (record { alike = rw q out; count = rw q (omega arith); sixes = rw q (closed q) })
     plain_by false q h = stepped_to _ _ _ _ _ _ _ _ h (record { alike = rw q (plain x y); count = rw q (omega arith); sixes = rw q none })
 
-    plain_step_lem : plain_step k (columns_in l) ≡ Next t → Stepped Plain k t (inside m b o v ls) n at l
+    plain_step_lem : plain_step k (columns_in l) ≡ Ok t → Stepped Plain k t (inside m b o v ls) n at l
     unfolding plain_step
     plain_step_lem h = plain_by (is_delimiter (columns_in l)) refl h
 
     -- a row's refusal, or the state that follows
-    unless_by : (f : Refusal) (u : State) (j : ℕ) → f.number ≡ j → unless f u ≡ Next t → Next u ≡ Next t
+    unless_by : (f : Refusal) (u : State) (j : ℕ) → f.number ≡ j → unless f u ≡ Ok t → ◌≡◌ {A = Result State Refusal} (Ok u) (Ok t)
     unless_by f u zero e h = rw e at h
     unless_by f u (suc j) e h = never _ t (rw e at h)
 
     typed_by : (w z : Due) (f : Refusal) (d c e : Bool) → is_delimiter (columns_in l) ≡ d
-        → pick d (pick c (Next (state Outside k)) (Refused (refusal 7 1))) (pick e (unless f (state (Typed z) k)) (Refused (refusal 8 1))) ≡ Next t
+        → pick d (pick c (Ok (state Outside k)) (Err (refusal 7 1))) (pick e (unless f (state (Typed z) k)) (Err (refusal 8 1))) ≡ Ok t
         → Stepped (Typed w) k t (inside m b o v ls) n at l
     unfolding closes
     typed_by w z f true true e q h = stepped_to _ _ _ _ _ _ _ _ h (record { alike = rw q out; count = rw q (omega arith); sixes = rw q (closed q) })
@@ -112,12 +110,12 @@ module _ (k n at : ℕ) (l : List ℕ) (t : State) where
     typed_by w z f false c true q h = stepped_to _ _ _ _ _ _ _ _ (unless_by f _ f.number refl h) (record { alike = rw q (typed x y); count = rw q (omega arith); sixes = rw q none })
     typed_by w z f false c false q h = never _ t h
 
-    typed_step_lem : (w : Due) → typed_step w k (columns_in l) ≡ Next t → Stepped (Typed w) k t (inside m b o v ls) n at l
+    typed_step_lem : (w : Due) → typed_step w k (columns_in l) ≡ Ok t → Stepped (Typed w) k t (inside m b o v ls) n at l
     unfolding typed_step
     typed_step_lem w h =
         typed_by w (after w (columns_in l)) (row_refusal (row_due w) (columns_in l)) (is_delimiter (columns_in l)) (may_close w) (may_continue w) refl h
 
-  place_step_lem : (pl : Place) (p : PartState) → Alike pl p → place_step pl k (columns_in l) ≡ Next t → Stepped pl k t p n at l
+  place_step_lem : (pl : Place) (p : PartState) → Alike pl p → place_step pl k (columns_in l) ≡ Ok t → Stepped pl k t p n at l
   place_step_lem Outside outside out h = outside_step_lem h
   place_step_lem Number (opened m b o) (number g) h = number_step_lem m b o g h
   place_step_lem Plain (inside m b o v ls) (plain x y) h = plain_step_lem m b o v ls x y h
@@ -132,11 +130,11 @@ module _ (k n at : ℕ) (l : List ℕ) (t : State) where
   place_step_lem (Typed d) (opened m b o) x7 h = elim x7 [ ]
 
 -- a line's own refusals come before
-own_by : (s t : State) (f : Refusal) (cs : List ℕ) (j : ℕ) → f.number ≡ j → line_outcome s f cs ≡ Next t → step_of s (filled cs) ≡ Next t
+own_by : (s t : State) (f : Refusal) (cs : List ℕ) (j : ℕ) → f.number ≡ j → line_outcome s f cs ≡ Ok t → step_of s (filled cs) ≡ Ok t
 own_by s t f cs zero e h = rw e at h
 own_by s t f cs (suc j) e h = never _ t (rw e at h)
 
-line_step_lem : (s t : State) (p : PartState) (n at : ℕ) (l : List ℕ) → Alike s.place p → line_step s l ≡ Next t → Stepped s.place s.sets t p n at l
+line_step_lem : (s t : State) (p : PartState) (n at : ℕ) (l : List ℕ) → Alike s.place p → line_step s l ≡ Ok t → Stepped s.place s.sets t p n at l
 unfolding line_step step_of
 line_step_lem s t p n at l a h =
     let f : Refusal = line_fault true (columns true l) in
@@ -146,17 +144,17 @@ line_step_lem s t p n at l a h =
 stopped : {A : Type 0} (r : Reply) (ls : List (List ℕ)) (t : State) (m : ℕ) → over run_step (refused r) ls ≡ going t m → A
 stopped r ls t m h = let e : refused r ≡ going t m = sym (over_refused r ls) ∙ h in let z : ◌≡◌ {A = ℕ} 0 1 = cc in absurd (omega arith)
 
-ran_on : (s : State) (p : PartState) (c n at m : ℕ) (l : List ℕ) (ls : List (List ℕ)) (t : State) (o : Outcome) → Alike s.place p → line_step s l ≡ o
+ran_on : (s : State) (p : PartState) (c n at m : ℕ) (l : List ℕ) (ls : List (List ℕ)) (t : State) (o : Result State Refusal) → Alike s.place p → line_step s l ≡ o
     → over run_step (on_outcome c o) ls ≡ going t m
     → ((u : State) → Alike u.place (next p n at l) → over run_step (going u (c + 1)) ls ≡ going t m
     → Walked u t (parts_from (next p n at l) (suc n) (at + suc (length l)) ls))
     → Walked s t (ended p l ++ parts_from (next p n at l) (suc n) (at + suc (length l)) ls)
-ran_on s p c n at m l ls t (Next u) a q h ih =
+ran_on s p c n at m l ls t (Ok u) a q h ih =
     let x = line_step_lem s u p n at l a q in
     let y = ih u x.alike h in
     let both = length-append (ended p l) (parts_from (next p n at l) (suc n) (at + suc (length l)) ls) in
     record { count = omega (arith, x.count, y.count, both); sixes = all_append x.sixes y.sixes }
-ran_on s p c n at m l ls t (Refused f) a q h ih = stopped _ ls t m h
+ran_on s p c n at m l ls t (Err f) a q h ih = stopped _ ls t m h
 
 ran : (ls : List (List ℕ)) (s : State) (p : PartState) (c n at m : ℕ) (t : State) → Alike s.place p → over run_step (going s c) ls ≡ going t m
     → Walked s t (parts_from p n at ls)
@@ -189,7 +187,7 @@ file_walked : (file : List ℕ) (s : State) (n : ℕ) → going s n ≡ over run
 unfolding parts_of
 file_walked file s n g = ran (cut file).lines start outside 0 0 0 n s out (sym g)
 
-pub sets_opened : (file rest : List ℕ) (r : Lines) → LinesJudged start 0 file 0 r → r.number ≡ 0 → (run_end (going r.state r.lines) rest).number ≤ 0
+pub sets_opened : (file rest : List ℕ) (r : Account) → LinesJudged start 0 file 0 r → r.number ≡ 0 → (run_end (going r.state r.lines) rest).number ≤ 0
     → r.state.sets ≡ length (parts_of file)
 sets_opened file rest r j z h =
     let g : going r.state r.lines ≡ over run_step (going start 0) (cut file).lines = rw z at j.run in
@@ -197,10 +195,10 @@ sets_opened file rest r j z h =
     omega (arith, (file_walked file r.state r.lines g).count)
 
 -- a file that is accepted is not refused on its way
-some_by : (s : State) (c : ℕ) (l : List ℕ) (ls : List (List ℕ)) (r : Reply) (o : Outcome) → line_step s l ≡ o → over run_step (on_outcome c o) ls ≡ refused r
+some_by : (s : State) (c : ℕ) (l : List ℕ) (ls : List (List ℕ)) (r : Reply) (o : Result State Refusal) → line_step s l ≡ o → over run_step (on_outcome c o) ls ≡ refused r
     → ((u : State) → over run_step (going u (c + 1)) ls ≡ refused r → 0 < r.number) → 0 < r.number
-some_by s c l ls r (Next u) q h ih = ih u h
-some_by s c l ls r (Refused f) q h ih =
+some_by s c l ls r (Ok u) q h ih = ih u h
+some_by s c l ls r (Err f) q h ih =
     let e : refused (at_line c f) ≡ refused r = sym (over_refused (at_line c f) ls) ∙ h in
     let z : at_line c f ≡ r = cc in
     rw (← z) (refusal_sure s l f q)

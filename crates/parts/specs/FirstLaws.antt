@@ -1,23 +1,23 @@
 -- The first set of a file by its two delimiters, and where its last line begins.
-use Rattle.std.specs.Prelude.{◌≡◌, Bool, true, false, eqb, drop}
+use Rattle.std.specs.Prelude.{◌≡◌, Bool, true, false, Some, None, eqb, drop}
 use Rattle.std.proofs.Math.Path.{refl, sym, ap}
 use Rattle.std.proofs.Common.{subst, ◌∙◌, ⊎_elim, add-one, get_or-drop, length-take-le, take_all}
 use mathlib.Core.List.{List, [], ◌∷◌, ◌++◌, append_assoc, append-nil}
 use Prim.Native.Nat.{ℕ, zero, suc, ◌+◌, ◌-◌, ◌≤◌, ◌<◌}
 use native.Mathlib.Omega.{arith}
 use Rattle.std.proofs.lemmas.Bool.{eqb-false}
+use Rattle.std.proofs.lemmas.Option.{none-some}
 use Rattle.std.proofs.Math.ListN.{length, get_or, take, length-append}
 use Rattle.std.proofs.Math.Seq.{take-suc}
 use Rattle.laws.specs.Choice.{pick}
-use Rattle.laws.specs.ChoiceLaws.{below_or_not, false_not_true}
+use Rattle.laws.specs.ChoiceLaws.{below_or_not}
 use Rattle.laws.specs.Cut.{cut, line_len}
 use Rattle.line.specs.LineLaws.{line_len_most}
 use Rattle.delimiter.specs.Kind.{dataset_number}
-use Rattle.parts.specs.declared.Extent.{Extent}
 use Rattle.parts.specs.declared.Mark.{Mark}
 use Rattle.parts.specs.Parts.{columns_in, closes, bytes_in, Part, part, Past, outside, opened, inside, parts_from, dataset_of, line_start, last_start, closing_start, past_of, through_of}
 use Rattle.parts.specs.PartsLaws.{bytes_in_append, lines_at_lem, line_length, lines_end, lines_past}
-use Rattle.parts.specs.Scan.{extent, nowhere, first_of}
+use Rattle.parts.specs.Scan.{extent, first_of}
 use Rattle.parts.specs.Set.{remaining}
 use Rattle.parts.specs.SetLaws.{line_len_end, line_ends, first_line, lines_bytes}
 use Rattle.parts.specs.Mark.{mark, mark_from, marked, Marked, LastLine}
@@ -27,29 +27,30 @@ record Unmarked (n at : ℕ) (ls : List (List ℕ)) : Type 0 where
   opens : parts_from outside n at ls ≡ []
   ends : (a b : ℕ) (o v : List ℕ) (bs : List (List ℕ)) → parts_from (inside a b o v bs) n at ls ≡ []
 
-unmarked_by : (n at : ℕ) (l : List ℕ) (ls : List (List ℕ)) (m : Mark) (t : Bool) → closes l ≡ t
-    → m ≡ pick t (mark n at (at + suc (length l))) (mark_from (suc n) (at + suc (length l)) ls) → m.found ≡ false
-    → (m ≡ mark_from (suc n) (at + suc (length l)) ls → Unmarked (suc n) (at + suc (length l)) ls) → Unmarked n at (l ∷ ls)
+unmarked_by : (n at : ℕ) (l : List ℕ) (ls : List (List ℕ)) (t : Bool) → closes l ≡ t
+    → None ≡ pick t (Some (mark n at (at + suc (length l)))) (mark_from (suc n) (at + suc (length l)) ls)
+    → (None ≡ mark_from (suc n) (at + suc (length l)) ls → Unmarked (suc n) (at + suc (length l)) ls) → Unmarked n at (l ∷ ls)
 unfolding parts_from
-unmarked_by n at l ls m true c e h ih = false_not_true (sym h ∙ ap (λ (x : Mark). x.found) e)
-unmarked_by n at l ls m false c e h ih =
+unmarked_by n at l ls true c e ih = absurd (none-some _ e)
+unmarked_by n at l ls false c e ih =
     let r = ih e in
     record { opens = rw c r.opens; ends = λ a b o v bs. rw c (r.ends a b o v (bs ++ (l ∷ []))) }
 
-unmarked : (n at : ℕ) (ls : List (List ℕ)) (m : Mark) → m ≡ mark_from n at ls → m.found ≡ false → Unmarked n at ls
+unmarked : (n at : ℕ) (ls : List (List ℕ)) → None ≡ mark_from n at ls → Unmarked n at ls
 unfolding parts_from mark_from
-unmarked n at [] m e h = record { opens = refl; ends = λ a b o v bs. refl }
-unmarked n at (l ∷ ls) m e h = unmarked_by n at l ls m (closes l) refl e h (λ q. unmarked (suc n) (at + suc (length l)) ls m q h)
+unmarked n at [] e = record { opens = refl; ends = λ a b o v bs. refl }
+unmarked n at (l ∷ ls) e = unmarked_by n at l ls (closes l) refl e (unmarked (suc n) (at + suc (length l)) ls)
 
 -- a delimiter
 marked_by : (n at : ℕ) (l : List ℕ) (ls : List (List ℕ)) (m : Mark) (t : Bool) → closes l ≡ t
-    → m ≡ pick t (mark n at (at + suc (length l))) (mark_from (suc n) (at + suc (length l)) ls)
-    → (m ≡ mark_from (suc n) (at + suc (length l)) ls → Marked (suc n) (at + suc (length l)) ls m) → Marked n at (l ∷ ls) m
+    → Some m ≡ pick t (Some (mark n at (at + suc (length l)))) (mark_from (suc n) (at + suc (length l)) ls)
+    → (Some m ≡ mark_from (suc n) (at + suc (length l)) ls → Marked (suc n) (at + suc (length l)) ls m) → Marked n at (l ∷ ls) m
 unfolding parts_from bytes_in
 marked_by n at l ls m true c e ih =
-    let x : m.lines ≡ n = ap (λ (y : Mark). y.lines) e in
-    let y : m.at ≡ at = ap (λ (y : Mark). y.at) e in
-    let z : m.past ≡ at + suc (length l) = ap (λ (y : Mark). y.past) e in
+    let same : m ≡ mark n at (at + suc (length l)) = cc in
+    let x : m.lines ≡ n = ap (λ (y : Mark). y.lines) same in
+    let y : m.at ≡ at = ap (λ (y : Mark). y.at) same in
+    let z : m.past ≡ at + suc (length l) = ap (λ (y : Mark). y.past) same in
     record {
       before = [];
       line = l;
@@ -75,10 +76,10 @@ marked_by n at l ls m false c e ih =
       ends = λ a b o v bs. rw c (r.ends a b o v (bs ++ (l ∷ [])) ∙ rw (append_assoc bs (l ∷ []) r.before) refl);
     }
 
-pub marked_found : (n at : ℕ) (ls : List (List ℕ)) (m : Mark) → m ≡ mark_from n at ls → m.found ≡ true → Marked n at ls m
+pub marked_found : (n at : ℕ) (ls : List (List ℕ)) (m : Mark) → Some m ≡ mark_from n at ls → Marked n at ls m
 unfolding mark_from
-marked_found n at [] m e h = false_not_true (sym (ap (λ (x : Mark). x.found) e) ∙ h)
-marked_found n at (l ∷ ls) m e h = marked_by n at l ls m (closes l) refl e (λ q. marked_found (suc n) (at + suc (length l)) ls m q h)
+marked_found n at [] m e = absurd (none-some _ (sym e))
+marked_found n at (l ∷ ls) m e = marked_by n at l ls m (closes l) refl e (marked_found (suc n) (at + suc (length l)) ls m)
 
 -- no byte of a line is an LF
 before_end : (l : List ℕ) (k : ℕ) → k < line_len l → get_or l k 0 ≡ 10 → ⊥
@@ -148,7 +149,7 @@ module _ (f : List ℕ) where
         rw z (last_from q l post (c ∙ ap (λ (x : List (List ℕ)). x ++ post) d ∙ append_assoc q (l ∷ []) post) (omega arith))
 
 -- a set that is not closed, or not opened, is none
-none_first : (ps : List Part) → ps ≡ [] → nowhere ≡ first_of ps
+none_first : (ps : List Part) → ps ≡ [] → None ≡ first_of ps
 unfolding first_of
 none_first ps e = rw e refl
 
@@ -187,17 +188,17 @@ pub record Bounds (f : List ℕ) (m : Mark) (e : ℕ) (c : Mark) (p : Part) : Ty
 
 -- where a set stands, by its numbers
 extent_of : (p : Part) (ps : List Part) (v b l c e t : ℕ) → v ≡ dataset_of p → b ≡ line_start p 0 → l ≡ last_start p → c ≡ closing_start p → e ≡ past_of p → t ≡ through_of p
-    → extent p.lines p.bytes v b l c e t ≡ first_of (p ∷ ps)
+    → Some (extent p.lines p.bytes v b l c e t) ≡ first_of (p ∷ ps)
 unfolding first_of
 extent_of p ps v b l c e t q r w x y z = rw (q, r, w, x, y, z) refl
 
-module _ (f : List ℕ) (n at : ℕ) (a : at ≤ length f) (few : n ≤ at) (m : Mark) (q : m ≡ marked f n at) where
-  pub never_opened : m.found ≡ false → nowhere ≡ first_of (remaining f n at)
-  never_opened h = none_first _ (unmarked n at _ m q h).opens
+module _ (f : List ℕ) (n at : ℕ) (a : at ≤ length f) (few : n ≤ at) where
+  pub never_opened : None ≡ marked f n at → None ≡ first_of (remaining f n at)
+  never_opened q = none_first _ (unmarked n at _ q).opens
 
-  module _ (h : m.found ≡ true) where
+  module _ (m : Mark) (q : Some m ≡ marked f n at) where
     abbrev opening : Marked n at (cut (drop at f)).lines m
-    opening = marked_found n at (cut (drop at f)).lines m q h
+    opening = marked_found n at (cut (drop at f)).lines m q
 
     past_at : m.past ≡ m.at + suc (length opening.line)
     past_at = mark_past n at _ m opening
@@ -210,7 +211,7 @@ module _ (f : List ℕ) (n at : ℕ) (a : at ≤ length f) (few : n ≤ at) (m :
 
     -- no number line, or one up to the byte e
     module _ (e : ℕ) (r : e ≡ m.past + line_len (drop m.past f)) where
-      pub never_numbered : length f ≤ e → nowhere ≡ first_of (remaining f n at)
+      pub never_numbered : length f ≤ e → None ≡ first_of (remaining f n at)
       unfolding parts_from
       never_numbered k =
           let z : opening.after ≡ [] = sym after_it ∙ lines_end f m.past e fits.within r k in
@@ -234,82 +235,72 @@ module _ (f : List ℕ) (n at : ℕ) (a : at ≤ length f) (few : n ≤ at) (m :
             ∙ ap (λ (x : List (List ℕ)). parts_from (opened m.lines m.at opening.line) (m.lines + 1) m.past x) number_at
             ∙ rw (number_past, z) refl
 
-        module _ (c : Mark) (s : c ≡ marked f (m.lines + 2) (e + 1)) where
-          pub never_closed : c.found ≡ false → nowhere ≡ first_of (remaining f n at)
-          never_closed j = none_first _ (inside_it ∙ (unmarked (m.lines + 2) (e + 1) _ c s j).ends m.lines m.at opening.line number [])
+        pub never_closed : None ≡ marked f (m.lines + 2) (e + 1) → None ≡ first_of (remaining f n at)
+        never_closed s = none_first _ (inside_it ∙ (unmarked (m.lines + 2) (e + 1) _ s).ends m.lines m.at opening.line number [])
 
-          pub closing_fits : c.found ≡ true → Fits f (e + 1) c
-          closing_fits j =
+        module _ (c : Mark) (s : Some c ≡ marked f (m.lines + 2) (e + 1)) where
+          pub closing_fits : Fits f (e + 1) c
+          closing_fits =
               let o = fits in
-              mark_fits f (m.lines + 2) (e + 1) c (omega arith) (omega (arith, o.lines, o.later)) (marked_found (m.lines + 2) (e + 1) _ c s j)
+              mark_fits f (m.lines + 2) (e + 1) c (omega arith) (omega (arith, o.lines, o.later)) (marked_found (m.lines + 2) (e + 1) _ c s)
 
-          module _ (j : c.found ≡ true) where
-            abbrev closing : Marked (m.lines + 2) (e + 1) (cut (drop (e + 1) f)).lines c
-            closing = marked_found (m.lines + 2) (e + 1) (cut (drop (e + 1) f)).lines c s j
+          abbrev closing : Marked (m.lines + 2) (e + 1) (cut (drop (e + 1) f)).lines c
+          closing = marked_found (m.lines + 2) (e + 1) (cut (drop (e + 1) f)).lines c s
 
-            abbrev set : Part
-            set = part m.lines m.at opening.line number closing.before closing.line
+          abbrev set : Part
+          set = part m.lines m.at opening.line number closing.before closing.line
 
-            set_first : remaining f n at ≡ set ∷ parts_from outside (c.lines + 1) c.past closing.after
-            set_first = inside_it ∙ closing.ends m.lines m.at opening.line number []
+          set_first : remaining f n at ≡ set ∷ parts_from outside (c.lines + 1) c.past closing.after
+          set_first = inside_it ∙ closing.ends m.lines m.at opening.line number []
 
-            bounds : Bounds f m e c set
-            unfolding dataset_of line_start closing_start past_of through_of bytes_in
-            bounds = record {
-              lines = refl;
-              first = refl;
-              number = refl;
-              body = omega (arith, past_at, number_past);
-              closing = omega (arith, past_at, number_past, closing.bytes);
-              past = omega (arith, past_at, number_past, closing.past);
-              through = omega (arith, closing.count, length-append closing.before (closing.line ∷ []));
-            }
+          bounds : Bounds f m e c set
+          unfolding dataset_of line_start closing_start past_of through_of bytes_in
+          bounds = record {
+            lines = refl;
+            first = refl;
+            number = refl;
+            body = omega (arith, past_at, number_past);
+            closing = omega (arith, past_at, number_past, closing.bytes);
+            past = omega (arith, past_at, number_past, closing.past);
+            through = omega (arith, closing.count, length-append closing.before (closing.line ∷ []));
+          }
 
-            pub set_bounds : (p : Part) (ps : List Part) → remaining f n at ≡ p ∷ ps → Bounds f m e c p
-            set_bounds p ps q =
-                let w : set ∷ parts_from outside (c.lines + 1) c.past closing.after ≡ p ∷ ps = sym set_first ∙ q in
-                let z : set ≡ p = cc in
-                subst (Bounds f m e c) z bounds
+          pub set_bounds : (p : Part) (ps : List Part) → remaining f n at ≡ p ∷ ps → Bounds f m e c p
+          set_bounds p ps q =
+              let w : set ∷ parts_from outside (c.lines + 1) c.past closing.after ≡ p ∷ ps = sym set_first ∙ q in
+              let z : set ≡ p = cc in
+              subst (Bounds f m e c) z bounds
 
-            module _ (last : ℕ) (g : LastLine f (e + 1) c.at last) where
-              last_at : last ≡ last_start set
-              unfolding last_start line_start bytes_in
-              last_at =
-                  omega (arith, past_at, number_past, last_own f (e + 1) last c.at (omega arith) g closing.before _ closing.lines closing.bytes)
+          module _ (last : ℕ) (g : LastLine f (e + 1) c.at last) where
+            last_at : last ≡ last_start set
+            unfolding last_start line_start bytes_in
+            last_at =
+                omega (arith, past_at, number_past, last_own f (e + 1) last c.at (omega arith) g closing.before _ closing.lines closing.bytes)
 
-              pub set_found : (v : ℕ) → v ≡ dataset_number (columns_in number)
-                  → extent m.lines m.at v (e + 1) last c.at c.past (c.lines + 1) ≡ first_of (remaining f n at)
-              set_found v w =
-                  let b = bounds in
-                  extent_of set _ v _ _ _ _ _ (w ∙ b.number) b.body last_at b.closing b.past b.through ∙ sym (ap first_of set_first)
+            pub set_found : (v : ℕ) → v ≡ dataset_number (columns_in number)
+                → Some (extent m.lines m.at v (e + 1) last c.at c.past (c.lines + 1)) ≡ first_of (remaining f n at)
+            set_found v w =
+                let b = bounds in
+                extent_of set _ v _ _ _ _ _ (w ∙ b.number) b.body last_at b.closing b.past b.through ∙ sym (ap first_of set_first)
 
 -- where there is a set, its delimiters and its number line are found
-module _ (f : List ℕ) (n at : ℕ) (a : at ≤ length f) (few : n ≤ at) (p : Part) (ps : List Part) (h : remaining f n at ≡ p ∷ ps) (m : Mark) (q : m ≡ marked f n at) where
-  not_nowhere : {A : Type 0} → nowhere ≡ first_of (remaining f n at) → A
+module _ (f : List ℕ) (n at : ℕ) (a : at ≤ length f) (few : n ≤ at) (p : Part) (ps : List Part) (h : remaining f n at ≡ p ∷ ps) where
+  not_nowhere : {A : Type 0} → None ≡ first_of (remaining f n at) → A
   unfolding first_of
-  not_nowhere z = let w : nowhere ≡ first_of (p ∷ ps) = z ∙ ap first_of h in false_not_true (ap (λ (x : Extent). x.found) w)
+  not_nowhere z = absurd (none-some _ (z ∙ ap first_of h))
 
-  pub opening_found : m.found ≡ true
-  opening_found = by m.found refl
-    where
-      by : (t : Bool) → m.found ≡ t → m.found ≡ true
-      by true e = e
-      by false e = not_nowhere (never_opened f n at a few m q e)
+  pub opening_found : None ≡ marked f n at → ⊥
+  opening_found q = not_nowhere (never_opened f n at a few q)
 
-  module _ (e : ℕ) (r : e ≡ m.past + line_len (drop m.past f)) where
+  module _ (m : Mark) (q : Some m ≡ marked f n at) (e : ℕ) (r : e ≡ m.past + line_len (drop m.past f)) where
     pub number_ended : e < length f
-    number_ended = ⊎_elim (λ (k : e < length f). k) (λ (k : length f ≤ e). not_nowhere (never_numbered f n at a few m q opening_found e r k)) (below_or_not e (length f))
+    number_ended = ⊎_elim (λ (k : e < length f). k) (λ (k : length f ≤ e). not_nowhere (never_numbered f n at a few m q e r k)) (below_or_not e (length f))
 
     pub opening_fits : Fits f at m
-    opening_fits = fits f n at a few m q opening_found
+    opening_fits = fits f n at a few m q
 
-    module _ (c : Mark) (s : c ≡ marked f (m.lines + 2) (e + 1)) where
-      closing_found : c.found ≡ true
-      closing_found = by c.found refl
-        where
-          by : (t : Bool) → c.found ≡ t → c.found ≡ true
-          by true j = j
-          by false j = not_nowhere (never_closed f n at a few m q opening_found e r number_ended c s j)
+    pub closing_found : None ≡ marked f (m.lines + 2) (e + 1) → ⊥
+    closing_found s = not_nowhere (never_closed f n at a few m q e r number_ended s)
 
-      pub part_bounds : Bounds f m e c p
-      part_bounds = set_bounds f n at a few m q opening_found e r number_ended c s closing_found p ps h
+    pub part_bounds : (c : Mark) → Some c ≡ marked f (m.lines + 2) (e + 1) → Bounds f m e c p
+    part_bounds c s = set_bounds f n at a few m q e r number_ended c s p ps h

@@ -1,5 +1,5 @@
 -- Delimiters by where they stand in a file, and what a block of bytes says of them.
-use Rattle.std.specs.Prelude.{◌≡◌, Bool, true, false, not, ◌&&◌, List, [], ◌∷◌, ◌++◌, ℕ, suc, ◌+◌, ◌-◌, ◌≤◌, ◌<◌, eqb, length, get_or, drop}
+use Rattle.std.specs.Prelude.{◌≡◌, Bool, true, not, Option, Some, None, ◌&&◌, List, [], ◌∷◌, ◌++◌, ℕ, suc, ◌+◌, ◌-◌, ◌≤◌, ◌<◌, eqb, length, get_or, drop}
 use Rattle.laws.specs.Choice.{pick}
 use Rattle.laws.specs.Cut.{cut, line_len}
 use Rattle.parts.specs.declared.Mark.{Mark}
@@ -7,23 +7,19 @@ use Rattle.parts.specs.declared.Spot.{Spot}
 use Rattle.parts.specs.Parts.{closes, bytes_in, part, outside, opened, inside, parts_from}
 
 abbrev pub mark : ℕ → ℕ → ℕ → Mark
-mark n at e = record { found = true; lines = n; at = at; past = e }
-
--- no delimiter
-abbrev pub no_mark : Mark
-no_mark = record { found = false; lines = 0; at = 0; past = 0 }
+mark n at e = record { lines = n; at = at; past = e }
 
 -- the first delimiter among lines, which n lines and at bytes come before
-unfoldable pub mark_from : ℕ → ℕ → List (List ℕ) → Mark
-mark_from n at [] = no_mark
-mark_from n at (l ∷ ls) = pick (closes l) (mark n at (at + suc (length l))) (mark_from (suc n) (at + suc (length l)) ls)
+unfoldable pub mark_from : ℕ → ℕ → List (List ℕ) → Option Mark
+mark_from n at [] = None
+mark_from n at (l ∷ ls) = pick (closes l) (Some (mark n at (at + suc (length l)))) (mark_from (suc n) (at + suc (length l)) ls)
 
 -- the same among the lines of a file that begin at the byte at
-abbrev pub marked : List ℕ → ℕ → ℕ → Mark
+abbrev pub marked : List ℕ → ℕ → ℕ → Option Mark
 marked f n at = mark_from n at (cut (drop at f)).lines
 
 -- the same among the lines after the one that the byte i is in, which n lines come before
-unfoldable pub mark_after : List ℕ → ℕ → ℕ → Mark
+unfoldable pub mark_after : List ℕ → ℕ → ℕ → Option Mark
 mark_after f n i = marked f (n + 1) (i + line_len (drop i f) + 1)
 
 -- whether no LF of the first bytes has a minus beside it in the second

@@ -1,13 +1,14 @@
 -- A delimiter is found past blocks of bytes that hold none.
-use Rattle.std.specs.Prelude.{◌≡◌, false, ◌&&◌, get_or, drop}
+use Rattle.std.specs.Prelude.{◌≡◌, false, Some, None, ◌&&◌, get_or, drop}
 use Rattle.std.proofs.Math.Path.{refl}
-use Rattle.std.proofs.Common.{sym, ◌∙◌, add-zero, eqb-true, ne_eqb, length-take, length-drop, drop_of_length-le, get_or-take, get_or-drop, length-take-le}
+use Rattle.std.proofs.Common.{◌⊎◌, inl, inr, ap, take_at, drop_at, length-append, sym, ◌∙◌, add-zero, eqb-true, length-take, length-drop, drop_of_length-le, get_or-take, get_or-drop, length-take-le}
 use Rattle.std.proofs.Math.Logic.{⊎_elim}
 use Rattle.std.proofs.Math.Bool.{Bool, true, not}
-use mathlib.Core.List.{List, [], ◌∷◌}
+use mathlib.Core.List.{List, [], ◌∷◌, ◌++◌}
 use Prim.Native.Nat.{ℕ, zero, suc, ◌+◌, ◌-◌, ◌≤◌, ◌<◌}
 use Rattle.std.proofs.Math.Numerals.{add-one}
 use native.Mathlib.Omega.{arith}
+use mir.Val.{bool_byte}
 use Rattle.std.proofs.lemmas.Bool.{eqb-false}
 use Rattle.std.proofs.Math.Dec.{eqb}
 use Rattle.std.proofs.Math.ListN.{length, take, get_or-eq_default}
@@ -20,31 +21,35 @@ use Rattle.parts.specs.declared.Spot.{Spot}
 use Rattle.parts.specs.Parts.{closes}
 use Rattle.parts.specs.PartsLaws.{lines_at_lem, line_length, lines_end}
 use Rattle.parts.specs.ShownLaws.{closes_minus}
-use Rattle.parts.specs.Mark.{mark, no_mark, mark_from, marked, mark_after, quiet, ends_in, Passed}
+use Rattle.parts.specs.Mark.{mark, mark_from, marked, mark_after, quiet, ends_in, Passed, LastLine}
 
 -- a loop over bytes that tests them, one that counts LFs
-pub quiet_next : (t : Bool) (a b : List ℕ) (i : ℕ) → i < length a → length b ≡ length a
-    → (t && not (eqb (get_or a i 0) 10 && eqb (get_or b i 0) 45)) && quiet (drop (i + 1) a) (drop (i + 1) b) ≡ t && quiet (drop i a) (drop i b)
+pub quiet_next : (t : Bool) (b c : ℕ) (l bs m cs : List ℕ) → l ≡ b ∷ bs → m ≡ c ∷ cs → (t && not (eqb b 10 && eqb c 45)) && quiet bs cs ≡ t && quiet l m
 unfolding quiet
-quiet_next t a b i h e =
-    let k : i < length b = omega arith in
-    rw (add-one, drop-cons a i 0 h, drop-cons b i 0 k)
-    (sym (and_assoc t (not (eqb (get_or a i 0) 10 && eqb (get_or b i 0) 45)) (quiet (drop (suc i) a) (drop (suc i) b))))
+quiet_next t b c l bs m cs p q = rw (p, q) (sym (and_assoc t (not (eqb b 10 && eqb c 45)) (quiet bs cs)))
 
-pub quiet_end : (t : Bool) (a b : List ℕ) (i : ℕ) → length a ≤ i → t && quiet (drop i a) (drop i b) ≡ t
+pub quiet_end : (t : Bool) (l m : List ℕ) → (length l ≡ 0) ⊎ (length m ≡ 0) → t ≡ t && quiet l m
 unfolding quiet
-quiet_end true a b i h = rw (drop_of_length-le a h) refl
-quiet_end false a b i h = refl
+quiet_end true [] m h = refl
+quiet_end true (b ∷ l) [] h = refl
+quiet_end true (b ∷ l) (c ∷ m) (inl h) = absurd (omega arith)
+quiet_end true (b ∷ l) (c ∷ m) (inr h) = absurd (omega arith)
+quiet_end false l m h = refl
 
 ends_first : (l : List ℕ) (i : ℕ) (t : Bool) → i < length l → eqb (get_or l i 0) 10 ≡ t → ends_in (drop i l) ≡ pick t (suc (ends_in (drop (i + 1) l))) (ends_in (drop (i + 1) l))
 unfolding ends_in
 ends_first l i t h e = rw (add-one, drop-cons l i 0 h, e) refl
 
-pub ends_here : (l : List ℕ) (i : ℕ) → i < length l → get_or l i 0 ≡ 10 → ends_in (drop i l) ≡ suc (ends_in (drop (i + 1) l))
-ends_here l i h e = ends_first l i true h (rw e refl)
+pub ends_byte : (l : List ℕ) (i : ℕ) → i < length l → ends_in (drop i l) ≡ bool_byte (eqb (get_or l i 0) 10) + ends_in (drop (i + 1) l)
+ends_byte l i h = ends_first l i (eqb (get_or l i 0) 10) h refl ∙ by (eqb (get_or l i 0) 10) (ends_in (drop (i + 1) l))
+  where
+    by : (t : Bool) (e : ℕ) → pick t (suc e) e ≡ bool_byte t + e
+    by true e = omega arith
+    by false e = omega arith
 
-pub ends_not : (l : List ℕ) (i : ℕ) → i < length l → (get_or l i 0 ≡ 10 → ⊥) → ends_in (drop i l) ≡ ends_in (drop (i + 1) l)
-ends_not l i h n = ends_first l i false h (ne_eqb _ _ n)
+pub byte_most : (r : ℕ) (t : Bool) → r ≡ bool_byte t → r ≤ 1
+byte_most r true e = omega arith
+byte_most r false e = omega arith
 
 pub ends_none : (l : List ℕ) (i : ℕ) → length l ≤ i → ends_in (drop i l) ≡ 0
 unfolding ends_in
@@ -58,6 +63,9 @@ ends_most (b ∷ l) = most (eqb b 10) (ends_most l)
     most : (t : Bool) → ends_in l ≤ length l → pick t (suc (ends_in l)) (ends_in l) ≤ suc (length l)
     most true h = omega arith
     most false h = omega arith
+
+pub quiet_blocks : (x y l m : List ℕ) → x ≡ l → y ≡ m → quiet x y ≡ true → quiet l m ≡ true
+quiet_blocks x y l m p q e = rw (p, q) at e
 
 -- past a line's bytes its LF is next
 pub line_len_past : (l : List ℕ) → line_len (drop (line_len l) l) ≡ 0
@@ -80,9 +88,48 @@ count_by_lem : (t : Bool) (n e : ℕ) → pick t (suc n) n + e ≡ n + pick t (s
 count_by_lem true n e = omega arith
 count_by_lem false n e = refl
 
+-- the last LF before the one that ends the last line, and none
+module _ (f : List ℕ) (from closing : ℕ) (a : from < closing) (b : closing ≤ length f + 1) where
+  abbrev part : List ℕ
+  part = take (closing - 1 - from) (drop from f)
+
+  part_long : length part ≡ closing - 1 - from
+  part_long = length-take-le (closing - 1 - from) (drop from f) (omega (arith, length-drop from f))
+
+  part_byte : (j : ℕ) → j < length part → get_or part j 0 ≡ get_or f (from + j) 0
+  part_byte j h = get_or-take (closing - 1 - from) (drop from f) j 0 (omega (arith, part_long)) ∙ get_or-drop from f j 0
+
+  later_none : (at : ℕ) → from ≤ at → ((j : ℕ) → at ≤ from + j → j < length part → get_or part j 0 ≡ 10 → ⊥)
+      → (k : ℕ) → at ≤ k → k < closing - 1 → get_or f k 0 ≡ 10 → ⊥
+  later_none at o n k l h e =
+      let z : from + (k - from) ≡ k = omega arith in
+      let i : k - from < length part = omega (arith, part_long) in
+      n (k - from) (omega arith) i (part_byte (k - from) i ∙ rw z e)
+
+  pub last_found : (k : ℕ) → k < length part → get_or part k 0 ≡ 10 → ((j : ℕ) → k < j → j < length part → get_or part j 0 ≡ 10 → ⊥) → LastLine f from closing (from + k + 1)
+  last_found k h e n =
+      let z : from + k + 1 - 1 ≡ from + k = omega arith in
+      record {
+        onward = omega arith;
+        before = λ l. omega (arith, part_long);
+        none = λ l. absurd (omega arith);
+        starts = λ l. rw z (sym (part_byte k h) ∙ e);
+        whole = later_none (from + k + 1) (omega arith) (λ j l. n j (omega arith));
+      }
+
+  pub last_none : ((j : ℕ) → j < length part → get_or part j 0 ≡ 10 → ⊥) → LastLine f from closing from
+  last_none n =
+      record {
+        onward = omega arith;
+        before = λ l. a;
+        none = λ l. refl;
+        starts = λ l. absurd (omega arith);
+        whole = later_none from (omega arith) (λ j l. n j);
+      }
+
 module _ (f : List ℕ) where
   -- after the last line there is none
-  pub after_none : (n i : ℕ) → length f ≤ i + line_len (drop i f) → no_mark ≡ mark_after f n i
+  pub after_none : (n i : ℕ) → length f ≤ i + line_len (drop i f) → None ≡ mark_after f n i
   unfolding mark_after mark_from cut
   after_none n i h = let z : length f ≤ i + line_len (drop i f) + 1 = omega arith in rw (drop_of_length-le f z) refl
 
@@ -102,11 +149,11 @@ module _ (f : List ℕ) where
       none h = rw (lines_end f at e a q h) (after_none n at (rw q at h))
 
   -- a line that is one, and no line
-  pub mark_here : (n at e : ℕ) → at ≤ length f → e ≡ at + line_len (drop at f) → closes (take (e - at) (drop at f)) ≡ true → e < length f → mark n at (e + 1) ≡ marked f n at
+  pub mark_here : (n at e : ℕ) → at ≤ length f → e ≡ at + line_len (drop at f) → closes (take (e - at) (drop at f)) ≡ true → e < length f → Some (mark n at (e + 1)) ≡ marked f n at
   unfolding mark_from
   mark_here n at e a q c h = rw (lines_at_lem f at e a q h, c, line_length f at e a q h) refl
 
-  pub mark_none : (n at e : ℕ) → at ≤ length f → e ≡ at + line_len (drop at f) → length f ≤ e → no_mark ≡ marked f n at
+  pub mark_none : (n at e : ℕ) → at ≤ length f → e ≡ at + line_len (drop at f) → length f ≤ e → None ≡ marked f n at
   unfolding mark_from
   mark_none n at e a q h = rw (lines_end f at e a q h) refl
 
@@ -161,19 +208,22 @@ module _ (f : List ℕ) where
       let k : suc i + m ≡ i + suc m = omega arith in
       after_by n i x y refl refl (and_left (not (x && y)) (quiet bs cs) both) a ∙ ih ∙ rw (drop-cons f i 0 a, count_by_lem x n (ends_in bs), k) refl
 
-  -- a part of so many bytes
-  pub part_length : (at m : ℕ) → at + m ≤ length f → length (take (at + m - at) (drop at f)) ≡ m
-  part_length at m h = let z : at + m - at ≡ m = omega arith in rw z (length-take-le m (drop at f) (omega (arith, length-drop at f)))
+  -- the next block of bytes that are left
+  pub block_next : (at : ℕ) (x rest : List ℕ) → drop at f ≡ x ++ rest → length x ≡ 64
+      → (x ≡ take 64 (drop at f)) × ((drop (at + 64) f ≡ rest) × (at + 64 ≤ length f))
+  block_next at x rest e l = (
+    rw e (sym (take_at x rest 64 l)),
+    (
+      sym (drop-drop 64 at f) ∙ rw e (drop_at x rest 64 l),
+      omega (arith, ap length e, length-append x rest, length-drop at f),
+    ),
+  )
 
   -- one block more
   pub passed_block : (from before at lines ends : ℕ) → Passed f from before (record { at = at; lines = lines }) → at + 69 ≤ length f
-      → quiet (take (at + 64 - at) (drop at f)) (take (at + 5 + 64 - (at + 5)) (drop (at + 5) f)) ≡ true → ends ≡ ends_in (take (at + 64 - at) (drop at f))
+      → quiet (take 64 (drop at f)) (take 64 (drop (at + 5) f)) ≡ true → ends ≡ ends_in (take 64 (drop at f))
       → Passed f from before (record { at = at + 64; lines = lines + ends })
-  passed_block from before at lines ends p h q e =
-      let y : at + 64 - at ≡ 64 = omega arith in
-      let z : at + 5 + 64 - (at + 5) ≡ 64 = omega arith in
-      let b : quiet (take 64 (drop at f)) (take 64 (drop (at + 5) f)) ≡ true = rw (y, z) at q in
-      let k : ends ≡ ends_in (take 64 (drop at f)) = rw y at e in
+  passed_block from before at lines ends p h b k =
       let m : length (take 64 (drop at f)) ≡ 64 = length-take-le 64 (drop at f) (omega (arith, length-drop at f)) in
       record {
         same = rw k (sym (after_block 64 lines at (omega arith) b)) ∙ p.same;

@@ -1,5 +1,5 @@
 -- Where the next set of a file stands, by numbers alone.
-use Rattle.std.specs.Prelude.{true, false, List, [], ◌∷◌, ◌≡◌, ℕ, zero, suc, ◌+◌, leb, length, take, drop}
+use Rattle.std.specs.Prelude.{Option, Some, None, List, [], ◌∷◌, ◌≡◌, ℕ, zero, suc, ◌+◌, leb, length, take, drop}
 use Prim.{Unit}
 use Rattle.laws.specs.Cut.{cut, line_len}
 use Rattle.laws.specs.Choice.{pick}
@@ -7,16 +7,12 @@ use Rattle.parts.specs.declared.Extent.{Extent}
 use Rattle.parts.specs.Parts.{columns_in, Part, dataset_of, line_start, last_start, closing_start, past_of, through_of, bytes_in, PartState, outside, opened, inside}
 
 abbrev pub extent : ℕ → ℕ → ℕ → ℕ → ℕ → ℕ → ℕ → ℕ → Extent
-extent n at v b l c e t = record { found = true; lines = n; first = at; number = v; body = b; last = l; closing = c; past = e; through = t }
-
--- no set
-abbrev pub nowhere : Extent
-nowhere = record { found = false; lines = 0; first = 0; number = 0; body = 0; last = 0; closing = 0; past = 0; through = 0 }
+extent n at v b l c e t = record { lines = n; first = at; number = v; body = b; last = l; closing = c; past = e; through = t }
 
 -- where the first of these sets stands
-unfoldable pub first_of : List Part → Extent
-first_of [] = nowhere
-first_of (p ∷ ps) = extent p.lines p.bytes (dataset_of p) (line_start p 0) (last_start p) (closing_start p) (past_of p) (through_of p)
+unfoldable pub first_of : List Part → Option Extent
+first_of [] = None
+first_of (p ∷ ps) = Some (extent p.lines p.bytes (dataset_of p) (line_start p 0) (last_start p) (closing_start p) (past_of p) (through_of p))
 
 -- the first byte of line k of lines that begin at the byte at and stop before the byte stop; the byte where they stop if there is none
 unfoldable pub skip_to : ℕ → ℕ → ℕ → List (List ℕ) → ℕ

@@ -55,11 +55,8 @@ module _ (l : List ℕ) where
   shown_within : length (shown l) ≤ length l
   shown_within = omega (arith, shown_length, columns_within true l)
 
-  pub shown_long : (n : ℕ) → n ≡ length cs → 80 < n → (80 ≡ length (shown l)) × (80 ≤ length l)
-  shown_long n e h = (omega (arith, shown_length), omega (arith, columns_within true l))
-
-  pub shown_short : (n : ℕ) → n ≡ length cs → n ≤ 80 → (n ≡ length (shown l)) × (n ≤ length l)
-  shown_short n e h = (omega (arith, shown_length), omega (arith, columns_within true l))
+  pub shown_least : (n r : ℕ) → n ≡ length cs → r ≡ min n 80 → (r ≡ length (shown l)) × (r ≤ length l)
+  shown_least n r e q = (omega (arith, shown_length), omega (arith, columns_within true l))
 
   -- they are the line's first bytes
   first_bytes : (i : ℕ) → i ≤ length (shown l) → take i (columns_in l) ≡ take i l

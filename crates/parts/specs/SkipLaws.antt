@@ -108,10 +108,8 @@ past_lines (suc k) (b ∷ l) h = by (eqb b 10) (cut l).lines refl h (past_lines 
 
 -- one block more, and one line more
 module _ (f : List ℕ) (from k at left : ℕ) (s : Skipped f from k at left) where
-  pub skipped_block : (m ends : ℕ) → at + m ≤ length f → ends ≡ ends_in (take (at + m - at) (drop at f)) → ends < left → Skipped f from k (at + m) (left - ends)
-  skipped_block m ends h e l =
-      let z : at + m - at ≡ m = omega arith in
-      let q : ends ≡ ends_in (take m (drop at f)) = rw z at e in
+  pub skipped_block : (m ends : ℕ) → at + m ≤ length f → ends ≡ ends_in (take m (drop at f)) → ends < left → Skipped f from k (at + m) (left - ends)
+  skipped_block m ends h q l =
       let b = past_block m left (drop at f) (omega (arith, length-drop at f)) (rw q at l) in
       let c : past_ends left (drop at f) ≡ m + past_ends (left - ends) (drop (at + m) f) = b ∙ rw (q, drop-drop m at f) refl in
       record { within = omega arith; same = omega (arith, s.same) }

@@ -1,5 +1,5 @@
 -- One turn of a loop over the sets of a file.
-use Rattle.std.specs.Prelude.{◌≡◌, refl, true, false, List, [], ℕ, ◌≤◌}
+use Rattle.std.specs.Prelude.{◌≡◌, refl, Option, Some, None, List, [], ℕ, ◌≤◌}
 use Rattle.std.proofs.Common.{◌∙◌, arith}
 use Rattle.parts.specs.declared.Extent.{Extent}
 use Rattle.parts.specs.Parts.{Part, line_start, last_line, last_start, closing_start}
@@ -22,14 +22,18 @@ same_place : (file : List ℕ) (m n a b : ℕ) → m ≡ n → a ≡ b → remai
 same_place file m n a b p q = rw (p, q) refl
 
 -- a loop over sets begins before the first byte
-pub between_start : (file : List ℕ) (e : Extent) → e ≡ first_of (remaining file 0 0) → Between file 0 0 e
+pub between_start : (file : List ℕ) (e : Option Extent) → e ≡ first_of (remaining file 0 0) → Between file 0 0 e
 between_start file e q = record { within = omega arith; lines = omega arith; next = q }
 
-module _ (file : List ℕ) (n at : ℕ) (e : Extent) (b : Between file n at e) where
+-- and says where the next set stands as the code has it
+pub next_is : (file : List ℕ) (n at : ℕ) (e later : Option Extent) → Between file n at e → later ≡ first_of (remaining file n at) → Between file n at later
+next_is file n at e later b q = record { within = b.within; lines = b.lines; next = q }
+
+module _ (file : List ℕ) (n at : ℕ) (e : Extent) (b : Between file n at (Some e)) where
   -- one turn
-  pub turn : e.found ≡ true → Turn file n at e
-  turn h =
-      let f : First (remaining file n at) e = found_first (remaining file n at) e b.next h in
+  pub turn : Turn file n at e
+  turn =
+      let f : First (remaining file n at) e = found_first (remaining file n at) e b.next in
       let s : Standing file n at f.set f.others = standing file n at f.set f.others b.within f.sets in
       let c : f.set.bytes ≤ closing_start f.set = closing_from f.set in
       record {
@@ -44,9 +48,9 @@ module _ (file : List ℕ) (n at : ℕ) (e : Extent) (b : Between file n at e) w
       }
 
   -- and on past that set
-  pub between_next : e.found ≡ true → (later : Extent) → later ≡ first_of (remaining file e.through e.past) → Between file e.through e.past later
-  between_next h later q = let t = turn h in record { within = t.within; lines = t.lines; next = q }
+  pub between_next : (later : Option Extent) → later ≡ first_of (remaining file e.through e.past) → Between file e.through e.past later
+  between_next later q = let t = turn in record { within = t.within; lines = t.lines; next = q }
 
-  -- no set is left
-  pub between_none : e.found ≡ false → remaining file n at ≡ []
-  between_none h = found_none (remaining file n at) e b.next h
+-- no set is left
+pub between_none : (file : List ℕ) (n at : ℕ) → Between file n at None → remaining file n at ≡ []
+between_none file n at b = found_none (remaining file n at) b.next

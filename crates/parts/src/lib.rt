@@ -1,4 +1,5 @@
 // The sets of a file as they stand in it, parted by its delimiters, and its lines, skipped by their LFs.
+// An `as` is proved to lose nothing; where one stands, std has no From between the two types, and `try_from` would ask for an answer to an error that cannot be.
 #![tactic(auto)]
 
 ghost use Rattle.std.specs.Prelude.{◌≡◌, ◌+◌, ◌≤◌, ◌<◌, length, drop};
@@ -13,26 +14,16 @@ ghost use Rattle.parts.specs.Skip.{past_ends, Skipped};
 ghost use Rattle.parts.specs.Padding.{last_field, padding_in};
 ghost use Rattle.parts.specs.Counted.{declared_at, counted_at};
 
-use laws::index;
 use layout::{field_start, fields_of};
 use text::is_blank;
 
-// A delimiter: whether there is one, how many lines come before it, its first byte and the byte past its line.
+// A delimiter: how many lines come before it, its first byte and the byte past its line.
 #[derive(Clone, Copy)]
 pub struct Mark {
-    pub found: bool,
     pub lines: usize,
     pub at: usize,
     pub past: usize,
 }
-
-// No delimiter.
-const NO_MARK: Mark = Mark {
-    found: false,
-    lines: 0,
-    at: 0,
-    past: 0,
-};
 
 // A byte, and how many lines come before the line that it is in.
 #[derive(Clone, Copy)]
@@ -48,11 +39,10 @@ pub struct Onward {
     pub left: usize,
 }
 
-// Where a set stands: whether there is one, how many lines and bytes come before it, its number, the first byte of its lines,
-// of the last of them and of its closing delimiter, the byte past it, and how many lines there are up to that.
+// Where a set stands: how many lines and bytes come before it, its number, the first byte of its lines, of the last of them and of its
+// closing delimiter, the byte past it, and how many lines there are up to that.
 #[derive(Clone, Copy)]
 pub struct Extent {
-    pub found: bool,
     pub lines: usize,
     pub first: usize,
     pub number: u32,
@@ -62,19 +52,6 @@ pub struct Extent {
     pub past: usize,
     pub through: usize,
 }
-
-// No set.
-const NOWHERE: Extent = Extent {
-    found: false,
-    lines: 0,
-    first: 0,
-    number: 0,
-    body: 0,
-    last: 0,
-    closing: 0,
-    past: 0,
-    through: 0,
-};
 
 // What a 58 declares: its case, and how many numbers it stores.
 #[derive(Clone, Copy)]
@@ -103,11 +80,7 @@ pub fn put_columns(row: &mut [u8; 80], line: &[u8])
 fn shown_len(line: &[u8]) -> usize
     ensures { (result ≡ length (shown line.now)) × (result ≤ length line.now) }
 {
-    let n = line::columns_len(line, true);
-    if 80 < n {
-        return 80;
-    }
-    n
+    line::columns_len(line, true).min(80)
 }
 
 // Whether a line is a delimiter.
@@ -130,29 +103,26 @@ pub fn is_delimiter_line(line: &[u8]) -> bool
     is_blank(&line[6..n])
 }
 
-// The number of a number line; 0 where it is none.
+// The number of a number line; 0 where it is none. Stays a u32: `dataset_of`, and the theorems that say a set's number by it, hold a plain number.
 pub fn line_number(line: &[u8]) -> u32
     ensures { result ≡ dataset_number (columns_in line.now) }
 {
     let n = shown_len(line);
     if n == 6 {
-        return delimiter::positive(integer::integer_field(&line[0..6]));
+        return delimiter::positive(integer::integer_field(&line[0..6])).unwrap_or(0);
     }
     let mut row = [32u8; 80];
     put_columns(&mut row, line);
-    delimiter::dataset_number(&row)
+    delimiter::dataset_number(&row).unwrap_or(0)
 }
 
 // Whether no LF of these bytes has a minus beside it in the bytes that stand five further, as the LF before a delimiter has.
 fn is_quiet(bytes: &[u8], later: &[u8]) -> bool
-    requires { length later.now ≡ length bytes.now }
     ensures { result ≡ quiet bytes.now later.now }
 {
     let mut none = true;
-    let mut i = 0;
-    while i < bytes.len() {
-        none = none & !((bytes[i] == 10) & (later[i] == 45));
-        i += 1;
+    for (b, c) in bytes.iter().zip(later) {
+        none = none & !((*b == 10) & (*c == 45));
     }
     none
 }
@@ -163,67 +133,61 @@ fn ends_in(bytes: &[u8]) -> u8
     ensures { result ≡ ends_in bytes.now }
 {
     let mut ends = 0;
-    let mut i = 0;
-    while i < bytes.len() {
-        if bytes[i] == 10 {
-            ends += 1;
-        }
-        i += 1;
+    for b in bytes {
+        ends += u8::from(*b == 10);
     }
     ends
 }
 
-// Past blocks of bytes in which no delimiter follows an LF, from a byte in a line that so many come before.
+// Past blocks of bytes in which no delimiter follows an LF, from a byte in a line that so many come before. Blocks are gone over here and in `skip_blocks`,
+// `rewriter::past_bare` and `line::past_blocks`, each with its own size, look ahead and count: one walker would take a closure for each and read no plainer.
 fn past_quiet(file: &[u8], from: usize, before: usize) -> Spot
     requires { (from ≤ length file.now) × (before ≤ from) }
     ensures { Passed file.now from before result }
 {
     let mut at = from;
     let mut lines = before;
-    if file.len() < 69 {
+    if file.len() - from < 5 {
         return Spot { at, lines };
     }
-    let last = file.len() - 69;
-    while at <= last {
-        let past = at + 64;
-        let later = at + 5;
-        let later_past = later + 64;
-        if !is_quiet(&file[at..past], &file[later..later_past]) {
+    let later = from + 5;
+    for (block, ahead) in file[from..]
+        .chunks_exact(64)
+        .zip(file[later..].chunks_exact(64))
+    {
+        if !is_quiet(block, ahead) {
             return Spot { at, lines };
         }
-        lines += index(ends_in(&file[at..past]));
-        at = past;
+        lines += usize::from(ends_in(block));
+        at += 64;
     }
     Spot { at, lines }
 }
 
 // The first delimiter among the lines that begin at byte `from`, after so many lines.
-pub fn find_delimiter(file: &[u8], from: usize, before: usize) -> Mark
+pub fn find_delimiter(file: &[u8], from: usize, before: usize) -> Option<Mark>
     requires { (from ≤ length file.now) × (before ≤ from) }
     ensures { result ≡ marked file.now before from }
 {
     let mut at = from;
     let mut lines = before;
     let mut end = line::find_end(file, at);
+    // A search with three ways out, whose steps are as long as a line and the blocks after it: no `for` is plainer.
     while end < file.len() {
         if is_delimiter_line(&file[at..end]) {
-            return Mark {
-                found: true,
-                lines,
-                at,
-                past: end + 1,
-            };
+            let past = end + 1;
+            return Some(Mark { lines, at, past });
         }
         let passed = past_quiet(file, end, lines);
         let stop = line::find_end(file, passed.at);
         if file.len() <= stop {
-            return NO_MARK;
+            return None;
         }
         lines = passed.lines + 1;
         at = stop + 1;
         end = line::find_end(file, at);
     }
-    NO_MARK
+    None
 }
 
 // The first byte of the last of the lines that begin at byte `from` and stop before byte `closing`; where there is none, byte `from`.
@@ -234,38 +198,27 @@ pub fn last_line(file: &[u8], from: usize, closing: usize) -> usize
     if closing <= from {
         return from;
     }
-    let mut at = closing - 1;
-    while from < at {
-        let before = at - 1;
-        if file[before] == 10 {
-            return at;
-        }
-        at = before;
+    let stop = closing - 1;
+    match file[from..stop].iter().rposition(|b| *b == 10) {
+        Some(k) => from + k + 1,
+        None => from,
     }
-    at
 }
 
 // Where the next set stands, from byte `from` on, outside sets, after so many lines.
-pub fn next_set(file: &[u8], from: usize, before: usize) -> Extent
+pub fn next_set(file: &[u8], from: usize, before: usize) -> Option<Extent>
     requires { (from ≤ length file.now) × (before ≤ from) }
     ensures { result ≡ first_of (parts_from outside before from (cut (drop from file.now)).lines) }
 {
-    let opening = find_delimiter(file, from, before);
-    if !opening.found {
-        return NOWHERE;
-    }
+    let opening = find_delimiter(file, from, before)?;
     let number = opening.past;
     let end = line::find_end(file, number);
     if file.len() <= end {
-        return NOWHERE;
+        return None;
     }
     let body = end + 1;
-    let closing = find_delimiter(file, body, opening.lines + 2);
-    if !closing.found {
-        return NOWHERE;
-    }
-    Extent {
-        found: true,
+    let closing = find_delimiter(file, body, opening.lines + 2)?;
+    Some(Extent {
         lines: opening.lines,
         first: opening.at,
         number: line_number(&file[number..end]),
@@ -274,7 +227,7 @@ pub fn next_set(file: &[u8], from: usize, before: usize) -> Extent
         closing: closing.at,
         past: closing.past,
         through: closing.lines + 1,
-    }
+    })
 }
 
 // The first byte of line k, from 0, of lines that begin at byte `from` and stop before byte `closing`; where there is none, the byte
@@ -284,8 +237,7 @@ pub fn line_start(file: &[u8], from: usize, closing: usize, k: usize) -> usize
     ensures { (result ≡ skip_to k closing from (cut (drop from file.now)).lines) × (result ≤ length file.now) }
 {
     let mut at = from;
-    let mut i = 0;
-    while i < k {
+    for _ in 0..k {
         if closing <= at {
             return at;
         }
@@ -294,7 +246,6 @@ pub fn line_start(file: &[u8], from: usize, closing: usize, k: usize) -> usize
             return at;
         }
         at = end + 1;
-        i += 1;
     }
     at
 }
@@ -306,18 +257,13 @@ fn skip_blocks(file: &[u8], from: usize, k: usize) -> Onward
 {
     let mut at = from;
     let mut left = k;
-    if file.len() < 64 {
-        return Onward { at, left };
-    }
-    let last = file.len() - 64;
-    while at <= last {
-        let past = at + 64;
-        let ends = index(ends_in(&file[at..past]));
+    for block in file[from..].chunks_exact(64) {
+        let ends = usize::from(ends_in(block));
         if left <= ends {
             return Onward { at, left };
         }
         left -= ends;
-        at = past;
+        at += 64;
     }
     Onward { at, left }
 }
@@ -329,14 +275,12 @@ pub fn skip_lines(file: &[u8], from: usize, k: usize) -> usize
     ensures { (result ≡ from + past_ends k (drop from file.now)) × (result ≤ length file.now) }
 {
     let mut at = from;
-    let mut left = k;
-    while 0 < left {
+    for _ in 0..k {
         let end = line::find_end(file, at);
         if file.len() <= end {
             return end;
         }
         at = end + 1;
-        left -= 1;
     }
     at
 }
@@ -371,7 +315,7 @@ pub fn put_line_at(row: &mut [u8; 80], file: &[u8], from: usize, closing: usize,
     put_line(row, file, at, closing)
 }
 
-// The count that the seventh of these lines declares, as in a 58.
+// The count that the seventh of these lines declares, as in a 58; a plain number, as `walk::count_in` has it.
 pub fn count_in(file: &[u8], from: usize, closing: usize) -> u32
     requires { from ≤ length file.now }
     ensures { result ≡ count_in (line_from closing from file.now line_seven) }
@@ -381,7 +325,7 @@ pub fn count_in(file: &[u8], from: usize, closing: usize) -> u32
     walk::count_in(&row)
 }
 
-// The case that the seventh of these lines names, as in a 58.
+// The case that the seventh of these lines names, as in a 58; a plain number, as `walk::case_in` has it.
 pub fn case_in(file: &[u8], from: usize, closing: usize) -> usize
     requires { from ≤ length file.now }
     ensures { result ≡ case_in (line_from closing from file.now line_seven) }

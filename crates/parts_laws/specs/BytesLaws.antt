@@ -1,5 +1,5 @@
 -- The own columns of a stored number are bytes of the text: a real reaches its field's last column, so no filled blank stands there.
-use Rattle.std.specs.Prelude.{◌≡◌, refl, Bool, true, false, List, [], ◌∷◌, ◌++◌, ℕ, zero, suc, ◌+◌, ◌-◌, ◌<◌, ◌≤◌, ltb, length, get_or, take, drop, replicate}
+use Rattle.std.specs.Prelude.{◌≡◌, refl, Bool, true, false, List, [], ◌∷◌, ◌++◌, ℕ, zero, suc, ◌+◌, ◌-◌, ◌<◌, ◌≤◌, ltb, length, get_or, take, drop, replicate, Ok, Err}
 use Rattle.std.proofs.Common.{sym, ap, ◌∙◌, ⊎_elim, arith, ltb-false, length-drop, take-suc, take_at, drop-drop, get_or-take, get_or-drop, get_or-append-add}
 use Rattle.std.proofs.lemmas.List.{get_or-replicate}
 use Rattle.laws.specs.Choice.{pick}
@@ -11,15 +11,13 @@ use Rattle.line.specs.Line.{columns, filled}
 use Rattle.line.specs.LineLaws.{columns_take, columns_within, filled_length}
 use Rattle.real.specs.declared.Scan.{Scan}
 use Rattle.real.specs.declared.Number.{Number}
-use Rattle.real.specs.declared.Real.{Real}
-use Rattle.real.specs.declared.Real.TheVariants.{Blank, Malformed, Value}
+use Rattle.real.specs.Real.{Real}
 use Rattle.real.specs.Real.{start, malformed, scan_step, is_letter, on_blank, real_end, real_of}
 
 -- 1 for a value, 0 for blank and malformed
 abbrev valued : Real → ℕ
-valued Blank = 0
-valued Malformed = 0
-valued (Value v) = 1
+valued (Err _) = 0
+valued (Ok v) = 1
 
 end_blank : (s : Scan) (t : Bool) → ltb 0 s.phase ≡ t → valued (real_end (pick t malformed s)) ≡ 0
 unfolding real_end
@@ -45,7 +43,7 @@ filled_blank cs i h l =
     ∙ get_or-append-add cs (replicate 80 32) (i - length cs) 0 ∙ get_or-replicate 80 (i - length cs) 32 0 (omega arith)
 
 -- a field that holds a value stands in the line's own columns
-pub reaches : (cs : List ℕ) (a w : ℕ) (v : Number) → a + w ≤ 80 → real_of (take w (drop a (filled cs))) ≡ Value v → a + w ≤ length cs
+pub reaches : (cs : List ℕ) (a w : ℕ) (v : Number) → a + w ≤ 80 → real_of (take w (drop a (filled cs))) ≡ Ok v → a + w ≤ length cs
 unfolding real_of run real_end
 reaches cs a zero v h e = let z : ◌≡◌ {A = ℕ} 0 1 = ap valued e in absurd (omega arith)
 reaches cs a (suc w) v h e = ⊎_elim short (λ l. l) (below_or_not (length cs) (a + suc w))
@@ -59,7 +57,7 @@ reaches cs a (suc w) v h e = ⊎_elim short (λ l. l) (below_or_not (length cs) 
         absurd (omega arith)
 
 -- a value has columns
-pub value_some : (w : ℕ) (l : List ℕ) (v : Number) → real_of (take w l) ≡ Value v → 0 < w
+pub value_some : (w : ℕ) (l : List ℕ) (v : Number) → real_of (take w l) ≡ Ok v → 0 < w
 unfolding real_of run real_end
 value_some zero l v e = let z : ◌≡◌ {A = ℕ} 0 1 = ap valued e in absurd (omega arith)
 value_some (suc w) l v e = omega arith
@@ -76,7 +74,7 @@ part_take (suc a) w (suc m) (x ∷ l) h = part_take a w m l (omega arith)
 
 -- such a field's columns are bytes of the text where the line begins at byte b
 pub field_bytes_lem : (file l : List ℕ) (b a w : ℕ) (v : Number) → take (length l) (drop b file) ≡ l → a + w ≤ 80
-    → real_of (take w (drop a (filled (columns true l)))) ≡ Value v → take w (drop a (filled (columns true l))) ≡ take w (drop (b + a) file)
+    → real_of (take w (drop a (filled (columns true l)))) ≡ Ok v → take w (drop a (filled (columns true l))) ≡ take w (drop (b + a) file)
 unfolding filled
 field_bytes_lem file l b a w v q h e =
     let cs : List ℕ = columns true l in

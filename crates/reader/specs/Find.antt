@@ -1,15 +1,15 @@
 -- Where the code looks for a 58's numbers.
-use Rattle.std.specs.Prelude.{◌&&◌, List, [], ◌∷◌, ℕ, ◌+◌, ◌*◌, ltb, Float, drop}
+use Rattle.std.specs.Prelude.{Option, Some, None, ◌&&◌, List, [], ◌∷◌, ℕ, ◌+◌, ◌*◌, ltb, Float, drop}
 use Rattle.laws.specs.Choice.{pick}
 use Rattle.laws.specs.Cut.{cut}
-use Rattle.real.specs.declared.Real.{Real}
+use Rattle.real.specs.Real.{Real}
 use Rattle.layout.specs.Columns.{line_of, field_of, field_start, field_past}
 use Rattle.layout.specs.Layout.{layout_of, fields_of, numbers_of}
 use Rattle.record_table.specs.TypedSets.{header_lines}
 use Rattle.parts.specs.Parts.{Part, is_function, line_start, closing_start}
 use Rattle.parts.specs.Scan.{skip_to}
 use Rattle.parts.specs.Function.{part_case, count_of}
-use Rattle.reader.specs.declared.Read.{Read}
+use Rattle.reader.specs.Reader.{Read}
 use Rattle.reader.specs.declared.Data.{Data}
 use Rattle.reader.specs.declared.Span.{Span}
 use Rattle.reader.specs.Reader.{Said, Shown, refused, read_in, read_of, shown_of, value_with}
@@ -17,14 +17,10 @@ use Rattle.reader.specs.Reader.{Said, Shown, refused, read_in, read_of, shown_of
 abbrev pub data58 : ℕ → ℕ → ℕ → ℕ → Data
 data58 b e c n = record { body = b; closing = e; case = c; count = n }
 
--- no 58: it has no values
-abbrev pub nothing : Data
-nothing = data58 0 0 0 0
-
 -- where the first of these sets has its numbers, if it is a 58 of one of the eight cases
-unfoldable pub data_of : List Part → Data
-data_of [] = nothing
-data_of (p ∷ ps) = pick (is_function p && ltb (part_case p) 8) (data58 (line_start p 0) (closing_start p) (part_case p) (count_of p)) nothing
+unfoldable pub data_of : List Part → Option Data
+data_of [] = None
+data_of (p ∷ ps) = pick (is_function p && ltb (part_case p) 8) (Some (data58 (line_start p 0) (closing_start p) (part_case p) (count_of p))) None
 
 -- the first byte of the data line of stored number j
 unfoldable pub line_at : List ℕ → Data → ℕ → ℕ

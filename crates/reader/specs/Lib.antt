@@ -3,3 +3,4 @@ pub mod Find
 pub mod FindLaws
 pub mod SpanLaws
 pub mod ReaderLaws
+pub mod RepliedLaws

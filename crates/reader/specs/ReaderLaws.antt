@@ -1,5 +1,5 @@
 -- What the code answers by where a 58's numbers are is the paper's answer.
-use Rattle.std.specs.Prelude.{◌≡◌, Bool, ◌&&◌, leb, eqb, length}
+use Rattle.std.specs.Prelude.{◌≡◌, Bool, Some, None, ◌&&◌, leb, eqb, length}
 use Rattle.std.proofs.Math.Path.{refl, sym}
 use Rattle.std.proofs.Common.{ap, ◌∙◌, subst, mul-zero, mul-le-mul_left}
 use Rattle.std.proofs.Math.Bool.{true, false}
@@ -8,20 +8,21 @@ use Prim.Native.Nat.{ℕ, zero, suc, ◌+◌, ◌*◌, ◌%◌, ◌≤◌, ◌<�
 use Rattle.std.proofs.Math.Nat.{zero-mul}
 use native.Mathlib.Omega.{arith}
 use borrow.Author.Tests.{eq-eqb, ne_eqb, lt-ltb, le-ltb, ltb-true, leb-true}
+use Rattle.std.proofs.lemmas.Option.{none-some}
 use Rattle.std.proofs.Math.Dec.{ltb}
 use Rattle.laws.specs.Choice.{pick}
 use Rattle.laws.specs.ChoiceLaws.{pick_same, and_left, and_right, false_not_true}
 use Rattle.laws.specs.RangesLaws.{in_range}
 use Rattle.laws.specs.TableLaws.{agree_below}
 use Rattle.layout.specs.Layout.{layouts, layout_of, numbers_of}
-use Rattle.real.specs.declared.Real.{Real}
+use Rattle.real.specs.Real.{Real}
 use Rattle.parts.specs.Parts.{Part, is_function, line_start, closing_start}
 use Rattle.parts.specs.Function.{part_case, count_of, stored_of}
-use Rattle.reader.specs.declared.Read.{Read}
+use Rattle.reader.specs.Reader.{Read}
 use Rattle.reader.specs.declared.Data.{Data}
 use Rattle.reader.specs.declared.Span.{Span}
 use Rattle.reader.specs.Reader.{refused, sets_from, read_in, real_in, shown_of, number_from, reads, whole, is_uneven, is_complex, value_kind, value_with, values_in, value_from}
-use Rattle.reader.specs.Find.{data58, nothing, data_of, span_of, real_at, read_at, value_at, number_by, value_by}
+use Rattle.reader.specs.Find.{data58, data_of, span_of, real_at, read_at, value_at, number_by, value_by}
 use Rattle.reader.specs.FindLaws.{stands}
 use Rattle.parts.specs.Set.{Somewhere}
 use Rattle.reader.specs.SpanLaws.{first_own, past_own}
@@ -120,48 +121,77 @@ module _ (file : List ℕ) (p : Part) (ps : List Part) (s : Somewhere file p ps)
   real_own j =
       rw (first_own file s.before s.from p ps s.stands (count_of p) j, past_own file s.before s.from p ps s.stands (count_of p) j) refl
 
-  number_by_lem : (t : Bool) (j : ℕ) → is_function p && ltb (part_case p) 8 ≡ t → number_by file (pick t own nothing) j ≡ number_from file (p ∷ ps) j
+  number_own : is_function p && ltb (part_case p) 8 ≡ true → (j : ℕ) → number_by file own j ≡ number_from file (p ∷ ps) j
   unfolding number_by stored_of
-  number_by_lem true j e =
+  number_own e j =
       rw (first_own file s.before s.from p ps s.stands (count_of p) j, past_own file s.before s.from p ps s.stands (count_of p) j) refl
-  number_by_lem false j e = rw (stored_none p e, zero-mul, le-ltb j 0 (omega arith)) refl
 
-  value_by_lem : (t : Bool) (i : ℕ) → is_function p && ltb (part_case p) 8 ≡ t → value_by file (pick t own nothing) i ≡ value_from file (p ∷ ps) i
+  value_own : is_function p && ltb (part_case p) 8 ≡ true → (i : ℕ) → value_by file own i ≡ value_from file (p ∷ ps) i
   unfolding value_by value_at value_with values_in
-  value_by_lem true i e =
+  value_own e i =
       let n : ℕ = numbers_of (part_case p) in
       rw (and_right (is_function p) (ltb (part_case p) 8) e, reads_same (real_at file own) (real_in file p) (i * n) (i * n) n (λ r l. real_own (i * n + r))) refl
-  value_by_lem false i e = rw (values_none p e, le-ltb i 0 (omega arith)) refl
 
-  inside_by : (t : Bool) → is_function p && ltb (part_case p) 8 ≡ t → ((pick t own nothing).body ≤ length file) × ((pick t own nothing).case < 8)
-  inside_by true e = (s.stands.inside, ltb-true _ _ (and_right (is_function p) (ltb (part_case p) 8) e))
-  inside_by false e = (omega arith, omega arith)
+  inside_own : is_function p && ltb (part_case p) 8 ≡ true → (own.body ≤ length file) × (own.case < 8)
+  inside_own e = (s.stands.inside, ltb-true _ _ (and_right (is_function p) (ltb (part_case p) 8) e))
+
+-- where the first is no 58 of one of the eight cases
+module _ (file : List ℕ) where
+  pub no_data_number : (sets : List Part) → None ≡ data_of sets → (j : ℕ) → refused 18 0 ≡ number_from file sets j
+  unfolding data_of
+  no_data_number [] q j = refl
+  no_data_number (p ∷ ps) q j = by (is_function p && ltb (part_case p) 8) refl q
+    where
+      by : (t : Bool) → is_function p && ltb (part_case p) 8 ≡ t → None ≡ pick t (Some (data58 (line_start p 0) (closing_start p) (part_case p) (count_of p))) None
+          → refused 18 0 ≡ number_from file (p ∷ ps) j
+      by true e q = absurd (none-some _ q)
+      by false e q = sym (rw (stored_none p e, le-ltb j 0 (omega arith)) refl)
+
+  pub no_data_value : (sets : List Part) → None ≡ data_of sets → (i : ℕ) → refused 18 0 ≡ value_from file sets i
+  unfolding data_of
+  no_data_value [] q i = refl
+  no_data_value (p ∷ ps) q i = by (is_function p && ltb (part_case p) 8) refl q
+    where
+      by : (t : Bool) → is_function p && ltb (part_case p) 8 ≡ t → None ≡ pick t (Some (data58 (line_start p 0) (closing_start p) (part_case p) (count_of p))) None
+          → refused 18 0 ≡ value_from file (p ∷ ps) i
+      by true e q = absurd (none-some _ q)
+      by false e q = sym (rw (values_none p e, le-ltb i 0 (omega arith)) refl)
+
+-- where numbers are found, they are those of a 58 of one of the eight cases
+pub record Owned (sets : List Part) (d : Data) : Type 0 where
+  pub part : Part
+  pub others : List Part
+  pub first : sets ≡ part ∷ others
+  pub eight : is_function part && ltb (part_case part) 8 ≡ true
+  pub own : d ≡ data58 (line_start part 0) (closing_start part) (part_case part) (count_of part)
+
+pub data_owned : (sets : List Part) (d : Data) → Some d ≡ data_of sets → Owned sets d
+unfolding data_of
+data_owned [] d q = absurd (none-some _ (sym q))
+data_owned (p ∷ ps) d q = by (is_function p && ltb (part_case p) 8) refl q
+  where
+    by : (t : Bool) → is_function p && ltb (part_case p) 8 ≡ t → Some d ≡ pick t (Some (data58 (line_start p 0) (closing_start p) (part_case p) (count_of p))) None → Owned (p ∷ ps) d
+    by true e q = record { part = p; others = ps; first = refl; eight = e; own = cc }
+    by false e q = absurd (none-some _ (sym q))
 
 module _ (file : List ℕ) (set : ℕ) where
-  number_same : (sets : List Part) → sets_from file set ≡ sets → (j : ℕ) → number_by file (data_of sets) j ≡ number_from file sets j
-  unfolding data_of number_by
-  number_same [] e j = rw (zero-mul, le-ltb j 0 (omega arith)) refl
-  number_same (p ∷ ps) e j = number_by_lem file p ps (stands file set p ps e) (is_function p && ltb (part_case p) 8) j refl
+  module _ (d : Data) (q : Some d ≡ data_of (sets_from file set)) where
+    abbrev f : Owned (sets_from file set) d
+    f = data_owned (sets_from file set) d q
 
-  value_same : (sets : List Part) → sets_from file set ≡ sets → (i : ℕ) → value_by file (data_of sets) i ≡ value_from file sets i
-  unfolding data_of value_by
-  value_same [] e i = rw (le-ltb i 0 (omega arith)) refl
-  value_same (p ∷ ps) e i = value_by_lem file p ps (stands file set p ps e) (is_function p && ltb (part_case p) 8) i refl
+    abbrev w : Somewhere file f.part f.others
+    w = stands file set f.part f.others f.first
 
-  inside_same : (sets : List Part) → sets_from file set ≡ sets → ((data_of sets).body ≤ length file) × ((data_of sets).case < 8)
-  unfolding data_of
-  inside_same [] e = (omega arith, omega arith)
-  inside_same (p ∷ ps) e = inside_by file p ps (stands file set p ps e) (is_function p && ltb (part_case p) 8) refl
-
-  module _ (d : Data) (q : d ≡ data_of (sets_from file set)) where
     pub data_inside : (d.body ≤ length file) × (d.case < 8)
-    data_inside = subst (λ (x : Data). (x.body ≤ length file) × (x.case < 8)) (sym q) (inside_same (sets_from file set) refl)
+    data_inside = subst (λ (x : Data). (x.body ≤ length file) × (x.case < 8)) (sym f.own) (inside_own file f.part f.others w f.eight)
 
     number_from_lem : (j : ℕ) → number_by file d j ≡ number_from file (sets_from file set) j
-    number_from_lem j = ap (λ (x : Data). number_by file x j) q ∙ number_same (sets_from file set) refl j
+    number_from_lem j =
+        ap (λ (x : Data). number_by file x j) f.own ∙ number_own file f.part f.others w f.eight j ∙ ap (λ (x : List Part). number_from file x j) (sym f.first)
 
     value_from_lem : (i : ℕ) → value_by file d i ≡ value_from file (sets_from file set) i
-    value_from_lem i = ap (λ (x : Data). value_by file x i) q ∙ value_same (sets_from file set) refl i
+    value_from_lem i =
+        ap (λ (x : Data). value_by file x i) f.own ∙ value_own file f.part f.others w f.eight i ∙ ap (λ (x : List Part). value_from file x i) (sym f.first)
 
     -- no such number
     pub number_none : (j n : ℕ) → n ≡ numbers_of d.case → d.count * n ≤ j → refused 18 0 ≡ number_from file (sets_from file set) j

@@ -1,5 +1,5 @@
 -- The first field that breaks a record's condition, where its fields pass: the records with a condition are 58's line 7 and 164's factors.
-use Rattle.std.specs.Prelude.{◌≡◌, ◌⊎◌, Bool, ◌&&◌, ◌||◌, not, List, [], eqb, leb, ℤ, length}
+use Rattle.std.specs.Prelude.{◌≡◌, ◌⊎◌, Bool, ◌&&◌, ◌||◌, not, List, [], eqb, leb, ℤ, length, Ok, Err}
 use Rattle.std.proofs.Math.Path.{refl}
 use Rattle.std.proofs.Common.{sym, ◌∙◌, inl, inr, ⊎_elim, eqb-true}
 use Rattle.std.proofs.Math.Bool.{true, false}
@@ -12,10 +12,9 @@ use Rattle.laws.specs.ChoiceLaws.{false_not_true, below_or_not}
 use Rattle.laws.specs.RangesLaws.{in_range}
 use Rattle.text.specs.Blank.{Blanks}
 use Rattle.integer.specs.Spelling.{IntegerSpelling, limit}
-use Rattle.integer.specs.Integer.{integer_of}
+use Rattle.integer.specs.Integer.{Held, valued, integer_of}
 use Rattle.integer.proofs.IntegerLaws.{integer_of_value, integer_of_complete}
-use Rattle.integer.specs.declared.Integer.{Integer}
-use Rattle.integer.specs.declared.Integer.TheVariants as I
+use Rattle.integer.specs.declared.IntegerFault.TheVariants as I
 use Rattle.real.specs.Spelling.{RealSpelling}
 use Rattle.real.specs.Real.{real_of}
 use Rattle.real.proofs.RealLaws.{real_of_complete, real_of_blank}
@@ -38,13 +37,11 @@ use Rattle.record_laws.specs.Fault.{left_of, own_columns, First, Passes, a_real,
 zero_spelled : (cols : List ℕ) → is_zero_integer (integer_item (integer_of cols)) ≡ true → (n : Bool) × IntegerSpelling n 0 cols
 zero_spelled cols h = of (integer_of cols) refl h
   where
-    of : (i : Integer) → integer_of cols ≡ i → is_zero_integer (integer_item i) ≡ true → (n : Bool) × IntegerSpelling n 0 cols
-    of I.Blank e t = false_not_true t
-    of I.Malformed e t = false_not_true t
-    of I.OutOfRange e t = false_not_true t
-    of (I.Value n v) e t =
-        let z : v ≡ 0 = eqb-true v 0 (sym (is_zero_integer_value n v) ∙ t) in
-        (n, rw z at (integer_of_value cols n v e).0)
+    of : (i : Held) → integer_of cols ≡ i → is_zero_integer (integer_item i) ≡ true → (n : Bool) × IntegerSpelling n 0 cols
+    of (Err f) e t = false_not_true t
+    of (Ok i) e t =
+        let z : i.size ≡ 0 = eqb-true i.size 0 (sym (is_zero_integer_value i.minus i.size) ∙ t) in
+        (i.minus, rw z at (integer_of_value cols i.minus i.size e).0)
 
 module _ {m : Bool} {c : ℕ} {s : ℤ} {cols : List ℕ} (r : RealSpelling m c s cols) where
   -- what is read of a real that is spelled
@@ -82,7 +79,7 @@ module _ {m : Bool} {c : ℕ} {s : ℤ} {cols : List ℕ} (r : RealSpelling m c 
 spelled_zero : {n : Bool} {cols : List ℕ} → IntegerSpelling n 0 cols → is_zero_integer (integer_item (integer_of cols)) ≡ true
 spelled_zero {n} i = rw (integer_of_complete i) (by n)
   where
-    by : (n : Bool) → is_zero_integer (integer_item (pick (leb 0 (limit n)) (I.Value n 0) I.OutOfRange)) ≡ true
+    by : (n : Bool) → is_zero_integer (integer_item (pick (leb 0 (limit n)) (valued n 0) (Err I.OutOfRange))) ≡ true
     by true = refl
     by false = refl
 

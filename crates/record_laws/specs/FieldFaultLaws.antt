@@ -1,5 +1,5 @@
 -- One field and the fields of a row: each passes or is wrong as its number says, and the check stops at the first that is wrong.
-use Rattle.std.specs.Prelude.{◌≡◌, Bool, true, false, ℕ, ◌+◌, ◌≤◌, ◌<◌, take, drop}
+use Rattle.std.specs.Prelude.{◌≡◌, Bool, true, false, ℕ, ◌+◌, ◌≤◌, ◌<◌, take, drop, Ok, Err}
 use Rattle.std.proofs.Math.Path.{refl}
 use Rattle.std.proofs.Common.{sym, ◌∙◌, arith}
 use mathlib.Core.List.{List, [], ◌∷◌}
@@ -10,14 +10,13 @@ use Rattle.text.specs.Blank.{Blanks, all_blank}
 use Rattle.text.specs.BlankLaws.{all_blank_complete, all_blank_sound}
 use Rattle.text.specs.Parts.{signed}
 use Rattle.integer.specs.Spelling.{IntegerSpelling, limit}
-use Rattle.integer.specs.Integer.{integer_of}
+use Rattle.integer.specs.Integer.{Held, integer_of}
 use Rattle.integer.proofs.IntegerLaws.{integer_of_value, integer_of_range, integer_of_blanks, integer_of_malformed, integer_of_complete, integer_of_blank, integer_of_otherwise}
-use Rattle.integer.specs.declared.Integer.{Integer}
-use Rattle.integer.specs.declared.Integer.TheVariants as I
+use Rattle.integer.specs.declared.IntegerFault.TheVariants as I
 use Rattle.real.specs.Real.{real_of}
 use Rattle.real.proofs.RealLaws.{real_of_sound, real_of_blanks, real_of_malformed, real_of_complete, real_of_blank, real_of_otherwise}
-use Rattle.real.specs.declared.Real.{Real}
-use Rattle.real.specs.declared.Real.TheVariants as R
+use Rattle.real.specs.Real.{Real}
+use Rattle.real.specs.declared.RealFault.TheVariants as R
 use Rattle.codes.specs.Rule.{Rule, keeps}
 use Rattle.codes.specs.Form.{Form, Optional, skip, text, identification, real, integer, never, within}
 use Rattle.field.specs.Field.{columns_of, blank_in, may_blank, integer_number, real_number, field_number}
@@ -62,9 +61,9 @@ module _ (line : List ℕ) where
   looked_text cols false e = right (an_identification (not_blank cols e))
 
   looked_real : (cols : List ℕ) (x : Real) → real_of cols ≡ x → LookedAs real cols (real_number x)
-  looked_real cols R.Blank e = found (real_blank (real_of_blanks cols e))
-  looked_real cols R.Malformed e = let m = real_of_malformed cols e in found (real_malformed m.0 m.1)
-  looked_real cols (R.Value v) e = right (a_real (real_of_sound cols v e).0)
+  looked_real cols (Err R.Blank) e = found (real_blank (real_of_blanks cols e))
+  looked_real cols (Err R.Malformed) e = let m = real_of_malformed cols e in found (real_malformed m.0 m.1)
+  looked_real cols (Ok v) e = right (a_real (real_of_sound cols v e).0)
 
   looked_blank : (r : Rule) (o : Optional) (cols : List ℕ) (t : Bool) → blank_in o line ≡ t → Blanks cols → LookedAs (integer r o) cols (pick t 0 24)
   looked_blank r never cols true e b = false_not_true e
@@ -77,12 +76,12 @@ module _ (line : List ℕ) where
   looked_value r o cols true e s h = right (an_integer s h e)
   looked_value r o cols false e s h = found (against_rule s h e)
 
-  looked_integer : (r : Rule) (o : Optional) (cols : List ℕ) (i : Integer) → integer_of cols ≡ i → LookedAs (integer r o) cols (integer_number r (blank_in o line) i)
-  looked_integer r o cols I.Blank e = looked_blank r o cols (blank_in o line) refl (integer_of_blanks cols e)
-  looked_integer r o cols I.Malformed e = let m = integer_of_malformed cols e in found (integer_malformed m.0 m.1)
-  looked_integer r o cols I.OutOfRange e = let (n, v, s, h) = integer_of_range cols e in found (out_of_range s h)
-  looked_integer r o cols (I.Value n v) e =
-      let s = integer_of_value cols n v e in looked_value r o cols (keeps r (signed n v)) refl s.0 s.1
+  looked_integer : (r : Rule) (o : Optional) (cols : List ℕ) (i : Held) → integer_of cols ≡ i → LookedAs (integer r o) cols (integer_number r (blank_in o line) i)
+  looked_integer r o cols (Err I.Blank) e = looked_blank r o cols (blank_in o line) refl (integer_of_blanks cols e)
+  looked_integer r o cols (Err I.Malformed) e = let m = integer_of_malformed cols e in found (integer_malformed m.0 m.1)
+  looked_integer r o cols (Err I.OutOfRange) e = let (n, v, s, h) = integer_of_range cols e in found (out_of_range s h)
+  looked_integer r o cols (Ok i) e =
+      let s = integer_of_value cols i.minus i.size e in looked_value r o cols (keeps r (signed i.minus i.size)) refl s.0 s.1
 
   looked : (f : Form) (cols : List ℕ) → LookedAs f cols (field_number f (may_blank f line) cols)
   unfolding field_number may_blank

@@ -1,5 +1,5 @@
 -- One field: its columns pass the check exactly when its item stands in them, or they are skipped and blank.
-use Rattle.std.specs.Prelude.{◌≡◌, Bool, true, List, [], ◌∷◌, ℕ, ◌+◌, ◌≤◌, ◌<◌, eqb}
+use Rattle.std.specs.Prelude.{◌≡◌, Bool, true, List, [], ◌∷◌, ℕ, ◌+◌, ◌≤◌, ◌<◌, eqb, Ok, Err}
 use Rattle.std.proofs.Math.Path.{refl}
 use Rattle.std.proofs.Common.{sym, ◌∙◌, arith, eqb-true, le-leb}
 use Rattle.std.proofs.Math.Bool.{false}
@@ -11,15 +11,14 @@ use Rattle.text.specs.Text.{TextIn, text_in_lem, empty, trimmed}
 use Rattle.text.proofs.TextLaws.{trimmed_complete, trimmed_sound}
 use Rattle.text.specs.Parts.{signed}
 use Rattle.integer.specs.Spelling.{IntegerSpelling, limit}
-use Rattle.integer.specs.Integer.{integer_of}
+use Rattle.integer.specs.Integer.{Held, valued, integer_of}
 use Rattle.integer.proofs.IntegerLaws.{integer_of_complete, integer_of_blank, integer_of_value, integer_of_blanks}
-use Rattle.integer.specs.declared.Integer.{Integer}
-use Rattle.integer.specs.declared.Integer.TheVariants.{Blank, Malformed, OutOfRange, Value}
+use Rattle.integer.specs.declared.IntegerFault.TheVariants.{Blank, Malformed, OutOfRange}
 use Rattle.real.specs.Real.{real_of}
 use Rattle.real.proofs.RealLaws.{real_of_complete, real_of_sound}
 use Rattle.real.specs.EndLaws.{signed_size}
-use Rattle.real.specs.declared.Real.{Real}
-use Rattle.real.specs.declared.Real.TheVariants as R
+use Rattle.real.specs.Real.{Real}
+use Rattle.real.specs.declared.RealFault.TheVariants as R
 use Rattle.codes.specs.Rule.{Rule, keeps}
 use Rattle.codes.specs.Form.{Form, Optional, skip, identification, real, integer, never, within}
 use Rattle.field.specs.Item.{Item}
@@ -62,7 +61,7 @@ title_complete may {t} {cols} s n = by (all_blank cols) refl
 -- Integers.
 
 -- a spelling in range is read as its value
-integer_of_within : {n : Bool} {v : ℕ} {cols : List ℕ} → IntegerSpelling n v cols → v ≤ limit n → integer_of cols ≡ Value n v
+integer_of_within : {n : Bool} {v : ℕ} {cols : List ℕ} → IntegerSpelling n v cols → v ≤ limit n → integer_of cols ≡ valued n v
 integer_of_within {n} {v} s h = rw (le-leb v (limit n) h) at (integer_of_complete s)
 
 -- What is read in the columns of a field that passes stands there.
@@ -81,9 +80,9 @@ unfolding field_number
 real_sound may cols h = of (real_of cols) refl h
   where
     of : (i : Real) → real_of cols ≡ i → real_number i ≡ 0 → Stands real (real_item i) cols
-    of R.Blank e n = absurd (omega arith)
-    of R.Malformed e n = absurd (omega arith)
-    of (R.Value v) e n = a_real (real_of_sound cols v e).0
+    of (Err R.Blank) e n = absurd (omega arith)
+    of (Err R.Malformed) e n = absurd (omega arith)
+    of (Ok v) e n = a_real (real_of_sound cols v e).0
 
 module _ (line : List ℕ) where
   -- a field's columns pass, none of their bytes is stray, and they put the field's item, if it has one, before the others
@@ -131,11 +130,11 @@ module _ (line : List ℕ) where
   unfolding field_number may_blank
   integer_sound r o cols h = of o (integer_of cols) refl h
     where
-      of : (o : Optional) (i : Integer) → integer_of cols ≡ i → integer_number r (blank_in o line) i ≡ 0 → Stands (integer r o) (integer_item i) cols
-      of never Blank e n = absurd (omega arith)
-      of (within a b) Blank e n = a_blank (integer_of_blanks cols e)
-      of o Malformed e n = absurd (omega arith)
-      of o OutOfRange e n = absurd (omega arith)
-      of o (Value n v) e p =
-          let s : IntegerSpelling n v cols × (v ≤ limit n) = integer_of_value cols n v e in
-          an_integer s.0 s.1 (pick_passed (keeps r (signed n v)) 10 p)
+      of : (o : Optional) (i : Held) → integer_of cols ≡ i → integer_number r (blank_in o line) i ≡ 0 → Stands (integer r o) (integer_item i) cols
+      of never (Err Blank) e n = absurd (omega arith)
+      of (within a b) (Err Blank) e n = a_blank (integer_of_blanks cols e)
+      of o (Err Malformed) e n = absurd (omega arith)
+      of o (Err OutOfRange) e n = absurd (omega arith)
+      of o (Ok i) e p =
+          let s : IntegerSpelling i.minus i.size cols × (i.size ≤ limit i.minus) = integer_of_value cols i.minus i.size e in
+          an_integer s.0 s.1 (pick_passed (keeps r (signed i.minus i.size)) 10 p)

@@ -1,7 +1,7 @@
 -- The fields that may be left blank: where their items are all blank so are the columns that they name, and where these are blank so
 -- are the items.
 use Rattle.std.proofs.Math.Path.{◌≡◌}
-use Rattle.std.specs.Prelude.{refl, ◌⊎◌, Bool, true, ◌&&◌, ◌||◌, ℕ, zero, suc, ◌+◌, ◌-◌, ◌≤◌, ◌<◌, eqb, leb, ℤ, length, get_or, take, drop}
+use Rattle.std.specs.Prelude.{refl, ◌⊎◌, Bool, true, ◌&&◌, ◌||◌, ℕ, zero, suc, ◌+◌, ◌-◌, ◌≤◌, ◌<◌, eqb, leb, ℤ, length, get_or, take, drop, Ok, Err}
 use Rattle.std.proofs.Common.{sym, ap, ◌∙◌, inl, inr, arith, eqb-true, leb-true, length-take, get_or-take, get_or-drop, get_or-append-add}
 use Rattle.std.proofs.Math.Logic.{⊎_elim}
 use Rattle.std.proofs.Math.Bool.{false}
@@ -10,10 +10,9 @@ use Rattle.std.proofs.Math.ListN.{get_or-append, get_or-eq_default}
 use Rattle.laws.specs.ChoiceLaws.{and_left, and_right, and_both, below_or_not}
 use Rattle.text.specs.Blank.{Blanks, none, one, all_blank}
 use Rattle.text.specs.BlankLaws.{all_blank_complete, all_blank_sound}
-use Rattle.integer.specs.Integer.{integer_of}
+use Rattle.integer.specs.Integer.{Held, integer_of}
 use Rattle.integer.proofs.IntegerLaws.{integer_of_blank}
-use Rattle.integer.specs.declared.Integer.{Integer}
-use Rattle.integer.specs.declared.Integer.TheVariants.{Blank, Malformed, OutOfRange, Value}
+use Rattle.integer.specs.declared.IntegerFault.TheVariants.{Blank, Malformed, OutOfRange}
 use Rattle.codes.specs.Form.{Form, skip, text, identification, real, integer, never, within, optional_of}
 use Rattle.field.specs.Item.{Item}
 use Rattle.field.specs.Field.{columns_of, may_blank, integer_number, field_number, integer_item, with_item}
@@ -195,11 +194,11 @@ module _ (a e : ℕ) where
         let i = optional_inside a e at w c d g in
         of (integer_of own) (rw (i.from, i.past, b) at p)
       where
-        of : (v : Integer) → integer_number r false v ≡ 0 → AllPresent (integer_item v ∷ optional_items fs is)
-        of Blank z = absurd (omega arith)
-        of Malformed z = absurd (omega arith)
-        of OutOfRange z = absurd (omega arith)
-        of (Value m v) z = AllPresent.cons (λ q. integer_blank _ q) n
+        of : (v : Held) → integer_number r false v ≡ 0 → AllPresent (integer_item v ∷ optional_items fs is)
+        of (Err Blank) z = absurd (omega arith)
+        of (Err Malformed) z = absurd (omega arith)
+        of (Err OutOfRange) z = absurd (omega arith)
+        of (Ok i) z = AllPresent.cons (λ q. integer_blank _ q) n
 
     items_present : (fs : List Field) (at : ℕ) → placed_from a e fs at ≡ true → all_blank (columns_of a e line) ≡ false → (fields_fault fs at line).number ≡ 0
         → AllPresent (optional_items fs (items_of fs at line))

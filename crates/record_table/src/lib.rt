@@ -23,6 +23,7 @@ const X: u8 = codes::SKIP;
 
 // A text that may not be blank, 58's lines 6, 7 and 8 to 11, 82's entries, 164's factors and 1815's lists, by number; specs/Records.antt has all
 // records in order.
+// They stay numbers: `record::check_record` and `check_list` promise an answer for every number, and an enum would ask more of callers.
 pub const IDENTIFICATION_FORM: usize = 1;
 
 pub const FUNCTION_FORM: usize = 2;
@@ -41,6 +42,7 @@ pub const ORDER_LISTS: usize = 29;
 pub const NO_RECORD: usize = 30;
 
 // The kinds of sets: the typed ones, and any other.
+// They stay numbers, as `walk::Due.kind` does, which C may lend.
 pub const KIND_58: usize = 0;
 
 pub const KIND_82: usize = 1;
@@ -63,7 +65,7 @@ pub const LINE_SEVEN: usize = 6;
 // How many records a 1815 has, the most of any set.
 pub const MOST_RECORDS: usize = 24;
 
-// A record's fields: their forms, and their widths, which a width of 0 ends.
+// A record's fields: their forms, and their widths, which a width of 0 ends. Two lists, as `Tabled` and `record::first_stray` promise of two.
 #[derive(Clone, Copy)]
 pub struct RowNumbers {
     pub forms: [u8; 12],
@@ -298,41 +300,43 @@ const NO_ROW: RowNumbers = RowNumbers {
     widths: [0; 12],
 };
 
-// The row of a record; a row without fields where there is none.
+// The rows of all records, by number.
+static ROWS: [RowNumbers; NO_RECORD] = [
+    ANY_TEXT_ROW,
+    IDENTIFICATION_ROW,
+    FUNCTION_ROW,
+    DATA_ROW,
+    AXIS_ROW,
+    TRACE_ROW,
+    TRACE_ENTRIES_ROW,
+    HEADER_VERSION_ROW,
+    HEADER_DATE_ROW,
+    UNITS_ROW,
+    UNIT_FACTORS_ROW,
+    UNIT_OFFSET_ROW,
+    ORDER_1_ROW,
+    ORDER_2_ROW,
+    ORDER_3_ROW,
+    ORDER_6_ROW,
+    ORDER_7_ROW,
+    ORDER_8_ROW,
+    ORDER_9_ROW,
+    ORDER_10_ROW,
+    ORDER_11_ROW,
+    ORDER_12_ROW,
+    ORDER_13_ROW,
+    ORDER_15_ROW,
+    ORDER_16_ROW,
+    ORDER_17_ROW,
+    ORDER_18_ROW,
+    ORDER_19_ROW,
+    ORDER_24_ROW,
+    ORDER_LISTS_ROW,
+];
+
+// The row of a record; a row without fields where there is none: the promise `Tabled` is for every number.
 pub fn row_numbers(row: usize) -> RowNumbers
     ensures { Tabled row result.forms result.widths }
 {
-    match row {
-        0 => ANY_TEXT_ROW,
-        1 => IDENTIFICATION_ROW,
-        2 => FUNCTION_ROW,
-        3 => DATA_ROW,
-        4 => AXIS_ROW,
-        5 => TRACE_ROW,
-        6 => TRACE_ENTRIES_ROW,
-        7 => HEADER_VERSION_ROW,
-        8 => HEADER_DATE_ROW,
-        9 => UNITS_ROW,
-        10 => UNIT_FACTORS_ROW,
-        11 => UNIT_OFFSET_ROW,
-        12 => ORDER_1_ROW,
-        13 => ORDER_2_ROW,
-        14 => ORDER_3_ROW,
-        15 => ORDER_6_ROW,
-        16 => ORDER_7_ROW,
-        17 => ORDER_8_ROW,
-        18 => ORDER_9_ROW,
-        19 => ORDER_10_ROW,
-        20 => ORDER_11_ROW,
-        21 => ORDER_12_ROW,
-        22 => ORDER_13_ROW,
-        23 => ORDER_15_ROW,
-        24 => ORDER_16_ROW,
-        25 => ORDER_17_ROW,
-        26 => ORDER_18_ROW,
-        27 => ORDER_19_ROW,
-        28 => ORDER_24_ROW,
-        29 => ORDER_LISTS_ROW,
-        _ => NO_ROW,
-    }
+    ROWS.get(row).copied().unwrap_or(NO_ROW)
 }

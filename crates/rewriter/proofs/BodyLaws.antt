@@ -4,7 +4,7 @@ use Rattle.std.proofs.Math.Path.{refl, ap}
 use Rattle.std.proofs.Common.{sym, ◌∙◌, ⊎_elim, length-append}
 use Rattle.std.proofs.Math.Bool.{true, false}
 use mathlib.Core.List.{List, [], ◌∷◌, ◌++◌, map, append_assoc, append-nil}
-use Prim.Native.Nat.{ℕ, suc, ◌+◌, ◌-◌, ◌≤◌, ◌<◌}
+use Prim.Native.Nat.{ℕ, suc, ◌+◌, ◌-◌, ◌≤◌, ◌<◌, min}
 use native.Mathlib.Omega.{arith}
 use borrow.Author.Tests.{le-leb, lt-leb}
 use Rattle.std.proofs.Math.ListN.{length, take, length-take, drop_of_length-le}
@@ -57,18 +57,20 @@ module _ (f : List ℕ) (at e k : ℕ) (q : k ≡ length (kept_of (take (e - at)
 
 -- a line of which only its first k bytes count
 module _ (f : List ℕ) (at e k : ℕ) (q : e ≡ at + line_len (drop at f)) where
-  pub cut_short : k < e - at → length (kept_of (take (at + k - at) (drop at f))) ≡ length (cut_text k at f)
+  pub cut_least : (n : ℕ) → n ≡ min k (e - at) → length (kept_of (take (at + n - at) (drop at f))) ≡ length (cut_text k at f)
   unfolding cut_text
-  cut_short h =
-      let z : at + k - at ≡ k = omega arith in
-      rw (z, take-take k (line_len (drop at f)) (drop at f) (omega arith)) refl
+  cut_least n h = ⊎_elim short whole (below_or_not k (e - at))
+    where
+      short : k < e - at → length (kept_of (take (at + n - at) (drop at f))) ≡ length (kept_of (take k (take (line_len (drop at f)) (drop at f))))
+      short l =
+          let z : at + n - at ≡ k = omega arith in
+          rw (z, take-take k (line_len (drop at f)) (drop at f) (omega arith)) refl
 
-  pub cut_whole : e - at ≤ k → length (kept_of (take (e - at) (drop at f))) ≡ length (cut_text k at f)
-  unfolding cut_text
-  cut_whole h =
-      let z : e - at ≡ line_len (drop at f) = omega arith in
-      let m : length (take (line_len (drop at f)) (drop at f)) ≤ k = omega (arith, length-take (line_len (drop at f)) (drop at f)) in
-      rw (z, take_all k (take (line_len (drop at f)) (drop at f)) m) refl
+      whole : e - at ≤ k → length (kept_of (take (at + n - at) (drop at f))) ≡ length (kept_of (take k (take (line_len (drop at f)) (drop at f))))
+      whole l =
+          let z : at + n - at ≡ line_len (drop at f) = omega arith in
+          let m : length (take (line_len (drop at f)) (drop at f)) ≤ k = omega (arith, length-take (line_len (drop at f)) (drop at f)) in
+          rw (z, take_all k (take (line_len (drop at f)) (drop at f)) m) refl
 
 module _ (f : List ℕ) (at k r : ℕ) (a : at ≤ length f) (q : r ≡ length (cut_text k at f)) where
   cut_most : r ≤ length (take k (take (line_len (drop at f)) (drop at f)))

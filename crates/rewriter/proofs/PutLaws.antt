@@ -1,5 +1,5 @@
 -- A dataset number spelled plainly, the length of a file rewritten, and its sets one by one.
-use Rattle.std.specs.Prelude.{◌≡◌, Bool, true, false, leb, length, drop, set}
+use Rattle.std.specs.Prelude.{◌≡◌, None, Bool, true, false, leb, length, drop, set}
 use Rattle.std.proofs.Math.Path.{refl}
 use Rattle.std.proofs.Common.{sym, ap, ◌∙◌, add-one, arith, length-append, length-set, drop-cons, drop-set-lt, get_or-set_same}
 use mathlib.Core.List.{List, [], ◌∷◌, ◌++◌, append_assoc, append-nil}
@@ -204,9 +204,9 @@ module _ (file : List ℕ) (n at : ℕ) (e : Extent) where
   pub turn_within : Turn file n at e → (e.body ≤ length file) × ((e.last ≤ length file) × (e.closing ≤ length file))
   turn_within t = (t.body, (t.last, omega (arith, t.first.closing, t.stands.later, t.stands.past)))
 
-  pub turn_none : Between file n at e → e.found ≡ false → rewritten (remaining file n at) ≡ []
-  unfolding rewritten
-  turn_none b h = rw (between_none file n at e b h) refl
+pub turn_none : (file : List ℕ) (n at : ℕ) → Between file n at None → rewritten (remaining file n at) ≡ []
+unfolding rewritten
+turn_none file n at b = rw (between_none file n at b) refl
 
 pub turn_length : (file : List ℕ) (n at : ℕ) (e : Extent) → Turn file n at e
     → length (rewritten (remaining file n at)) ≡ length (set_at file e) + length (rewritten (remaining file e.through e.past))

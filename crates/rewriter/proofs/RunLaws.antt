@@ -1,10 +1,11 @@
 -- What is kept of a run of lines that end bare is the run itself.
 use Rattle.std.specs.Prelude.{◌≡◌, Bool, true, false, not, ◌&&◌, ◌||◌, ℕ, zero, suc, ◌+◌, ◌-◌, ◌≤◌, ◌<◌, eqb, length, get_or, take, drop}
 use Rattle.std.proofs.Math.Path.{refl, ap}
-use Rattle.std.proofs.Common.{sym, ◌∙◌, ⊎_elim, add-one, arith, eqb-true, ne_eqb, length-append, length-take, length-drop, take-append-drop, drop_of_length-le, drop-cons, drop-drop, get_or-take, get_or-drop, length-take-le}
+use Rattle.std.proofs.Common.{◌⊎◌, inl, inr, sym, ◌∙◌, ⊎_elim, add-one, arith, eqb-true, ne_eqb, length-append, length-take, length-drop, take-append-drop, drop-cons, drop-drop, get_or-take, get_or-drop, length-take-le}
 use mathlib.Core.List.{List, [], ◌∷◌, ◌++◌}
 use Rattle.std.proofs.lemmas.Bool.{eqb-false, lt-leb}
 use Rattle.std.proofs.Math.ListN.{get_or-eq_default}
+use Rattle.std.proofs.lemmas.List.{drop-take, take-take}
 use Rattle.laws.specs.ChoiceLaws.{and_left, and_right, and_assoc, false_not_true, below_or_not}
 use Rattle.laws.specs.Cut.{cut, line_len, Text, onto}
 use Rattle.laws.specs.CutLaws.{cut_append}
@@ -21,18 +22,18 @@ use Rattle.rewriter.specs.Run.Whole.{none as no_line, more as line}
 use Rattle.rewriter.specs.Run.Ended.{none as no_byte, last as lf, more as byte}
 
 -- a loop over bytes that tests them
-pub bare_next : (t : Bool) (a b : List ℕ) (i : ℕ) → i < length a → length b ≡ length a
-    → (t && not (eqb (get_or b i 0) 10 && (eqb (get_or a i 0) 32 || eqb (get_or a i 0) 13))) && bare_in (drop (i + 1) a) (drop (i + 1) b) ≡ t && bare_in (drop i a) (drop i b)
+pub bare_next : (t : Bool) (b c : ℕ) (l bs m cs : List ℕ) → l ≡ b ∷ bs → m ≡ c ∷ cs
+    → (t && not (eqb c 10 && (eqb b 32 || eqb b 13))) && bare_in bs cs ≡ t && bare_in l m
 unfolding bare_in
-bare_next t a b i h e =
-    let k : i < length b = omega arith in
-    rw (add-one, drop-cons a i 0 h, drop-cons b i 0 k)
-    (sym (and_assoc t (not (eqb (get_or b i 0) 10 && (eqb (get_or a i 0) 32 || eqb (get_or a i 0) 13))) (bare_in (drop (suc i) a) (drop (suc i) b))))
+bare_next t b c l bs m cs p q = rw (p, q) (sym (and_assoc t (not (eqb c 10 && (eqb b 32 || eqb b 13))) (bare_in bs cs)))
 
-pub bare_end : (t : Bool) (a b : List ℕ) (i : ℕ) → length a ≤ i → t && bare_in (drop i a) (drop i b) ≡ t
+pub bare_end : (t : Bool) (l m : List ℕ) → (length l ≡ 0) ⊎ (length m ≡ 0) → t ≡ t && bare_in l m
 unfolding bare_in
-bare_end true a b i h = rw (drop_of_length-le a h) refl
-bare_end false a b i h = refl
+bare_end true [] m h = refl
+bare_end true (b ∷ l) [] h = refl
+bare_end true (b ∷ l) (c ∷ m) (inl h) = absurd (omega arith)
+bare_end true (b ∷ l) (c ∷ m) (inr h) = absurd (omega arith)
+bare_end false l m h = refl
 
 -- one byte, by its test
 bare_by : (f : List ℕ) (k : ℕ) (t u v : Bool) → eqb (get_or f (suc k) 0) 10 ≡ t → eqb (get_or f k 0) 32 ≡ u → eqb (get_or f k 0) 13 ≡ v → not (t && (u || v)) ≡ true → Bare f k
@@ -61,13 +62,19 @@ bare_block f (suc m) i h q k a b =
     (λ (g : k ≤ i). let e : k ≡ i = omega arith in rw e (bare_by f i _ _ _ refl refl refl (and_left first others both)))
     (below_or_not i k)
 
+-- a block of the first bytes of a file is one of the file
+first_block : (f : List ℕ) (n at m : ℕ) → at + m ≤ n → take m (drop at (take n f)) ≡ take m (drop at f)
+first_block f n at m h =
+    let z : at + (n - at) ≡ n = omega arith in
+    ap (λ (x : ℕ). take m (drop at (take x f))) (sym z) ∙ ap (take m) (drop-take at (n - at) f) ∙ take-take m (n - at) (drop at f) (omega arith)
+
 module _ (f : List ℕ) (from closing at : ℕ) where
   pub bared_block : Bared f from closing at → at + 65 ≤ closing → closing ≤ length f
-      → bare_in (take (at + 64 - at) (drop at f)) (take (at + 1 + 64 - (at + 1)) (drop (at + 1) f)) ≡ true → Bared f from closing (at + 64)
-  bared_block p h w q =
-      let y : at + 64 - at ≡ 64 = omega arith in
-      let z : at + 1 + 64 - (at + 1) ≡ 64 = omega arith in
-      let b : bare_in (take 64 (drop at f)) (take 64 (drop (at + 1) f)) ≡ true = rw (y, z) at q in
+      → (x y : List ℕ) → x ≡ take 64 (drop at (take closing f)) → y ≡ take 64 (drop (at + 1) (take closing f)) → bare_in x y ≡ true → Bared f from closing (at + 64)
+  bared_block p h w x y d e q =
+      let k = d ∙ first_block f closing at 64 (omega arith) in
+      let l = e ∙ first_block f closing (at + 1) 64 (omega arith) in
+      let b : bare_in (take 64 (drop at f)) (take 64 (drop (at + 1) f)) ≡ true = rw (k, l) at q in
       record {
         onward = omega (arith, p.onward);
         inside = λ g. omega arith;

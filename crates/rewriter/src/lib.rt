@@ -1,4 +1,5 @@
 // The rewriter: the sets of a file spelled plainly, into a lent buffer.
+// An `as` is proved to lose nothing; where one stands, std has no From between the two types, and `try_from` would ask for an answer to an error that cannot be.
 #![tactic(auto)]
 
 ghost use Rattle.std.specs.Prelude.{◌≡◌, ◌+◌, ◌≤◌, leb, length};
@@ -27,12 +28,10 @@ fn plain_number(row: &mut [u8; 6], v: u32)
     ensures { row.new ≡ plain_number v }
 {
     *row = [32u8; 6];
-    let mut i = 6;
     let mut rest = v;
-    while 0 < i {
-        i -= 1;
+    for i in (0..6).rev() {
         row[i] = digit_or_blank(rest);
-        rest = rest / 10;
+        rest /= 10;
     }
 }
 
@@ -46,14 +45,11 @@ fn kept_len(line: &[u8]) -> usize
 
 // Whether no LF of the second bytes has a blank or a CR beside it in the first, which stand one before.
 fn is_bare(bytes: &[u8], next: &[u8]) -> bool
-    requires { length next.now ≡ length bytes.now }
     ensures { result ≡ bare_in bytes.now next.now }
 {
     let mut none = true;
-    let mut i = 0;
-    while i < bytes.len() {
-        none = none & !((next[i] == 10) & ((bytes[i] == 32) | (bytes[i] == 13)));
-        i += 1;
+    for (b, c) in bytes.iter().zip(next) {
+        none = none & !((*c == 10) & ((*b == 32) | (*b == 13)));
     }
     none
 }
@@ -64,18 +60,19 @@ fn past_bare(file: &[u8], from: usize, closing: usize) -> usize
     ensures { Bared file.now from closing result }
 {
     let mut at = from;
-    if closing < 65 {
+    if closing <= from {
         return at;
     }
-    let last = closing - 65;
-    while at <= last {
-        let past = at + 64;
-        let next = at + 1;
-        let next_past = next + 64;
-        if !is_bare(&file[at..past], &file[next..next_past]) {
+    let text = &file[..closing];
+    let next = from + 1;
+    for (block, ahead) in text[from..]
+        .chunks_exact(64)
+        .zip(text[next..].chunks_exact(64))
+    {
+        if !is_bare(block, ahead) {
             return at;
         }
-        at = past;
+        at += 64;
     }
     at
 }
@@ -96,6 +93,7 @@ fn past_run(file: &[u8], from: usize, closing: usize, whole: bool) -> usize
     parts::last_line(file, from, stop + 1)
 }
 
+// A length and a putting of each part, two walks: a refused call alters no byte of the buffer, and there is no heap to put it in first.
 // The length of what is kept of the lines that begin at byte `from` and stop before byte `closing`.
 pub fn body_len(file: &[u8], from: usize, closing: usize) -> usize
     requires { from ≤ length file.now }
@@ -103,6 +101,7 @@ pub fn body_len(file: &[u8], from: usize, closing: usize) -> usize
 {
     let mut n = 0;
     let mut at = from;
+    // Each step is a line and the run after it, of any length: no `for` is plainer.
     while at < closing {
         let end = line::find_end(file, at);
         if file.len() <= end {
@@ -124,6 +123,7 @@ pub fn put_body(out: &mut [u8], at: usize, file: &[u8], from: usize, closing: us
 {
     let mut past = at;
     let mut line = from;
+    // Each step is a line and the run after it, of any length: no `for` is plainer.
     while line < closing {
         let end = line::find_end(file, line);
         if file.len() <= end {
@@ -155,10 +155,8 @@ fn cut_len(file: &[u8], at: usize, most: usize) -> usize
     ensures { result ≡ length (cut_text most at file.now) }
 {
     let end = line::find_end(file, at);
-    if most < end - at {
-        return kept_len(&file[at..at + most]);
-    }
-    kept_len(&file[at..end])
+    let past = at + most.min(end - at);
+    kept_len(&file[at..past])
 }
 
 // The length of what is kept of that line, none where it does not begin before byte `closing`.
@@ -221,12 +219,10 @@ fn rewritten_len(file: &[u8]) -> usize
     let mut n = 0;
     let mut at = 0;
     let mut lines = 0;
-    let mut set = parts::next_set(file, at, lines);
-    while set.found {
+    while let Some(set) = parts::next_set(file, at, lines) {
         n += set_len(file, set);
         at = set.past;
         lines = set.through;
-        set = parts::next_set(file, at, lines);
     }
     n
 }
@@ -250,12 +246,10 @@ fn put_sets(out: &mut [u8], file: &[u8]) -> usize
     let mut past = 0;
     let mut from = 0;
     let mut lines = 0;
-    let mut set = parts::next_set(file, from, lines);
-    while set.found {
+    while let Some(set) = parts::next_set(file, from, lines) {
         past = put_set(out, past, file, set);
         from = set.past;
         lines = set.through;
-        set = parts::next_set(file, from, lines);
     }
     past
 }

@@ -15,11 +15,9 @@ use Rattle.line.specs.Line.{refusal, passed, Allowed, none, more, is_allowed, wi
 use Rattle.line.specs.LineLaws.{columns_crlf, columns_lf, columns_take, columns_within, columns_allowed, line_fault_sound}
 use Rattle.line.specs.declared.Refusal.{Refusal}
 use Rattle.walk.specs.declared.State.{State}
-use Rattle.walk.specs.declared.Outcome.{Outcome}
-use Rattle.walk.specs.declared.Outcome.TheVariants.{Next, Refused}
+use Rattle.std.specs.Prelude.{Result, Ok, Err}
 use Rattle.judge.specs.Judge.{Run, going, refused, at_line, line_step, on_outcome, run_step, run_end}
-use Rattle.judge.specs.declared.Lines.{Lines}
-use Rattle.judge.specs.Lines.{run_of, LinesJudged}
+use Rattle.judge.specs.Lines.{Account, run_of, LinesJudged}
 use Rattle.judge.specs.JudgeLaws.{line_step_own}
 use Rattle.judge.specs.LinesLaws.{one_run}
 use Rattle.judge.specs.Refusal.{LineNumber}
@@ -183,7 +181,7 @@ module _ (s : State) (l : List ℕ) where
   fault : open_fault true (open_of l) ≡ line_fault true (columns true l)
   fault = fault_says true l (says_ended l)
 
-  open_own : 0 < (line_fault true (columns true l)).number → Refused (line_fault true (columns true l)) ≡ line_step s l
+  open_own : 0 < (line_fault true (columns true l)).number → Err (line_fault true (columns true l)) ≡ line_step s l
   open_own p = line_step_own s l (length (columns true l)) refl (line_fault true (columns true l)) (rw (← columns_take true l) refl) p
 
   open_place : (line_fault true (columns true l)).number ≤ 0 → line_step s (take (length (columns true l)) (take 80 l)) ≡ line_step s l
@@ -198,7 +196,7 @@ module _ (s : State) (l : List ℕ) where
   open_line_lem = rw (fault, (says_ended l).width) (go (ltb 0 (line_fault true (columns true l)).number) refl)
     where
       go : (t : Bool) → ltb 0 (line_fault true (columns true l)).number ≡ t
-          → pick t (Refused (line_fault true (columns true l))) (line_step s (take (length (columns true l)) (open_of l).first)) ≡ line_step s l
+          → pick t (Err (line_fault true (columns true l))) (line_step s (take (length (columns true l)) (open_of l).first)) ≡ line_step s l
       go true e = open_own (ltb-true 0 (line_fault true (columns true l)).number e)
       go false e = open_place (ltb-false 0 (line_fault true (columns true l)).number e)
 
@@ -223,12 +221,12 @@ fault_number columns bad h = by (ltb 0 bad && leb bad columns) (ltb 80 columns) 
     by false true h = (omega arith, inl (omega arith))
     by false false h = absurd (omega arith)
 
-pub open_number : (s : State) (o : OpenLine) (f : Refusal) → open_outcome s o ≡ Refused f → LineNumber f.number
+pub open_number : (s : State) (o : OpenLine) (f : Refusal) → open_outcome s o ≡ Err f → LineNumber f.number
 unfolding open_outcome
 open_number s o f h = by (ltb 0 (open_fault true o).number) refl h
   where
     by : (t : Bool) → ltb 0 (open_fault true o).number ≡ t
-        → pick t (Refused (open_fault true o)) (line_step s (take (columns_of true o.last o.size) o.first)) ≡ Refused f → LineNumber f.number
+        → pick t (Err (open_fault true o)) (line_step s (take (columns_of true o.last o.size) o.first)) ≡ Err f → LineNumber f.number
     by true e h = let q : open_fault true o ≡ f = cc in rw q at (fault_number (columns_of true o.last o.size) o.bad (ltb-true 0 (open_fault true o).number e))
     by false e h = line_number s (take (columns_of true o.last o.size) o.first) f h
 
@@ -257,7 +255,7 @@ module _ (s : State) (p : List ℕ) (h k n : ℕ) (e : n ≡ columns_of true (ge
   held_fault : open_fault true (line_in p h k) ≡ f
   held_fault = sym (rw (← e) q)
 
-  pub held_refused : 0 < f.number → Refused f ≡ open_outcome s (line_in p h k)
+  pub held_refused : 0 < f.number → Err f ≡ open_outcome s (line_in p h k)
   unfolding open_outcome
   held_refused g = rw (held_fault, lt-ltb 0 f.number g) refl
 
@@ -277,13 +275,13 @@ allowed_open none = omega arith
 allowed_open (more {b} l u a) = rw (ne_eqb b 10 (λ e. omega arith)) (omega (arith, allowed_open a))
 
 -- the outcome that a run of one line comes from
-abbrev outcome_of : Run → Outcome
-outcome_of (going s n) = Next s
-outcome_of (refused r) = Refused (refusal r.number r.column)
+abbrev outcome_of : Run → Result State Refusal
+outcome_of (going s n) = Ok s
+outcome_of (refused r) = Err (refusal r.number r.column)
 
-outcome_back : (n : ℕ) (o : Outcome) → outcome_of (on_outcome n o) ≡ o
-outcome_back n (Next s) = refl
-outcome_back n (Refused f) = refl
+outcome_back : (n : ℕ) (o : Result State Refusal) → outcome_of (on_outcome n o) ≡ o
+outcome_back n (Ok s) = refl
+outcome_back n (Err f) = refl
 
 -- the first n bytes as a line, by their m columns: refused by itself, or as the columns are with an LF of their own
 pub ended_most : (p : List ℕ) (n m : ℕ) → m ≡ length (columns true (take n p)) → m ≤ n
@@ -293,10 +291,10 @@ module _ (s : State) (p : List ℕ) (n m : ℕ) (e : m ≡ length (columns true 
   ended_columns : take m (take n p) ≡ take m p
   ended_columns = take-take m n p (ended_most p n m e)
 
-  pub ended_own : 0 < f.number → Refused f ≡ line_step s (take n p)
+  pub ended_own : 0 < f.number → Err f ≡ line_step s (take n p)
   ended_own g = line_step_own s (take n p) m e f (rw ended_columns q) g
 
-  module _ (g : f.number ≤ 0) (room : m < length p) (r : Lines) (j : LinesJudged s 0 (take (m + 1) (set p m 10)) 0 r) where
+  module _ (g : f.number ≤ 0) (room : m < length p) (r : Account) (j : LinesJudged s 0 (take (m + 1) (set p m 10)) 0 r) where
     fine : Allowed (take m p)
     fine = (line_fault_sound true (take m p) (no_fault (take m p) (omega (arith, ap (λ (x : Refusal). x.number) q)))).2
 
@@ -312,8 +310,8 @@ module _ (s : State) (p : List ℕ) (n m : ℕ) (e : m ≡ length (columns true 
     outcome : outcome_of (run_of r.state r.lines r.number r.column) ≡ line_step s (take n p)
     outcome = ap outcome_of (one_run s 0 (take m p) (allowed_open fine) r one_line) ∙ outcome_back 0 (line_step s (take m p)) ∙ same_step
 
-    pub ended_refused : 0 < r.number → Refused (refusal r.number r.column) ≡ line_step s (take n p)
+    pub ended_refused : 0 < r.number → Err (refusal r.number r.column) ≡ line_step s (take n p)
     ended_refused z = rw (ne_eqb r.number 0 (λ y. omega arith)) at outcome
 
-    pub ended_next : r.number ≤ 0 → Next r.state ≡ line_step s (take n p)
+    pub ended_next : r.number ≤ 0 → Ok r.state ≡ line_step s (take n p)
     ended_next z = rw (eq-eqb r.number 0 (omega arith)) at outcome

@@ -1,6 +1,6 @@
 -- A file judged while it arrives (02, C-11). The standing record keeps how far the lines whose LF has come are judged, what an answer needs of the
 -- open line, and how many bytes have come.
-use Rattle.std.specs.Prelude.{◌≡◌, Bool, true, false, ◌&&◌, ◌||◌, List, [], ◌∷◌, ◌++◌, ◌⊎◌, ℕ, ◌+◌, ◌-◌, ◌≤◌, ◌<◌, min, leb, ltb, eqb, length, get_or, take, set, replicate}
+use Rattle.std.specs.Prelude.{◌≡◌, Bool, true, false, ◌&&◌, ◌||◌, List, [], ◌∷◌, ◌++◌, ◌⊎◌, ℕ, ◌+◌, ◌-◌, ◌≤◌, ◌<◌, min, leb, ltb, eqb, length, get_or, take, set, replicate, Result, Ok, Err}
 use Rattle.std.proofs.Math.Seq.{paste}
 use Rattle.laws.specs.Choice.{pick}
 use Rattle.laws.specs.Cut.{cut, over}
@@ -8,13 +8,9 @@ use Rattle.line.specs.Line.{refusal, passed, first_bad}
 use Rattle.line.specs.declared.Refusal.{Refusal}
 use Rattle.walk.specs.Step.{start}
 use Rattle.walk.specs.declared.State.{State}
-use Rattle.walk.specs.declared.Outcome.{Outcome}
-use Rattle.walk.specs.declared.Outcome.TheVariants as Outcomes
 use Rattle.judge.specs.declared.Reply.{Reply}
 use Rattle.judge.specs.Judge.{Run, going, refused, reply, reply_at, at_line, run_step, run_end, line_step, on_outcome}
 use Rattle.stream.specs.declared.Stream.{Stream}
-use Rattle.stream.specs.declared.Answer.{Answer}
-use Rattle.stream.specs.declared.Answer.TheVariants.{SoFar, Refused}
 
 -- what an answer needs of the open line: its first 80 bytes, its last one (0 where it has none), how many bytes it has, and the column of the first
 -- byte not allowed (0 where all are). A line of more than 80 columns is refused whatever else it holds: 2 at that column, otherwise 3.
@@ -52,8 +48,8 @@ abbrev pub open_fault : Bool → OpenLine → Refusal
 open_fault ended o = fault_of ended (columns_of ended o.last o.size) o.bad
 
 -- its step when its LF comes: its own refusal first, then that of its place
-unfoldable pub open_outcome : State → OpenLine → Outcome
-open_outcome s o = pick (ltb 0 (open_fault true o).number) (Outcomes.Refused (open_fault true o)) (line_step s (take (columns_of true o.last o.size) o.first))
+unfoldable pub open_outcome : State → OpenLine → Result State Refusal
+open_outcome s o = pick (ltb 0 (open_fault true o).number) (Err (open_fault true o)) (line_step s (take (columns_of true o.last o.size) o.first))
 
 -- what a record says of the bytes so far: the finished lines judged, the open line (none where a line is refused) and how many bytes came; or
 -- that more came than a file has, or that the record is none that bursts give
@@ -140,9 +136,9 @@ abbrev pub lines_left : State → Run → List ℕ → ℕ → Stream
 lines_left s (going t n) rest total = made t n 0 (first_bad 1 rest) total (pushed (replicate 81 0) 0 rest) (length rest)
 lines_left s (refused r) rest total = made s (r.place - 1) r.number r.column total (replicate 81 0) 0
 
-abbrev pub end_left : Stream → List ℕ → Outcome → List (List ℕ) → List ℕ → ℕ → Stream
-end_left c p (Outcomes.Next s) ls rest total = lines_left s (over run_step (going s (c.lines + 1)) ls) rest total
-end_left c p (Outcomes.Refused f) ls rest total = made c.state c.lines f.number f.column total p 0
+abbrev pub end_left : Stream → List ℕ → Result State Refusal → List (List ℕ) → List ℕ → ℕ → Stream
+end_left c p (Ok s) ls rest total = lines_left s (over run_step (going s (c.lines + 1)) ls) rest total
+end_left c p (Err f) ls rest total = made c.state c.lines f.number f.column total p 0
 
 abbrev pub burst_left : Stream → List (List ℕ) → List ℕ → ℕ → Stream
 burst_left c [] rest total = made c.state c.lines 0 (longer (open_in c) rest).bad total (pushed c.pending c.held rest) (c.held + length rest)
@@ -169,18 +165,18 @@ pub record Stepped (c : Stream) (b : List ℕ) (r : Stream) : Type 0 where
 
 -- the answer of a burst, from the record it leaves: "23, a burst after the end was asked, first of all"; "1 once the running length is past the
 -- limit, otherwise the refusal of the earliest bad line whose LF has come, otherwise 'so far' with the number of finished lines"
-abbrev pub so_far : Seen → Answer
-so_far past = Refused (reply 1 0)
-so_far (in_limit (going s n) o t) = SoFar n
-so_far (in_limit (refused r) o t) = Refused r
+abbrev pub so_far : Seen → Result ℕ Reply
+so_far past = Err (reply 1 0)
+so_far (in_limit (going s n) o t) = Ok n
+so_far (in_limit (refused r) o t) = Err r
 
-unfoldable pub answer_of : Bool → Seen → Answer
-answer_of ended s = pick ended (Refused (reply 23 0)) (so_far s)
+unfoldable pub answer_of : Bool → Seen → Result ℕ Reply
+answer_of ended s = pick ended (Err (reply 23 0)) (so_far s)
 
 -- the paper's number and place of an answer; "so far" is 127, which is no refusal of a file's bytes
-abbrev pub paper : Answer → Reply
-paper (SoFar n) = reply 127 n
-paper (Refused r) = r
+abbrev pub paper : Result ℕ Reply → Reply
+paper (Ok n) = reply 127 n
+paper (Err r) = r
 
 -- the reply at the file's end: a line without its LF is refused
 abbrev pub open_end : Run → OpenLine → Reply

@@ -1,30 +1,28 @@
 -- The laws that a burst's step needs: what a record says, and the bytes that come, cut into lines.
-use Rattle.std.specs.Prelude.{◌≡◌, Bool, ◌||◌, List, [], ◌∷◌, ◌++◌, ◌⊎◌, ℕ, ◌+◌, ◌-◌, ◌≤◌, ◌<◌, min, eqb, get_or, drop, set, replicate}
+use Rattle.std.specs.Prelude.{◌≡◌, Bool, ◌&&◌, leb, ◌||◌, List, [], ◌∷◌, ◌++◌, ◌⊎◌, ℕ, ◌+◌, ◌-◌, ◌≤◌, ◌<◌, min, eqb, get_or, drop, set, replicate}
 use Rattle.std.proofs.Math.Path.{refl, sym, ap}
-use Rattle.std.proofs.Common.{◌∙◌, append-nil, inl, inr, ⊎_elim, add-one, length-append, length-take, take-take, length-take-le}
+use Rattle.std.proofs.Common.{◌∙◌, append-nil, inl, inr, ⊎_elim, length-append, length-take, take-take, length-take-le}
 use Rattle.std.proofs.Math.Bool.{true, false}
 use native.Mathlib.Omega.{arith}
 use borrow.Author.Tests.{ltb-false, lt-ltb, le-ltb, eq-eqb, ne_eqb}
 use Rattle.std.proofs.Math.Dec.{ltb}
 use Rattle.std.proofs.Math.ListN.{length, take, length-drop, length-set}
-use Rattle.std.proofs.Math.Seq.{paste, paste-suc, take_all, take-append-add, get_or-set_same}
+use Rattle.std.proofs.Math.Seq.{paste, take_all, take-append-add, get_or-set_same}
 use Rattle.std.proofs.lemmas.List.Edits.{length-paste, take-paste}
 use Rattle.std.proofs.lemmas.List.{take-set-le}
 use Rattle.laws.specs.Choice.{pick}
 use Rattle.laws.specs.ChoiceLaws.{below_or_not, false_not_true}
 use Rattle.laws.specs.Cut.{cut, line_len, over}
 use Rattle.laws.specs.CutLaws.{cut_line, cut_open}
-use Rattle.line.specs.Line.{first_bad}
-use Rattle.line.specs.LineLaws.{line_len_most}
+use Rattle.line.specs.Line.{refusal, first_bad, verdict}
+use Rattle.line.specs.LineLaws.{line_len_most, verdict_ok}
 use Rattle.line.specs.declared.Refusal.{Refusal}
 use Rattle.walk.specs.declared.State.{State}
-use Rattle.walk.specs.declared.Outcome.{Outcome}
-use Rattle.walk.specs.declared.Outcome.TheVariants.{Next, Refused}
+use Rattle.std.specs.Prelude.{Result, Ok, Err}
 use Rattle.walk.specs.Step.{start}
 use Rattle.judge.specs.Judge.{reply_at, at_line, Run, going, refused, on_outcome, run_step, run_end}
 use Rattle.judge.specs.declared.Reply.{Reply}
-use Rattle.judge.specs.declared.Lines.{Lines}
-use Rattle.judge.specs.Lines.{LinesJudged}
+use Rattle.judge.specs.Lines.{Account, LinesJudged}
 use Rattle.judge.specs.JudgeLaws.{over_refused}
 use Rattle.judge.specs.Refusal.{LineNumber}
 use Rattle.judge.specs.LinesLaws.{judged_number}
@@ -89,12 +87,25 @@ module _ (c : Stream) where
 
   -- the end's reply, by whether the open line has bytes
   module _ (p : is_past c ≡ false) (z : c.number ≡ 0) where
-    pub end_none : c.held ≡ 0 → run_end (going c.state c.lines) (take c.held c.pending) ≡ end_reply (seen c)
-    end_none h = rw (seen_going p z, eq-eqb c.held 0 h, h) refl
+    pub end_none : c.held ≡ 0 → run_end (going c.state c.lines) [] ≡ end_reply (seen c)
+    end_none h = rw (seen_going p z, eq-eqb c.held 0 h) refl
 
     pub end_some : (c.held ≡ 0 → ⊥) → (f : Refusal) → f ≡ fault_of false c.held c.column → at_line c.lines f ≡ end_reply (seen c)
     unfolding columns_of
     end_some h f e = rw (seen_going p z, ne_eqb c.held 0 h, e) refl
+
+-- an open line never passes at the end
+open_some : (columns bad : ℕ) → 0 < (fault_of false columns bad).number
+unfolding fault_of
+open_some columns bad = by (ltb 0 bad && leb bad columns) (ltb 80 columns)
+  where
+    by : (t u : Bool) → 0 < (pick t (refusal 2 bad) (pick u (refusal 3 1) (refusal 4 1))).number
+    by true u = omega arith
+    by false true = omega arith
+    by false false = omega arith
+
+pub open_refused : (columns bad : ℕ) → Ok tt ≡ verdict (fault_of false columns bad) → ⊥
+open_refused columns bad h = let z : (fault_of false columns bad).number ≡ 0 = verdict_ok _ h in omega (arith, open_some columns bad)
 
 -- the numbers that bursts give
 none_strange : is_strange 0 ≡ false
@@ -156,26 +167,26 @@ module _ (c : Stream) (b : List ℕ) (total : ℕ) (few : c.lines + length b ≤
     first_whole : end_left c p (open_outcome c.state open_now) (cut rest).lines (cut rest).rest total ≡ left_on c b total
     first_whole = rw (grown, cut_line b (rw at at l), ← at, pushed.whole) refl
 
-    pub burst_next_whole : (s : State) → open_outcome c.state open_now ≡ Next s → lines_on s (c.lines + 1) rest total ≡ left_on c b total
+    pub burst_next_whole : (s : State) → open_outcome c.state open_now ≡ Ok s → lines_on s (c.lines + 1) rest total ≡ left_on c b total
     burst_next_whole s o = rw (← first_whole, o) refl
 
-    pub burst_stops_whole : (f : Refusal) → open_outcome c.state open_now ≡ Refused f → made c.state c.lines f.number f.column total p 0 ≡ left_on c b total
+    pub burst_stops_whole : (f : Refusal) → open_outcome c.state open_now ≡ Err f → made c.state c.lines f.number f.column total p 0 ≡ left_on c b total
     burst_stops_whole f o = rw (← first_whole, o) refl
 
     first_line : Arrived (kept (over run_step (on_outcome c.lines (open_outcome c.state open_now)) (cut rest).lines) (open_of (cut rest).rest) total)
     first_line = rw (grown, cut_line b (rw at at l), ← at) refl
 
-    pub burst_next : (s : State) → open_outcome c.state open_now ≡ Next s → Arrived (judged_on s (c.lines + 1) rest total)
+    pub burst_next : (s : State) → open_outcome c.state open_now ≡ Ok s → Arrived (judged_on s (c.lines + 1) rest total)
     unfolding judged_on
     burst_next s o = rw (← first_line, o) refl
 
-    pub burst_stops : (f : Refusal) → open_outcome c.state open_now ≡ Refused f → Arrived (seen (made c.state c.lines f.number f.column total p 0))
+    pub burst_stops : (f : Refusal) → open_outcome c.state open_now ≡ Err f → Arrived (seen (made c.state c.lines f.number f.column total p 0))
     burst_stops f o =
         made_refused c.state c.lines total p limit (omega arith) f.number f.column (open_number c.state open_now f o) ∙
         rw (← first_line, o, over_refused (at_line c.lines f) (cut rest).lines) refl
 
 -- the lines of a burst from a place on
-module _ (s : State) (n : ℕ) (b : List ℕ) (at total : ℕ) (few : n + (length b - at) ≤ total) (limit : total ≤ 16777216) (r : Lines) (j : LinesJudged s n b at r) where
+module _ (s : State) (n : ℕ) (b : List ℕ) (at total : ℕ) (few : n + (length b - at) ≤ total) (limit : total ≤ 16777216) (r : Account) (j : LinesJudged s n b at r) where
   pub lines_refused : (p : List ℕ) → 0 < r.number → seen (made s r.lines r.number r.column total p 0) ≡ judged_on s n (drop at b) total
   unfolding judged_on
   lines_refused p z =
@@ -194,7 +205,7 @@ module _ (s : State) (n : ℕ) (b : List ℕ) (at total : ℕ) (few : n + (lengt
       rw (o, ← j.run, eq-eqb r.number 0 z', ← j.rest z') refl
 
 -- the record that they leave
-module _ (s : State) (n : ℕ) (b : List ℕ) (at total : ℕ) (r : Lines) (j : LinesJudged s n b at r) where
+module _ (s : State) (n : ℕ) (b : List ℕ) (at total : ℕ) (r : Account) (j : LinesJudged s n b at r) where
   pub lines_refused_whole : 0 < r.number → made s r.lines r.number r.column total (replicate 81 0) 0 ≡ lines_on s n (drop at b) total
   lines_refused_whole z = let e : r.lines + 1 - 1 ≡ r.lines = omega arith in rw (← j.run, ne_eqb r.number 0 (λ e. omega arith), e) refl
 
@@ -205,7 +216,7 @@ module _ (s : State) (n : ℕ) (b : List ℕ) (at total : ℕ) (r : Lines) (j : 
       let h : length b - r.at ≡ length (drop r.at b) = sym (length-drop r.at b) in
       rw (← j.run, eq-eqb r.number 0 z', ← j.rest z', found, pushed.whole, e, h) refl
 
--- a loop that lays bytes after the first f of a record's line
+-- the first i bytes laid after the first f of a record's line
 module _ (line : List ℕ) (h : ℕ) (b : List ℕ) (f : ℕ) (clip : f ≡ min h 80) (wide : length line ≡ 81) where
   clipped : take h (take 80 line) ≡ take f line
   clipped =
@@ -215,9 +226,6 @@ module _ (line : List ℕ) (h : ℕ) (b : List ℕ) (f : ℕ) (clip : f ≡ min 
       (below_or_not 80 h)
 
   module _ (line' : List ℕ) (i : ℕ) (pasted : line' ≡ paste line f b i) (within : i ≤ length b) (room : f + i ≤ 80) where
-    pub lay_next : f + i < 80 → i < length b → set line' (f + i) (get_or b i 0) ≡ paste line f b (i + 1)
-    lay_next r m = rw (pasted, add-one i) (paste-suc line f b i 0 (omega arith) m)
-
     wide' : length line' ≡ 81
     wide' = ap length pasted ∙ length-paste line f b i (omega arith) within ∙ wide
 
@@ -314,9 +322,9 @@ lines_ended : (s : State) (r : Run) (rest : List ℕ) (total : ℕ) → (lines_l
 lines_ended s (going t n) rest total = refl
 lines_ended s (refused p) rest total = refl
 
-end_ended : (c : Stream) (p : List ℕ) (o : Outcome) (ls : List (List ℕ)) (rest : List ℕ) (total : ℕ) → (end_left c p o ls rest total).ended ≡ false
-end_ended c p (Next s) ls rest total = lines_ended s (over run_step (going s (c.lines + 1)) ls) rest total
-end_ended c p (Refused f) ls rest total = refl
+end_ended : (c : Stream) (p : List ℕ) (o : Result State Refusal) (ls : List (List ℕ)) (rest : List ℕ) (total : ℕ) → (end_left c p o ls rest total).ended ≡ false
+end_ended c p (Ok s) ls rest total = lines_ended s (over run_step (going s (c.lines + 1)) ls) rest total
+end_ended c p (Err f) ls rest total = refl
 
 left_ended : (c : Stream) (ls : List (List ℕ)) (rest : List ℕ) (total : ℕ) → (burst_left c ls rest total).ended ≡ false
 left_ended c [] rest total = refl

@@ -1,12 +1,13 @@
 -- A record that was laid out is read again as itself; the buffers after a start, a burst and the end.
-use Rattle.std.specs.Prelude.{◌≡◌, Bool, ◌||◌, List, [], ◌∷◌, ◌++◌, ℕ, ◌+◌, ◌-◌, ◌%◌, ◌≤◌, ◌<◌, ltb, length, get_or, take, drop, set}
+use Rattle.std.specs.Prelude.{◌≡◌, Bool, ◌||◌, List, [], ◌∷◌, ◌++◌, ℕ, ◌+◌, ◌%◌, ◌≤◌, ◌<◌, ltb, length, get_or, take, drop, set, min}
 use Rattle.std.proofs.Math.Path.{refl}
-use Rattle.std.proofs.Common.{sym, ap, ◌∙◌, append-nil, append_assoc, arith, ltb-false, le-ltb, eq-eqb, ne_eqb, length-drop, length-append, drop_at, drop-drop, get_or-set_same, get_or-set_other}
+use Rattle.std.proofs.Common.{sym, ap, ◌∙◌, append_assoc, arith, ltb-false, lt-ltb, le-ltb, ⊎_elim, eq-eqb, ne_eqb, length-append, drop_at, drop-drop, get_or-set_same, get_or-set_other}
 use Rattle.std.proofs.Math.Bool.{true, false}
-use borrow.Rule.Slice.PartMut.{put_mid, mid_of}
-use Rattle.std.proofs.Math.Seq.{take_at, take-length, drop-length}
+use borrow.Rule.Slice.PartMut.{put_mid}
+use mir.Val.{bool_byte}
+use Rattle.std.proofs.Math.Seq.{take_at}
 use Rattle.laws.specs.Choice.{pick}
-use Rattle.laws.specs.ChoiceLaws.{false_not_true}
+use Rattle.laws.specs.ChoiceLaws.{false_not_true, below_or_not}
 use Rattle.walk.specs.declared.Place.{Place}
 use Rattle.walk.specs.declared.Place.TheVariants.{Outside, Number, Plain, Typed}
 use Rattle.walk.specs.Step.{state}
@@ -19,33 +20,12 @@ use Rattle.output.specs.OutputLaws.{placed_then, placed_first}
 use Rattle.stream_c.specs.Lent.{numbers_room, line_room, place_of, stream_of, place_numbers, count_numbers, unused_numbers, unused_bytes, byte_of, numbers_of, Fits}
 use Rattle.stream_c.specs.Lent.{numbers_after, line_after, is_short, start_reply, start_numbers, start_line, end_of, end_numbers, Burst, same}
 
--- a column and the numbers not used, laid one after the other, and six numbers
-pub column_laid : (l : List ℕ) (a : ℕ) → 4 ≤ length l → set (set (set (set l 0 a) 1 0) 2 0) 3 0 ≡ (a ∷ unused_numbers) ++ drop 4 l
-column_laid [] a h = absurd (omega arith)
-column_laid (_ ∷ []) a h = absurd (omega arith)
-column_laid (_ ∷ _ ∷ []) a h = absurd (omega arith)
-column_laid (_ ∷ _ ∷ _ ∷ []) a h = absurd (omega arith)
-column_laid (_ ∷ _ ∷ _ ∷ _ ∷ l) a h = refl
-
-pub six_laid : (l : List ℕ) (a b c d e f : ℕ) → 6 ≤ length l → set (set (set (set (set (set l 0 a) 1 b) 2 c) 3 d) 4 e) 5 f ≡ a ∷ b ∷ c ∷ d ∷ e ∷ f ∷ drop 6 l
-six_laid [] a b c d e f h = absurd (omega arith)
-six_laid (_ ∷ []) a b c d e f h = absurd (omega arith)
-six_laid (_ ∷ _ ∷ []) a b c d e f h = absurd (omega arith)
-six_laid (_ ∷ _ ∷ _ ∷ []) a b c d e f h = absurd (omega arith)
-six_laid (_ ∷ _ ∷ _ ∷ _ ∷ []) a b c d e f h = absurd (omega arith)
-six_laid (_ ∷ _ ∷ _ ∷ _ ∷ _ ∷ []) a b c d e f h = absurd (omega arith)
-six_laid (_ ∷ _ ∷ _ ∷ _ ∷ _ ∷ _ ∷ l) a b c d e f h = refl
-
--- numbers p at the start, then others after them, by a part that is lent
-laid_after : (p q ns ns₁ ys : List ℕ) (n m : ℕ) → length p ≡ n → ns₁ ≡ p ++ drop n ns → ys ≡ q ++ drop m (mid_of n (length ns₁ - n) ns₁)
-    → put_mid n (length ns₁ - n) ns₁ ys ≡ (p ++ q) ++ drop (n + m) ns
-laid_after p q ns ns₁ ys n m l e y =
+-- numbers p at the start, then q after them, by a part that is lent
+laid_after : (p q ns ns₁ : List ℕ) (n m : ℕ) → length p ≡ n → ns₁ ≡ p ++ drop n ns → put_mid n m ns₁ q ≡ (p ++ q) ++ drop (n + m) ns
+laid_after p q ns ns₁ n m l e =
     let t : take n ns₁ ≡ p = rw e (take_at p (drop n ns) n l) in
     let d : drop n ns₁ ≡ drop n ns = rw e (drop_at p (drop n ns) n l) in
-    let k : length ns₁ - n ≡ length (drop n ns) = sym (length-drop n ns₁) ∙ ap length d in
-    let a : take (length (drop n ns)) (drop n ns) ≡ drop n ns = take-length (drop n ns) in
-    let z : drop (length (drop n ns)) (drop n ns) ≡ [] = drop-length (drop n ns) in
-    rw (y, k, d, t, a, z, append-nil (q ++ drop m (drop n ns)), drop-drop m n ns, append_assoc p q (drop (n + m) ns)) refl
+    rw (t, d, drop-drop m n ns, append_assoc p q (drop (n + m) ns)) refl
 
 place_length : (p : Place) → length (place_numbers p) ≡ 6
 place_length Outside = refl
@@ -53,18 +33,28 @@ place_length Number = refl
 place_length Plain = refl
 place_length (Typed d) = refl
 
-module _ (c : Stream) (ns ns₁ ys : List ℕ) (f : ℕ) (e : ns₁ ≡ place_numbers c.state.place ++ drop 6 ns)
-    (y : ys ≡ c.state.sets ∷ c.lines ∷ c.number ∷ c.total ∷ c.held ∷ f ∷ drop 6 (mid_of 6 (length ns₁ - 6) ns₁)) (g : f ≡ pick c.ended 1 0) where
-  used : put_mid 6 (length ns₁ - 6) ns₁ ys ≡ (place_numbers c.state.place ++ count_numbers c) ++ drop 12 ns
-  used = laid_after (place_numbers c.state.place) (count_numbers c) ns ns₁ ys 6 6 (place_length c.state.place) e (rw g at y)
+-- a refusal's number, by the smaller of two
+pub byte_least : (n : ℕ) → min n 255 ≡ byte_of n
+unfolding byte_of
+byte_least n = ⊎_elim (λ l. rw (lt-ltb 255 n l) (omega arith)) (λ l. rw (le-ltb 255 n l) (omega arith)) (below_or_not 255 n)
 
+-- the number of a flag
+flag_of : (b : Bool) → bool_byte b ≡ pick b 1 0
+flag_of true = refl
+flag_of false = refl
+
+-- a record's numbers, laid one part after the other
+module _ (c : Stream) (ns : List ℕ) where
   used_length : length (place_numbers c.state.place ++ count_numbers c) ≡ 12
   used_length = length-append (place_numbers c.state.place) (count_numbers c) ∙ rw (place_length c.state.place) refl
 
-  pub laid_record : (ns₂ zs : List ℕ) → ns₂ ≡ put_mid 6 (length ns₁ - 6) ns₁ ys → zs ≡ (c.column ∷ unused_numbers) ++ drop 4 (mid_of 12 (length ns₂ - 12) ns₂)
-      → put_mid 12 (length ns₂ - 12) ns₂ zs ≡ numbers_after c ns
+  pub laid_record : (f : ℕ) → f ≡ bool_byte c.ended
+      → put_mid 12 4 (put_mid 6 6 (place_numbers c.state.place ++ drop 6 ns) (c.state.sets ∷ c.lines ∷ c.number ∷ c.total ∷ c.held ∷ f ∷ [])) (c.column ∷ unused_numbers)
+      ≡ numbers_after c ns
   unfolding numbers_of
-  laid_record ns₂ zs u z = laid_after (place_numbers c.state.place ++ count_numbers c) (c.column ∷ unused_numbers) ns ns₂ zs 12 4 used_length (u ∙ used) z
+  laid_record f g =
+      let used = laid_after (place_numbers c.state.place) (count_numbers c) ns (place_numbers c.state.place ++ drop 6 ns) 6 6 (place_length c.state.place) refl in
+      rw (g, flag_of c.ended) (laid_after (place_numbers c.state.place ++ count_numbers c) (c.column ∷ unused_numbers) ns _ 12 4 used_length used)
 
 -- a record's line, then the bytes that it does not use
 pub laid_line : (p line l₁ l₂ : List ℕ) (past : ℕ) → length p ≡ 81 → past ≡ 0 + length p → l₁ ≡ placed 0 p line → l₂ ≡ placed past unused_bytes l₁

@@ -3,16 +3,16 @@
 // case, left, second), 6 the sets opened, 7 the lines, 8 the refusal's number, 9 the total, 10 how many bytes the open line has, 11 whether
 // the end was asked (0: no), 12 the column of the refusal, or of the open line's first byte not allowed, 13 to 15 nothing yet. The line: the first 80
 // bytes of the open one, then its last one, then 15 bytes that are nothing yet. What is nothing yet is laid as 0 and not read.
+// An `as` is proved to lose nothing; where one stands, std has no From between the two types, and `try_from` would ask for an answer to an error that cannot be.
 #![tactic(auto)]
 
-ghost use Rattle.std.specs.Prelude.{◌≡◌, ◌∷◌, ◌++◌, ◌||◌, ◌≤◌, ltb, length, drop};
-ghost use Rattle.laws.specs.Choice.{pick};
-ghost use Rattle.stream_c.specs.Lent.{numbers_room, line_room, byte_of, due_of, place_of, stream_of, place_numbers, unused_numbers, unused_bytes, Fits, numbers_after, line_after, start_reply, start_numbers, start_line, end_of, end_numbers, same, Burst};
+ghost use Rattle.std.specs.Prelude.{◌≡◌, ◌++◌, ◌||◌, ◌≤◌, ltb, length, drop};
+ghost use Rattle.stream_c.specs.Lent.{numbers_room, line_room, byte_of, due_of, place_of, stream_of, place_numbers, unused_bytes, Fits, numbers_after, line_after, start_reply, start_numbers, start_line, end_of, end_numbers, same, Burst};
 ghost use Rattle.stream.specs.Stream.{paper};
 
 use judge::Reply;
 use output::put_text;
-use stream::{Answer, Stream};
+use stream::Stream;
 use walk::{Due, Place, State};
 
 // The room of a record: so many numbers and so many bytes.
@@ -20,59 +20,23 @@ pub const NUMBERS_ROOM: usize = 16;
 
 pub const LINE_ROOM: usize = 96;
 
-// Lays six numbers at the start.
-fn put_six(out: &mut [u64], a: u64, b: u64, c: u64, d: u64, e: u64, f: u64)
-    requires { 6 ≤ length out.old }
-    ensures { out.new ≡ a ∷ b ∷ c ∷ d ∷ e ∷ f ∷ drop 6 out.old }
-{
-    out[0] = a;
-    out[1] = b;
-    out[2] = c;
-    out[3] = d;
-    out[4] = e;
-    out[5] = f;
-}
-
-// Lays a column, and the numbers that no record uses.
-fn put_column(out: &mut [u64], column: u64)
-    requires { 4 ≤ length out.old }
-    ensures { out.new ≡ (column ∷ unused_numbers) ++ drop 4 out.old }
-{
-    out[0] = column;
-    out[1] = 0;
-    out[2] = 0;
-    out[3] = 0;
-}
-
-// Lays a place and what is due there.
-fn put_place(numbers: &mut [u64], place: Place)
-    requires { 6 ≤ length numbers.old }
-    ensures { numbers.new ≡ place_numbers place ++ drop 6 numbers.old }
+// The numbers of a place and of what is due there.
+fn place_numbers(place: Place) -> [u64; 6]
+    ensures { result ≡ place_numbers place }
 {
     match place {
-        Place::Outside => put_six(numbers, 0, 0, 0, 0, 0, 0),
-        Place::Number => put_six(numbers, 1, 0, 0, 0, 0, 0),
-        Place::Plain => put_six(numbers, 2, 0, 0, 0, 0, 0),
-        Place::Typed(d) => put_six(
-            numbers,
+        Place::Outside => [0, 0, 0, 0, 0, 0],
+        Place::Number => [1, 0, 0, 0, 0, 0],
+        Place::Plain => [2, 0, 0, 0, 0, 0],
+        Place::Typed(d) => [
             3,
             d.kind as u64,
             d.at as u64,
             d.case as u64,
             d.left as u64,
             d.second as u64,
-        ),
+        ],
     }
-}
-
-// The number of a flag.
-fn flag(on: bool) -> u64
-    ensures { result ≡ pick on 1 0 }
-{
-    if on {
-        return 1;
-    }
-    0
 }
 
 // Lays a record's line.
@@ -89,20 +53,18 @@ fn put_record(numbers: &mut [u64], line: &mut [u8], c: Stream)
     requires { (numbers_room ≤ length numbers.old) × (line_room ≤ length line.old) }
     ensures { (numbers.new ≡ numbers_after c numbers.old) × (line.new ≡ line_after c line.old) × Fits c }
 {
-    let state = c.state;
-    let place = state.place;
-    let sets = state.sets as u64;
-    let lines = c.lines as u64;
-    let number = c.number as u64;
-    let column = c.column as u64;
-    let total = c.total as u64;
-    let held = c.held as u64;
-    let ended = flag(c.ended);
-    let pending = c.pending;
-    put_place(numbers, place);
-    put_six(&mut numbers[6..], sets, lines, number, total, held, ended);
-    put_column(&mut numbers[12..], column);
-    put_line(line, &pending);
+    let counts = [
+        u64::from(c.state.sets),
+        c.lines as u64,
+        u64::from(c.number),
+        c.total as u64,
+        c.held as u64,
+        u64::from(c.ended),
+    ];
+    numbers[..6].copy_from_slice(&place_numbers(c.state.place));
+    numbers[6..12].copy_from_slice(&counts);
+    numbers[12..16].copy_from_slice(&[c.column as u64, 0, 0, 0]);
+    put_line(line, &c.pending);
 }
 
 // What is due in a typed set, from its numbers.
@@ -124,27 +86,19 @@ fn place_in(numbers: &[u64]) -> Place
     requires { 6 ≤ length numbers.now }
     ensures { result ≡ place_of numbers.now }
 {
-    let place = numbers[0];
-    if place == 0 {
-        return Place::Outside;
+    match numbers[0] {
+        0 => Place::Outside,
+        1 => Place::Number,
+        2 => Place::Plain,
+        _ => Place::Typed(due_in(numbers)),
     }
-    if place == 1 {
-        return Place::Number;
-    }
-    if place == 2 {
-        return Place::Plain;
-    }
-    Place::Typed(due_in(numbers))
 }
 
 // A refusal's number, 255 where it is more.
 fn byte_of(n: u64) -> u8
     ensures { result ≡ byte_of n }
 {
-    if 255 < n {
-        return 255;
-    }
-    n as u8
+    n.min(255) as u8
 }
 
 // The record, from its numbers and its line.
@@ -152,15 +106,15 @@ fn record_in(numbers: &[u64], line: &[u8]) -> Stream
     requires { (numbers_room ≤ length numbers.now) × (line_room ≤ length line.now) }
     ensures { result ≡ stream_of numbers.now line.now }
 {
-    let place = place_in(numbers);
-    let sets = (numbers[6] % 4294967296) as u32;
-    let number = byte_of(numbers[8]);
     let mut pending = [0u8; 81];
-    put_text(&mut pending, 0, &line[..81]);
+    pending.copy_from_slice(&line[..81]);
     Stream {
-        state: State { place, sets },
+        state: State {
+            place: place_in(numbers),
+            sets: (numbers[6] % 4294967296) as u32,
+        },
         lines: numbers[7] as usize,
-        number,
+        number: byte_of(numbers[8]),
         column: numbers[12] as usize,
         total: numbers[9] as usize,
         pending,
@@ -177,12 +131,12 @@ fn is_short(numbers: usize, line: usize) -> bool
 }
 
 // The number and the place of an answer; "so far" is 127.
-fn reply_of(a: Answer) -> Reply
+fn reply_of(a: Result<usize, Reply>) -> Reply
     ensures { result ≡ paper a }
 {
     match a {
-        Answer::SoFar(lines) => judge::bare_reply(127, lines),
-        Answer::Refused(reply) => reply,
+        Ok(lines) => judge::bare_reply(127, lines),
+        Err(reply) => reply,
     }
 }
 
@@ -208,10 +162,8 @@ pub fn burst(numbers: &mut [u64], line: &mut [u8], bytes: &[u8]) -> Reply
         return judge::bare_reply(23, 0);
     }
     let after = stream_mut::after_burst(record_in(numbers, line), bytes);
-    let left = after.stream;
-    let answer = after.answer;
-    put_record(numbers, line, left);
-    reply_of(answer)
+    put_record(numbers, line, after.stream);
+    reply_of(after.answer)
 }
 
 // The whole file's answer, and the record says that the end was asked; 20 where the room is too short.

@@ -1,12 +1,11 @@
 -- What a host is told that lends the record: after the start, however the file is cut into bursts, the end's reply is the judge's for the whole of
 -- it, asked again too; each burst is answered by the bytes so far; a burst after the end is 23 and touches nothing.
-use Rattle.std.specs.Prelude.{◌≡◌, refl, false, List, [], ◌∷◌, ◌++◌, ℕ, set}
+use Rattle.std.specs.Prelude.{◌≡◌, refl, false, List, [], ◌∷◌, ◌++◌, ℕ, set, Result}
 use Rattle.std.proofs.Common.{sym, ap, subst, ◌∙◌, arith, length-append, length-drop, length-set, set-set}
 use Rattle.std.proofs.Math.ListN.{length, drop, length-replicate}
 use Rattle.judge.specs.declared.Reply.{Reply}
 use Rattle.judge.specs.Judge.{reply, judged}
 use Rattle.stream.specs.declared.Stream.{Stream}
-use Rattle.stream.specs.declared.Answer.{Answer}
 use Rattle.stream.specs.Stream.{seen, Stepped, answer_of, paper, closed, fresh_record}
 use Rattle.stream.specs.StreamLaws.{fresh_says}
 use Rattle.stream_c.specs.Lent.{numbers_room, line_room, unused_bytes, is_short, stream_of, numbers_of, start_numbers, start_line, end_of, end_numbers, Untouched, Brought, Burst}
@@ -104,7 +103,7 @@ module _ {A : Type 0} {form : Reply → A} (ns bs : List ℕ) (s : is_short ns b
       let u = w.further kept_on.long kept_on.open_still in
       let f = further kept_on.open_still u in
       u.said ∙ ap (λ (c : Stream). form (paper (answer_of c.ended (seen c)))) (sym u.again)
-      ∙ ap (λ (a : Answer). form (paper a)) (any_cut_answer fresh_says.1 fresh_says.0 (bursts_end from_fresh f.stepped))
+      ∙ ap (λ (a : Result ℕ Reply). form (paper a)) (any_cut_answer fresh_says.1 fresh_says.0 (bursts_end from_fresh f.stepped))
 
   -- after the end it is 23, and nothing is touched
   pub calls_late : {b ns'' bs'' : List ℕ} {r : A} → Burst form (end_numbers ns' bs') bs' b ns'' bs'' r → Untouched (end_numbers ns' bs') bs' ns'' bs'' × (r ≡ form (reply 23 0))

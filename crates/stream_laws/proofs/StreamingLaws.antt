@@ -3,7 +3,7 @@
 -- otherwise that of the finished lines, and "so far" counts them. The end's answer is the whole file's, asked again too. A refusal that a burst has told
 -- is the end's, unless the file gets too long. After the end was asked, a burst is answered 23 and changes nothing. Of any record that is not ended,
 -- one made up otherwise too: a burst adds its length to the running length, and past the limit is past for good.
-use Rattle.std.specs.Prelude.{◌≡◌, refl, Bool, true, false, List, [], ◌∷◌, ◌++◌, ◌⊎◌, ℕ, ◌+◌, ◌≤◌, ◌<◌, ltb, eqb, length}
+use Rattle.std.specs.Prelude.{◌≡◌, refl, Bool, true, false, List, [], ◌∷◌, ◌++◌, ◌⊎◌, ℕ, ◌+◌, ◌≤◌, ◌<◌, ltb, eqb, length, Ok, Err}
 use Rattle.std.proofs.Common.{sym, ap, ◌∙◌, append-nil, append_assoc, inl, inr, ⊎_elim, arith, lt-ltb, le-ltb, length-append}
 use Prim.{tt}
 use Rattle.laws.specs.Choice.{pick}
@@ -12,14 +12,14 @@ use Rattle.laws.specs.Cut.{cut, over, judge}
 use Rattle.laws.specs.CutLaws.{cut_append, over_append}
 use Rattle.walk.specs.declared.Place.{Place}
 use Rattle.walk.specs.declared.Place.TheVariants.{Outside, Number, Plain, Typed}
-use Rattle.walk.specs.declared.Outcome.{Outcome}
-use Rattle.walk.specs.declared.Outcome.TheVariants as Outcomes
+use Rattle.std.specs.Prelude.{Result}
+use Rattle.walk.specs.declared.State.{State}
+use Rattle.line.specs.declared.Refusal.{Refusal}
 use Rattle.walk.specs.Step.{start}
 use Rattle.judge.specs.declared.Reply.{Reply}
 use Rattle.judge.specs.Judge.{Run, going, refused, reply, line_step, on_outcome, run_step, at_end, run_end, judged}
 use Rattle.judge.specs.JudgeLaws.{over_refused}
 use Rattle.stream.specs.declared.Stream.{Stream}
-use Rattle.stream.specs.declared.Answer.TheVariants.{SoFar, Refused}
 use Rattle.stream.specs.Stream.{OpenLine, open_of, longer, in_limit, past, kept, line_end, arrived, step_of, seen, Stepped, so_far, answer_of, end_reply, closed}
 use Rattle.stream.specs.OpenLineLaws.{end_open}
 use Rattle.stream.specs.StreamLaws.{arrived_refused, seen_closed}
@@ -73,7 +73,7 @@ pub answer_after : (a : List ℕ) → answer_of false (after a) ≡ burst_answer
 unfolding answer_of after
 answer_after a = go (ltb 16777216 (length a))
   where
-    go : (t : Bool) → so_far (pick t past (kept (finished a) (open_of (cut a).rest) (length a))) ≡ pick t (Refused (reply 1 0)) (run_answer (finished a))
+    go : (t : Bool) → so_far (pick t past (kept (finished a) (open_of (cut a).rest) (length a))) ≡ pick t (Err (reply 1 0)) (run_answer (finished a))
     go true = refl
     go false = so_far_kept (finished a) (open_of (cut a).rest) (length a)
 
@@ -82,9 +82,9 @@ abbrev Counts : Run → ℕ → Type 0
 Counts (going s m) n = m ≡ n
 Counts (refused p) n = Unit
 
-outcome_counts : (o : Outcome) (m : ℕ) → Counts (on_outcome m o) (m + 1)
-outcome_counts (Outcomes.Next s) m = refl
-outcome_counts (Outcomes.Refused f) m = tt
+outcome_counts : (o : Result State Refusal) (m : ℕ) → Counts (on_outcome m o) (m + 1)
+outcome_counts (Ok s) m = refl
+outcome_counts (Err f) m = tt
 
 step_counts : (r : Run) (l : List ℕ) (n : ℕ) → Counts r n → Counts (run_step r l) (n + 1)
 step_counts (going s m) l n h = rw (← h) (outcome_counts (line_step s l) m)
@@ -98,11 +98,11 @@ over_counts r (l ∷ ls) n h =
     rw e (over_counts (run_step r l) ls (n + 1) (step_counts r l n h))
 
 -- "'so far' with the number of finished lines"
-pub lines_after : (a : List ℕ) (n : ℕ) → burst_answer a ≡ SoFar n → n ≡ length (cut a).lines
+pub lines_after : (a : List ℕ) (n : ℕ) → burst_answer a ≡ Ok n → n ≡ length (cut a).lines
 unfolding finished
 lines_after a n h = go (ltb 16777216 (length a)) (finished a) h (over_counts (going start 0) (cut a).lines 0 refl)
   where
-    go : (t : Bool) (r : Run) → pick t (Refused (reply 1 0)) (run_answer r) ≡ SoFar n → Counts r (0 + length (cut a).lines) → n ≡ length (cut a).lines
+    go : (t : Bool) (r : Run) → pick t (Err (reply 1 0)) (run_answer r) ≡ Ok n → Counts r (0 + length (cut a).lines) → n ≡ length (cut a).lines
     go true r h k = cc
     go false (going s m) h k = let e : m ≡ n = cc in omega arith
     go false (refused p) h k = cc
@@ -137,16 +137,16 @@ bursts_end none s = more s none
 bursts_end (more u k) s = more u (bursts_end k s)
 
 -- a run that is refused
-run_told : (x : Run) (f : Reply) → run_answer x ≡ Refused f → x ≡ refused f
+run_told : (x : Run) (f : Reply) → run_answer x ≡ Err f → x ≡ refused f
 run_told (going s m) f h = cc
 run_told (refused r) f h = let e : r ≡ f = cc in rw e refl
 
 -- A refusal that a burst has told is the whole file's, if that is not too long.
-pub told_stays : (a b : List ℕ) (f : Reply) → burst_answer a ≡ Refused f → length (a ++ b) ≤ 16777216 → judged (a ++ b) ≡ f
+pub told_stays : (a b : List ℕ) (f : Reply) → burst_answer a ≡ Err f → length (a ++ b) ≤ 16777216 → judged (a ++ b) ≡ f
 unfolding judged judge finished
 told_stays a b f h l =
     let m : length a ≤ 16777216 = omega (arith, length-append a b) in
-    let t : run_answer (finished a) ≡ Refused f = rw (le-ltb 16777216 (length a) m) at h in
+    let t : run_answer (finished a) ≡ Err f = rw (le-ltb 16777216 (length a) m) at h in
     let e : finished a ≡ refused f = run_told (finished a) f t in
     rw (le-ltb 16777216 (length (a ++ b)) l, cut_append a b, over_append run_step (going start 0) (cut a).lines (cut ((cut a).rest ++ b)).lines, e, over_refused f (cut ((cut a).rest ++ b)).lines) refl
 
@@ -164,11 +164,11 @@ end_beyond Number sets n = inr (inr refl)
 end_beyond Plain sets n = inr (inr refl)
 end_beyond (Typed d) sets n = inr (inr refl)
 
-pub so_far_beyond : (a : List ℕ) (n : ℕ) → burst_answer a ≡ SoFar n → (judged a ≡ reply 0 n) ⊎ ((judged a ≡ reply 16 0) ⊎ ((judged a).place ≡ n + 1))
+pub so_far_beyond : (a : List ℕ) (n : ℕ) → burst_answer a ≡ Ok n → (judged a ≡ reply 0 n) ⊎ ((judged a ≡ reply 16 0) ⊎ ((judged a).place ≡ n + 1))
 unfolding judged judge finished
 so_far_beyond a n h = go (ltb 16777216 (length a)) (finished a) (cut a).rest h
   where
-    go : (t : Bool) (r : Run) (l : List ℕ) → pick t (Refused (reply 1 0)) (run_answer r) ≡ SoFar n → Beyond n (pick t (reply 1 0) (run_end r l))
+    go : (t : Bool) (r : Run) (l : List ℕ) → pick t (Err (reply 1 0)) (run_answer r) ≡ Ok n → Beyond n (pick t (reply 1 0) (run_end r l))
     go true r l h = let z : n ≡ n + 1 = cc in absurd (omega arith)
     go false (going s m) [] h = let e : m ≡ n = cc in rw e (end_beyond s.place s.sets n)
     go false (going s m) (b ∷ bs) h = let e : m ≡ n = cc in rw e (inr (inr refl))
@@ -180,7 +180,7 @@ unfolding closed
 closed_again r = refl
 
 -- 23, "a burst after the end was asked, first of all": the record stays as it is.
-pub after_end : {t : Stream} {b : List ℕ} (r : Stream) → Stepped (closed r) b t → (t ≡ closed r) × (answer_of t.ended (seen t) ≡ Refused (reply 23 0))
+pub after_end : {t : Stream} {b : List ℕ} (r : Stream) → Stepped (closed r) b t → (t ≡ closed r) × (answer_of t.ended (seen t) ≡ Err (reply 23 0))
 unfolding closed answer_of
 after_end r s = (s.untouched refl, rw s.ended refl)
 

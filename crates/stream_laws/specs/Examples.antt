@@ -1,5 +1,5 @@
 -- Bursts and what they answer, computed from the definitions.
-use Rattle.std.specs.Prelude.{◌≡◌, refl, true, false, List, [], ◌∷◌, ◌++◌, ℕ, replicate}
+use Rattle.std.specs.Prelude.{◌≡◌, refl, true, false, List, [], ◌∷◌, ◌++◌, ℕ, replicate, Result, Ok, Err}
 use Rattle.std.proofs.Common.{sym, ap, ◌∙◌, arith}
 use Prim.Native.String as S
 use Prim.Native.String.{String}
@@ -18,8 +18,6 @@ use Rattle.walk.specs.Step as W
 use Rattle.walk.specs.Step.{start, opened, outside_step, number_step, plain_step}
 use Rattle.judge.specs.declared.Reply.{Reply}
 use Rattle.judge.specs.Judge.{going, reply, reply_at, line_step}
-use Rattle.stream.specs.declared.Answer.{Answer}
-use Rattle.stream.specs.declared.Answer.TheVariants.{SoFar, Refused}
 use Rattle.stream.specs.declared.Stream.{Stream}
 use Rattle.stream.specs.Stream.{open_of, longer, columns_of, fault_of, open_outcome, Seen, in_limit, past, step_of, seen, Stepped, answer_of, end_reply, closed}
 
@@ -33,7 +31,7 @@ bytes S.[] = []
 bytes (S.◌∷◌ c s) = code c ∷ bytes s
 
 -- the answers of bursts to a record, in order
-abbrev answers : Seen → List (List ℕ) → List Answer
+abbrev answers : Seen → List (List ℕ) → List (Result ℕ Reply)
 answers s [] = []
 answers s (b ∷ bs) = answer_of false (step_of s b) ∷ answers (step_of s b) bs
 
@@ -49,35 +47,35 @@ abbrev length_of : Seen → ℕ
 length_of past = 0
 length_of (in_limit r o n) = n
 
-abbrev lines_of : Answer → ℕ
-lines_of (SoFar n) = n
-lines_of (Refused r) = 0
+abbrev lines_of : Result ℕ Reply → ℕ
+lines_of (Ok n) = n
+lines_of (Err r) = 0
 
 -- each CR ends a burst, and its LF begins the next; the last burst has no bytes. A judge that takes a burst's end for a line's end refuses it.
 abbrev returns : List (List ℕ)
 returns = (bytes "    -1" ++ (13 ∷ [])) ∷ ((10 ∷ bytes "  2420") ++ (13 ∷ [])) ∷ ((10 ∷ bytes "    -1") ++ (13 ∷ [])) ∷ (10 ∷ []) ∷ [] ∷ []
 
-pub returns_accepted : (answers fresh returns ≡ SoFar 0 ∷ SoFar 1 ∷ SoFar 2 ∷ SoFar 3 ∷ SoFar 3 ∷ []) × (ends fresh returns ≡ reply 0 3)
+pub returns_accepted : (answers fresh returns ≡ Ok 0 ∷ Ok 1 ∷ Ok 2 ∷ Ok 3 ∷ Ok 3 ∷ []) × (ends fresh returns ≡ reply 0 3)
 unfolding computed_step run all_blank is_digit I.push step_integer end_integer integer_of filled then_blank is_delimiter dataset_number kind_of is_typed typed_sets opened outside_step number_step plain_step W.step_of
 returns_accepted = (refl, refl)
 
 -- a CR that ends a burst and has no LF after it is a byte not allowed. A judge that drops it at once accepts the line.
-pub return_alone : answers fresh ((bytes "    -" ++ (13 ∷ [])) ∷ (bytes "1" ++ (10 ∷ [])) ∷ []) ≡ SoFar 0 ∷ Refused (reply_at 2 1 6) ∷ []
+pub return_alone : answers fresh ((bytes "    -" ++ (13 ∷ [])) ∷ (bytes "1" ++ (10 ∷ [])) ∷ []) ≡ Ok 0 ∷ Err (reply_at 2 1 6) ∷ []
 unfolding computed_step
 return_alone = refl
 
 -- a line of 85 bytes, the 83rd of them not allowed. A judge that keeps only its first bytes answers 3, and one that counts from a burst's first byte column 1.
-pub late_byte : answers fresh (replicate 82 32 ∷ (9 ∷ []) ∷ (32 ∷ 32 ∷ []) ∷ (10 ∷ []) ∷ []) ≡ SoFar 0 ∷ SoFar 0 ∷ SoFar 0 ∷ Refused (reply_at 2 1 83) ∷ []
+pub late_byte : answers fresh (replicate 82 32 ∷ (9 ∷ []) ∷ (32 ∷ 32 ∷ []) ∷ (10 ∷ []) ∷ []) ≡ Ok 0 ∷ Ok 0 ∷ Ok 0 ∷ Err (reply_at 2 1 83) ∷ []
 unfolding computed_step
 late_byte = refl
 
 -- 84 blanks, then CR LF: 3, since the CR belongs to the end
-pub late_return : answers fresh (replicate 84 32 ∷ (13 ∷ []) ∷ (10 ∷ []) ∷ []) ≡ SoFar 0 ∷ SoFar 0 ∷ Refused (reply_at 3 1 1) ∷ []
+pub late_return : answers fresh (replicate 84 32 ∷ (13 ∷ []) ∷ (10 ∷ []) ∷ []) ≡ Ok 0 ∷ Ok 0 ∷ Err (reply_at 3 1 1) ∷ []
 unfolding computed_step
 late_return = refl
 
 -- 84 blanks and a CR, then CR LF: the first CR is a byte not allowed, at its own column; and so it is where the file ends with it
-pub late_returns : answers fresh (replicate 84 32 ∷ (13 ∷ []) ∷ (13 ∷ 10 ∷ []) ∷ []) ≡ SoFar 0 ∷ SoFar 0 ∷ Refused (reply_at 2 1 85) ∷ []
+pub late_returns : answers fresh (replicate 84 32 ∷ (13 ∷ []) ∷ (13 ∷ 10 ∷ []) ∷ []) ≡ Ok 0 ∷ Ok 0 ∷ Err (reply_at 2 1 85) ∷ []
 unfolding computed_step
 late_returns = refl
 

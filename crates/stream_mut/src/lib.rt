@@ -5,13 +5,13 @@ ghost use Rattle.std.specs.Prelude.{◌≡◌};
 ghost use Rattle.stream.specs.Stream.{seen, Stepped, answer_of, end_reply, closed};
 
 use judge::Reply;
-use stream::{Answer, Stream};
+use stream::Stream;
 
 // A record, and what a burst answered.
 #[derive(Clone, Copy)]
 pub struct AfterBurst {
     pub stream: Stream,
-    pub answer: Answer,
+    pub answer: Result<usize, Reply>,
 }
 
 // A record, and what the end answered.
@@ -22,51 +22,35 @@ pub struct AfterEnd {
 }
 
 // Brings the lent record up to date by a burst; answers for it.
-pub fn burst(c: &mut Stream, bytes: &[u8]) -> Answer
+pub fn burst(c: &mut Stream, bytes: &[u8]) -> Result<usize, Reply>
     ensures { Stepped c.old bytes.now c.new × (result ≡ answer_of c.new.ended (seen c.new)) }
 {
-    let next = stream::step(*c, bytes);
-    *c = next;
-    stream::answer_of(next)
+    *c = stream::step(*c, bytes);
+    stream::answer_of(*c)
 }
 
 // The end of the lent record's file: the whole file's answer, asked again too.
 pub fn end(c: &mut Stream) -> Reply
     ensures { (c.new ≡ closed c.old) × (result ≡ end_reply (seen c.old)) }
 {
-    let next = stream::close(*c);
-    *c = next;
-    stream::reply(next)
-}
-
-// A record with an answer.
-fn with_answer(stream: Stream, answer: Answer) -> AfterBurst
-    ensures { (result.stream ≡ stream) × (result.answer ≡ answer) }
-{
-    AfterBurst { stream, answer }
-}
-
-// A record with a reply.
-fn with_reply(stream: Stream, reply: Reply) -> AfterEnd
-    ensures { (result.stream ≡ stream) × (result.reply ≡ reply) }
-{
-    AfterEnd { stream, reply }
+    *c = stream::close(*c);
+    stream::reply(*c)
 }
 
 // A burst, with the record by value.
 pub fn after_burst(c: Stream, bytes: &[u8]) -> AfterBurst
     ensures { Stepped c bytes.now result.stream × (result.answer ≡ answer_of result.stream.ended (seen result.stream)) }
 {
-    let mut x = c;
-    let answer = burst(&mut x, bytes);
-    with_answer(x, answer)
+    let mut stream = c;
+    let answer = burst(&mut stream, bytes);
+    AfterBurst { stream, answer }
 }
 
 // The end, with the record by value.
 pub fn after_end(c: Stream) -> AfterEnd
     ensures { (result.stream ≡ closed c) × (result.reply ≡ end_reply (seen c)) }
 {
-    let mut x = c;
-    let reply = end(&mut x);
-    with_reply(x, reply)
+    let mut stream = c;
+    let reply = end(&mut stream);
+    AfterEnd { stream, reply }
 }

@@ -1,5 +1,5 @@
 -- A set of an accepted file is accepted alone, and every call answers of it as in the whole file.
-use Rattle.std.specs.Prelude.{◌≡◌, refl, Bool, true, false, List, [], ◌∷◌, ◌++◌, map, ℕ, suc, ◌+◌, ◌-◌, ◌<◌, ◌≤◌, ltb, eqb, Float, drop}
+use Rattle.std.specs.Prelude.{◌≡◌, refl, Bool, true, false, List, [], ◌∷◌, ◌++◌, map, ℕ, suc, ◌+◌, ◌-◌, ◌<◌, ◌≤◌, ltb, eqb, Float, drop, Ok, Err}
 use Rattle.std.proofs.Common.{sym, ◌∙◌, ⊎_elim, append-nil, zero-mul, arith, lt-ltb, le-ltb, eqb-true, length-append}
 use Rattle.std.proofs.Math.Path.{ap}
 use Rattle.std.proofs.lemmas.List.{map-append}
@@ -9,8 +9,7 @@ use Rattle.laws.specs.Choice.{pick}
 use Rattle.laws.specs.ChoiceLaws.{below_or_not}
 use Rattle.laws.specs.Cut.{text, cut}
 use Rattle.line.specs.Line.{columns}
-use Rattle.real.specs.declared.Real.{Real}
-use Rattle.real.specs.declared.Real.TheVariants.{Blank, Malformed, Value}
+use Rattle.real.specs.Real.{Real}
 use Rattle.record_table.specs.TypedSets.{header_lines}
 use Rattle.judge.specs.Judge.{judged}
 use Rattle.parts.specs.Parts as Parts
@@ -113,9 +112,8 @@ unfolding Function.past_byte Function.data_line Function.part_case Parts.line_st
 past_behind p j = omega arith
 
 shown_behind_lem : (b x y : ℕ) (r : Real) → shown_of (b + x) (b + y) r ≡ said_behind b (shown_of x y r)
-shown_behind_lem b x y Blank = refl
-shown_behind_lem b x y Malformed = refl
-shown_behind_lem b x y (Value n) = refl
+shown_behind_lem b x y (Err _) = refl
+shown_behind_lem b x y (Ok n) = refl
 
 pick_behind : (b x y : ℕ) (r : Real) (t : Bool) → pick t (shown_of (b + x) (b + y) r) (refused 18 0) ≡ said_behind b (pick t (shown_of x y r) (refused 18 0))
 pick_behind b x y r true = shown_behind_lem b x y r

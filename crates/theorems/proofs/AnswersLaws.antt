@@ -1,11 +1,10 @@
 -- The reader answers from the list.
-use Rattle.std.specs.Prelude.{◌≡◌, List, [], ◌∷◌, ℕ, ◌+◌, ◌-◌, ◌*◌, ◌<◌, ◌≤◌, ltb, Float, length, take, drop}
+use Rattle.std.specs.Prelude.{◌≡◌, List, [], ◌∷◌, ℕ, ◌+◌, ◌-◌, ◌*◌, ◌<◌, ◌≤◌, ltb, Float, length, take, drop, Ok}
 use Rattle.std.proofs.Math.Path.{refl}
 use Rattle.std.proofs.Common.{sym, ap, ◌∙◌, zero-mul, arith}
 use borrow.Author.Tests.{lt-ltb, le-ltb, le-leb, ne_eqb}
 use Rattle.laws.specs.ChoiceLaws.{pick_same}
-use Rattle.real.specs.declared.Real.TheVariants.{Value}
-use Rattle.real.specs.declared.Real.{Real}
+use Rattle.real.specs.Real.{Real}
 use Rattle.real.specs.Real as Real
 use Rattle.real.proofs.RealLaws.{real_of_complete}
 use Rattle.real.specs.EndLaws.{signed_size}
@@ -149,7 +148,7 @@ item_own bytes ps w h e j l = let x = stored_shown bytes ps w h e j l in (x, rw 
 -- two reals that are one number are one item
 pub real_same : (i j : Item) (cols cols' : List ℕ) → Spelled i cols → Spelled j cols' → real_of_item i ≡ real_of_item j → i ≡ j
 real_same i j cols cols' x y e =
-    let q : Value (Real.number_of x.minus x.coefficient x.scale) ≡ Value (Real.number_of y.minus y.coefficient y.scale) = ap real_of_item (sym x.item) ∙ e ∙ ap real_of_item y.item in
+    let q : ◌≡◌ {A = Real} (Ok (Real.number_of x.minus x.coefficient x.scale)) (Ok (Real.number_of y.minus y.coefficient y.scale)) = ap real_of_item (sym x.item) ∙ e ∙ ap real_of_item y.item in
     let v : Real.number_of x.minus x.coefficient x.scale ≡ Real.number_of y.minus y.coefficient y.scale = cc in
     let a : x.minus ≡ y.minus = ap (λ (n : Number). n.minus) v in
     let b : x.coefficient ≡ y.coefficient = ap (λ (n : Number). n.coefficient) v in

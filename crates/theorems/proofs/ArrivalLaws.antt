@@ -1,5 +1,5 @@
 -- A file judged while it arrives: what the end accepts, and that a refused call leaves the record lent as it was.
-use Rattle.std.specs.Prelude.{◌≡◌, refl, Bool, ◌&&◌, ◌||◌, List, [], ◌∷◌, ◌⊎◌, ℕ, ◌+◌, ◌<◌, ◌≤◌, leb, ltb, eqb, length, set}
+use Rattle.std.specs.Prelude.{◌≡◌, refl, Bool, ◌&&◌, ◌||◌, List, [], ◌∷◌, ◌⊎◌, ℕ, ◌+◌, ◌<◌, ◌≤◌, leb, ltb, eqb, length, set, Err}
 use Rattle.std.proofs.Common.{sym, ◌∙◌, inl, inr, ⊎_elim, arith, lt-ltb, le-ltb, ltb-false}
 use Rattle.std.proofs.Math.Path.{ap}
 use Rattle.std.proofs.Math.Bool.{true, false}
@@ -10,14 +10,13 @@ use Rattle.line.specs.Line.{refusal}
 use Rattle.walk.specs.declared.Place.{Place}
 use Rattle.walk.specs.declared.Place.TheVariants.{Outside, Number, Plain, Typed}
 use Rattle.walk.specs.declared.State.{State}
-use Rattle.walk.specs.declared.Outcome.{Outcome}
-use Rattle.walk.specs.declared.Outcome.TheVariants as Outcomes
+use Rattle.std.specs.Prelude.{Result, Ok}
+use Rattle.line.specs.declared.Refusal.{Refusal}
 use Rattle.walk.specs.Step.{start}
 use Rattle.judge.specs.declared.Reply.{Reply}
 use Rattle.judge.specs.Judge.{judged, reply, at_line, Run, going, refused, line_step, on_outcome, run_step, at_end}
 use Rattle.judge.specs.RefusalLaws.{line_number}
 use Rattle.stream.specs.declared.Stream.{Stream}
-use Rattle.stream.specs.declared.Answer.TheVariants.{Refused}
 use Rattle.stream.specs.Stream.{OpenLine, columns_of, fault_of, open_fault, is_strange, is_past, open_in, seen, answer_of, so_far, paper, open_end, end_reply, closed, fresh_record}
 use Rattle.stream.specs.StreamLaws.{number_known, seen_past, seen_going, seen_refused, fresh_says}
 use Rattle.stream_c.specs.Lent.{is_short, stream_of, numbers_after, line_after, start_reply, start_numbers, start_line, end_of, end_numbers, Untouched, Burst, same}
@@ -49,7 +48,7 @@ module _ {r : Stream} {bursts : List (List ℕ)} (k : Bursts fresh_record bursts
   proper_arrived p = any_cut.0 ∙ proper_accepted p
 
 -- past the limit
-pub burst_too_long : (bytes : List ℕ) → 16777216 < length bytes → burst_answer bytes ≡ Refused (reply 1 0)
+pub burst_too_long : (bytes : List ℕ) → 16777216 < length bytes → burst_answer bytes ≡ Err (reply 1 0)
 burst_too_long bytes h = rw (lt-ltb 16777216 (length bytes) h) refl
 
 -- finished lines, judged: how many there are, or the refusal of one
@@ -57,9 +56,9 @@ abbrev Ran : ℕ → Run → Type 0
 Ran n (going s m) = m ≡ n
 Ran n (refused r) = OfLine n r
 
-ran_outcome : (s : State) (l : List ℕ) (n : ℕ) (o : Outcome) → line_step s l ≡ o → Ran (n + 1) (on_outcome n o)
-ran_outcome s l n (Outcomes.Next t) e = refl
-ran_outcome s l n (Outcomes.Refused f) e =
+ran_outcome : (s : State) (l : List ℕ) (n : ℕ) (o : Result State Refusal) → line_step s l ≡ o → Ran (n + 1) (on_outcome n o)
+ran_outcome s l n (Ok t) e = refl
+ran_outcome s l n (Err f) e =
     let c = fault_column (refused_fault s l f e) in
     record { number = line_number s l f e; from = omega arith; last = omega arith; column = c.from; eighty = c.eighty }
 
@@ -80,7 +79,7 @@ burst_table bytes =
     let all : 0 + length (cut bytes).lines ≡ length (cut bytes).lines = omega arith in
     by (ltb 16777216 (length bytes)) (finished bytes) (rw all at (ran_over (cut bytes).lines (going start 0) 0 refl))
   where
-    by : (t : Bool) (r : Run) → Ran (length (cut bytes).lines) r → BurstInTable (length (cut bytes).lines) (paper (pick t (Refused (reply 1 0)) (run_answer r)))
+    by : (t : Bool) (r : Run) → Ran (length (cut bytes).lines) r → BurstInTable (length (cut bytes).lines) (paper (pick t (Err (reply 1 0)) (run_answer r)))
     by true r h = BurstInTable.too_long
     by false (going s m) h = rw h BurstInTable.so_far
     by false (refused r) h = BurstInTable.line r h

@@ -1,10 +1,9 @@
 -- On a 58's data line each field shows what the reader shows of the stored number.
-use Rattle.std.specs.Prelude.{◌≡◌, refl, List, ℕ, suc, ◌<◌, take}
+use Rattle.std.specs.Prelude.{◌≡◌, refl, List, ℕ, suc, ◌<◌, take, Ok}
 use Rattle.std.proofs.Common.{sym, ap, subst, ◌∙◌}
 use Rattle.std.proofs.Math.IntN.{nat_abs}
 use Rattle.real.specs.Real.{below_zero, number_of, real_of}
 use Rattle.real.proofs.RealLaws.{real_of_complete}
-use Rattle.real.specs.declared.Real.TheVariants.{Value}
 use Rattle.layout.specs.Columns.{field_start, field_past}
 use Rattle.layout.specs.ColumnsLaws.{field_of_inside}
 use Rattle.layout.specs.Layout.{layout_of, fields_of}
@@ -45,10 +44,10 @@ module _ {sets : List Set} {bytes : List ℕ} (p : Proper sets bytes) {k : ℕ} 
   own = own_bytes_lem bytes q a.at.others (set_somewhere p a.at) j (stored_item s j) spelled
 
   -- and mean one real
-  meant : real_of (own_columns c q j) ≡ Value (number_of spelled.minus spelled.coefficient spelled.scale)
+  meant : real_of (own_columns c q j) ≡ Ok (number_of spelled.minus spelled.coefficient spelled.scale)
   meant = real_of_complete spelled.spelling
 
-  stored : stored_number bytes (suc k) j ≡ shown_of (first_byte q j) (past_byte q j) (Value (number_of spelled.minus spelled.coefficient spelled.scale))
+  stored : stored_number bytes (suc k) j ≡ shown_of (first_byte q j) (past_byte q j) (Ok (number_of spelled.minus spelled.coefficient spelled.scale))
   stored = number_by_bytes p a j l ∙ ap (shown_of (first_byte q j) (past_byte q j)) (ap real_of (sym own) ∙ meant)
 
   within : data_field q j < fields_of c

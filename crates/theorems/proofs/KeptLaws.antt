@@ -1,5 +1,5 @@
 -- A refused call leaves what it is lent as it was.
-use Rattle.std.specs.Prelude.{◌≡◌, refl, Bool, true, false, List, [], ◌∷◌, ◌++◌, ℕ, zero, suc, ◌<◌, ltb, eqb, ℤ, Float, length, drop}
+use Rattle.std.specs.Prelude.{◌≡◌, refl, Bool, true, false, List, [], ◌∷◌, ◌++◌, ℕ, zero, suc, ◌<◌, ltb, eqb, ℤ, Float, length, drop, Ok, Err}
 use Rattle.std.proofs.Common.{ap, arith, ne_eqb}
 use Rattle.laws.specs.Choice.{pick}
 use Rattle.judge.specs.declared.Reply.{Reply}
@@ -7,10 +7,8 @@ use Rattle.judge.specs.Judge.{judged, reply}
 use Rattle.parts.specs.Parts.{Part}
 use Rattle.parts.specs.Function.{stored_of, first_byte, past_byte}
 use Rattle.lister.specs.Lister.{list_reply, list_rows}
-use Rattle.real.specs.declared.Real.{Real}
-use Rattle.real.specs.declared.Real.TheVariants.{Blank, Malformed, Value}
-use Rattle.reader.specs.declared.Read.{Read}
-use Rattle.reader.specs.declared.Read.TheVariants as read
+use Rattle.real.specs.Real.{Real}
+use Rattle.reader.specs.Reader.{Read}
 use Rattle.reader.specs.Reader as Reader
 use Rattle.reader.specs.Reader.{Said, Shown, judged_first, sets_from, shown_of, real_in, number_from, stored_number, whole, value_with, values_in, value_from, value_of}
 use Rattle.values.specs.Values.{all_reply, all_places}
@@ -49,9 +47,8 @@ quiet_judged : {A : Type 0} (r : Reply) (s : Said A) → Quiet s → Quiet (judg
 quiet_judged r s q = of_either Quiet (ltb 0 r.number) (Reader.refused_by r) s (λ h. refl) q
 
 quiet_shown : (a e : ℕ) (x : Real) → Quiet (shown_of a e x)
-quiet_shown a e (Value n) h = absurd (omega arith)
-quiet_shown a e Blank h = refl
-quiet_shown a e Malformed h = refl
+quiet_shown a e (Ok n) h = absurd (omega arith)
+quiet_shown a e (Err _) h = refl
 
 quiet_number : (bytes : List ℕ) (ps : List Part) (j : ℕ) → Quiet (number_from bytes ps j)
 quiet_number bytes [] j = λ h. refl
@@ -62,8 +59,8 @@ quiet_number bytes (p ∷ ps) j =
 quiet_whole : (place : ℕ) (xs : List Float) (rs : List Read) → Quiet (whole place xs rs)
 unfolding whole
 quiet_whole place xs [] h = absurd (omega arith)
-quiet_whole place xs (read.Value x ∷ rs) h = quiet_whole place (xs ++ (x ∷ [])) rs h
-quiet_whole place xs (read.Refused n ∷ rs) h = refl
+quiet_whole place xs (Ok x ∷ rs) h = quiet_whole place (xs ++ (x ∷ [])) rs h
+quiet_whole place xs (Err n ∷ rs) h = refl
 
 quiet_value : (bytes : List ℕ) (ps : List Part) (i : ℕ) → Quiet (value_from bytes ps i)
 unfolding value_with

@@ -13,7 +13,7 @@ use Rattle.record.specs.Check.{items_of}
 use Rattle.record.specs.Written.{Written}
 use Rattle.walk.specs.Due.{row_due}
 use Rattle.walk.specs.declared.State.{State}
-use Rattle.walk.specs.declared.Outcome.TheVariants.{Next}
+use Rattle.std.specs.Prelude.{Ok}
 use Rattle.judge.specs.Judge.{reply, line_step}
 use Rattle.reader.specs.Reader.{Said, said, refused, Shown, shown}
 use Rattle.format_reader.specs.Question.{Seen, answer_of}
@@ -36,7 +36,7 @@ pub record ItemsShown {s : State} {l text : List ℕ} (a : Asked s l text) : Typ
   pub shows : (k : ℕ) → k < length items
       → FieldShows (row_due a.due).fields 0 k (Line.filled (columns true l)) (get_or items k Item.blank) (answer_of text k (columns true l))
 
-pub items_shown : {s : State} {l text : List ℕ} (a : Asked s l text) (t : State) → line_step s l ≡ Next t → ItemsShown a
+pub items_shown : {s : State} {l text : List ℕ} (a : Asked s l text) (t : State) → line_step s l ≡ Ok t → ItemsShown a
 items_shown {s} {l} a t e = record {
   items = items_of (row_due a.due).fields 0 (Line.filled (columns true l));
   written = row_due_sound a.due (columns true l) (passed_row a t e);

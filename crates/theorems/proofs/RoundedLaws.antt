@@ -1,5 +1,5 @@
 -- What the reader's rule makes of a list's items is rounded once, or 21.
-use Rattle.std.specs.Prelude.{◌≡◌, Bool, true, false, leb, Float, ℤ, pos, negsuc, nat_abs, length}
+use Rattle.std.specs.Prelude.{◌≡◌, Bool, true, false, leb, Some, None, Float, ℤ, pos, negsuc, nat_abs, length, Ok, Err}
 use Rattle.std.proofs.Math.Path.{refl, subst}
 use Rattle.std.proofs.Common.{sym, ap, inl, inr, leb-true, leb-false}
 use mathlib.Core.List.{List, [], ◌∷◌, ◌++◌, append-nil, append_assoc}
@@ -7,15 +7,13 @@ use Prim.Native.Nat.{ℕ, zero, suc, ◌+◌, ◌*◌, ◌<◌, ◌≤◌}
 use native.Mathlib.Omega.{arith}
 use Rattle.laws.specs.Choice.{pick}
 use Rattle.real.specs.Real.{below_zero}
-use Rattle.real.specs.declared.Real.{Real}
-use Rattle.exact.specs.declared.Exact.TheVariants as exact
+use Rattle.real.specs.Real.{Real}
 use Rattle.exact.specs.Exact.{magnitude_of, with_sign, exact_of}
 use Rattle.exact.specs.ExactLaws.{magnitude_of_times, magnitude_of_divided}
 use Rattle.field.specs.Item.{Item}
 use Rattle.layout.specs.Layout.{numbers_of}
 use Rattle.parts.specs.Parts.{Part}
-use Rattle.reader.specs.declared.Read.{Read}
-use Rattle.reader.specs.declared.Read.TheVariants as read
+use Rattle.reader.specs.Reader.{Read}
 use Rattle.reader.specs.Reader.{Said, said, refused, on_exact, read_of, reads, whole, value_kind, value_with, value_of}
 use Rattle.theory.specs.Sets.{Set}
 use Rattle.theory.specs.Proper.{Proper}
@@ -40,15 +38,15 @@ record IsReal (i : Item) : Type 0 where
 
 -- one item: its f64, or 21
 data OneRead (i : Item) : Read → Type 0 where
-  value : (x : Float) → Rounded i x → OneRead i (read.Value x)
-  refusal : Outside i → OneRead i (read.Refused 21)
+  value : (x : Float) → Rounded i x → OneRead i (Ok x)
+  refusal : Outside i → OneRead i (Err 21)
 
 read_real : (n : Bool) (c : ℕ) (z : ℤ) → OneRead (Item.real n c z) (read_of (real_of_item (Item.real n c z)))
 unfolding read_of exact_of
 read_real n c z = go (leb c 9007199254740992) (leb (nat_abs z) 22) refl refl
   where
     go : (few near : Bool) → leb c 9007199254740992 ≡ few → leb (nat_abs z) 22 ≡ near
-        → OneRead (Item.real n c z) (on_exact (pick few (pick near (exact.Value (with_sign n (magnitude_of c (below_zero z) (nat_abs z)))) exact.Outside) exact.Outside))
+        → OneRead (Item.real n c z) (on_exact (pick few (pick near (Some (with_sign n (magnitude_of c (below_zero z) (nat_abs z)))) None) None))
     go true true p q =
         let few = leb-true c 9007199254740992 p in
         let near = leb-true (nat_abs z) 22 q in
@@ -85,8 +83,8 @@ module _ (s : Set) (place : ℕ) where
     where
       by : (r : Read) → OneRead (stored_item s j) r → ((x : Float) → From (suc j) k (ys ++ (x ∷ [])) (whole place (ys ++ (x ∷ [])) (reads number (suc j) k)))
           → From j (suc k) ys (whole place ys (r ∷ reads number (suc j) k))
-      by (read.Value x) (value y w) ih = later w (ih x)
-      by (read.Refused n) (refusal o) ih = let at_j : j ≡ j + 0 = omega arith in one 0 (omega arith) (subst (λ (n : ℕ). Outside (stored_item s n)) at_j o)
+      by (Ok x) (value y w) ih = later w (ih x)
+      by (Err n) (refusal o) ih = let at_j : j ≡ j + 0 = omega arith in one 0 (omega arith) (subst (λ (n : ℕ). Outside (stored_item s n)) at_j o)
 
   together : {j k : ℕ} {r : Said Float} → From j k [] r → OnceOr21 s j k place r
   together (all xs l e) = once xs l e

@@ -1,13 +1,12 @@
 -- Two files that differ in padding alone are of one list, and every call answers them alike.
-use Rattle.std.specs.Prelude.{◌≡◌, Bool, true, false, ◌⊎◌, List, [], ◌∷◌, map, ℕ, zero, suc, ◌<◌, ◌≤◌, eqb, take, drop}
+use Rattle.std.specs.Prelude.{◌≡◌, Bool, true, false, ◌⊎◌, List, [], ◌∷◌, map, ℕ, zero, suc, ◌<◌, ◌≤◌, eqb, take, drop, Ok, Err}
 use Rattle.std.proofs.Math.Path.{refl, sym}
 use Rattle.std.proofs.Common.{ap, subst, ◌∙◌, inl, inr, ⊎_elim, arith, eqb-true}
 use Rattle.std.proofs.lemmas.Bool.{eqb-false}
 use Rattle.std.proofs.Math.ListN.{length}
 use Rattle.laws.specs.Cut.{cut}
 use Rattle.laws.specs.ChoiceLaws.{below_or_not}
-use Rattle.real.specs.declared.Real.{Real}
-use Rattle.real.specs.declared.Real.TheVariants.{Blank, Malformed, Value}
+use Rattle.real.specs.Real.{Real}
 use Rattle.judge.specs.Judge.{judged, reply}
 use Rattle.parts.specs.Parts.{Part, parts_of, dataset_of}
 use Rattle.parts.specs.Function.{count_of, first_byte, past_byte}
@@ -32,9 +31,8 @@ use Rattle.theorems.specs.Same.{said_unplaced, SameAnswers}
 
 -- a stored number's places are all that it has of the text
 shown_unplaced : (a e b f : ℕ) (x : Real) → said_unplaced (shown_of a e x) ≡ said_unplaced (shown_of b f x)
-shown_unplaced a e b f (Value n) = refl
-shown_unplaced a e b f Blank = refl
-shown_unplaced a e b f Malformed = refl
+shown_unplaced a e b f (Ok n) = refl
+shown_unplaced a e b f (Err _) = refl
 
 -- rows by their numbers
 rows_same : (ps qs : List Part) → map (λ (p : Part). p.lines) ps ≡ map (λ (p : Part). p.lines) qs → map dataset_of ps ≡ map dataset_of qs

@@ -1,5 +1,5 @@
 -- The calls' replies are in document 01's table: the refusal of a line has a column, any other reply has none.
-use Rattle.std.specs.Prelude.{◌≡◌, refl, Bool, true, false, ◌&&◌, List, [], ◌∷◌, ◌++◌, ℕ, zero, suc, ◌+◌, ◌*◌, ◌≤◌, ◌<◌, ltb, eqb, Float, ℤ, length}
+use Rattle.std.specs.Prelude.{◌≡◌, refl, Bool, true, false, ◌&&◌, List, [], ◌∷◌, ◌++◌, ℕ, zero, suc, ◌+◌, ◌*◌, ◌≤◌, ◌<◌, ltb, eqb, Option, Some, None, Float, ℤ, length, Ok, Err}
 use Rattle.std.proofs.Common.{inl, inr, arith, ltb-true}
 use Prim.{Unit, tt}
 use Rattle.laws.specs.Choice.{pick}
@@ -8,29 +8,25 @@ use Rattle.line.specs.declared.Refusal.{Refusal}
 use Rattle.line.specs.Line.{columns, refusal, line_fault}
 use Rattle.walk.specs.declared.Place.{Place}
 use Rattle.walk.specs.declared.Place.TheVariants.{Outside, Number, Plain, Typed}
-use Rattle.walk.specs.declared.Outcome.{Outcome}
-use Rattle.walk.specs.declared.Outcome.TheVariants.{Next, Refused}
+use Rattle.std.specs.Prelude.{Result}
+use Rattle.walk.specs.declared.State.{State}
 use Rattle.judge.specs.declared.Reply.{Reply}
 use Rattle.judge.specs.Judge.{judged, reply, at_line, line_step, Run, going, refused, on_outcome}
 use Rattle.judge.specs.Refusal.{LineNumber}
 use Rattle.judge.specs.RefusalLaws.{line_number}
-use Rattle.real.specs.declared.Real.{Real}
-use Rattle.real.specs.declared.Real.TheVariants as real
-use Rattle.exact.specs.declared.Exact.{Exact}
-use Rattle.exact.specs.declared.Exact.TheVariants as exact
+use Rattle.real.specs.Real.{Real}
 use Rattle.exact.specs.Exact.{exact_of}
 use Rattle.layout.specs.Layout.{numbers_of}
 use Rattle.record_table.specs.TypedSets.{header_lines}
 use Rattle.parts.specs.Parts.{Part, parts_of}
 use Rattle.parts.specs.Function.{part_case, stored_of, first_byte, past_byte}
 use Rattle.lister.specs.Lister.{row_numbers, list_reply}
-use Rattle.reader.specs.declared.Read.{Read}
-use Rattle.reader.specs.declared.Read.TheVariants as read
+use Rattle.reader.specs.Reader.{Read}
 use Rattle.reader.specs.Reader as Reader
 use Rattle.reader.specs.Reader.{Said, refused_by, judged_first, sets_from, real_in, shown_of, number_from, stored_number, on_exact, read_of, reads, whole, value_kind, value_with, values_in, value_from, value_of}
 use Rattle.values.specs.Values.{all_from, all_values, reply_in, all_reply}
 use Rattle.rewriter.specs.Rewriter.{rewritten_file, rewrite_reply}
-use Rattle.header.specs.declared.Header.{Header}
+use Rattle.header.specs.Header.{Answer}
 use Rattle.header.specs.Header.{refused_at, opened, past_fault, header_step, leaves, header_end, header_of}
 use Rattle.writer.specs.Writer.{first_unfit, written_set, laid_reply, write_reply}
 use Rattle.line_laws.specs.Fault.{LineFault}
@@ -38,7 +34,7 @@ use Rattle.line_laws.specs.FaultLaws.{line_fault_fault}
 use Rattle.writer_laws.specs.HeaderRefusedLaws.{refused_place}
 use Rattle.walk_laws.specs.FaultLaws.{refused_fault}
 use Rattle.walk_laws.specs.FaultColumnLaws.{own_column, fault_column}
-use Rattle.walk_laws.specs.FileFaultLaws.{unended_some}
+use Rattle.judge.specs.JudgeLaws.{unended_some}
 use Rattle.theorems.specs.Table as Table
 use Rattle.theorems.specs.Table.{InTable, Replied, line, answered, other, CallsInTable}
 use Rattle.theorems.proofs.TableLaws.{own_number, judge_table}
@@ -86,9 +82,8 @@ replied_asked : {A : Type 0} (t : Bool) (s : Said A) → RepliedSaid s → Repli
 replied_asked t s h = of_either RepliedSaid t s (Reader.refused 18 0) h (own 18 no_such)
 
 replied_shown : (a e : ℕ) (x : Real) → RepliedSaid (shown_of a e x)
-replied_shown a e (real.Value n) = answered 0
-replied_shown a e real.Blank = own 18 no_such
-replied_shown a e real.Malformed = own 18 no_such
+replied_shown a e (Ok n) = answered 0
+replied_shown a e (Err _) = own 18 no_such
 
 replied_number : (bytes : List ℕ) (ps : List Part) (j : ℕ) → RepliedSaid (number_from bytes ps j)
 replied_number bytes [] j = own 18 no_such
@@ -97,18 +92,17 @@ replied_number bytes (p ∷ ps) j =
 
 -- of one number, and of several
 abbrev OwnRead : Read → Type 0
-OwnRead (read.Value x) = Unit
-OwnRead (read.Refused n) = Own n
+OwnRead (Ok x) = Unit
+OwnRead (Err n) = Own n
 
-own_exact : (x : Exact) → OwnRead (on_exact x)
-own_exact (exact.Value x) = tt
-own_exact exact.Outside = (omega arith, omega arith)
+own_exact : (x : Option Float) → OwnRead (on_exact x)
+own_exact (Some x) = tt
+own_exact None = (omega arith, omega arith)
 
 own_read : (x : Real) → OwnRead (read_of x)
 unfolding read_of
-own_read (real.Value n) = own_exact (exact_of n.minus n.coefficient n.below n.scale)
-own_read real.Blank = no_such
-own_read real.Malformed = no_such
+own_read (Ok n) = own_exact (exact_of n.minus n.coefficient n.below n.scale)
+own_read (Err _) = no_such
 
 data AllOwn : List Read → Type 0 where
   nil : AllOwn []
@@ -122,8 +116,8 @@ own_reads g j (suc k) = more (own_read (g j)) (own_reads g (suc j) k)
 replied_whole : (place : ℕ) (xs : List Float) (rs : List Read) → AllOwn rs → RepliedSaid (whole place xs rs)
 unfolding whole
 replied_whole place xs [] h = answered place
-replied_whole place xs (read.Value x ∷ rs) (more a h) = replied_whole place (xs ++ (x ∷ [])) rs h
-replied_whole place xs (read.Refused n ∷ rs) (more a h) = own n a
+replied_whole place xs (Ok x ∷ rs) (more a h) = replied_whole place (xs ++ (x ∷ [])) rs h
+replied_whole place xs (Err n ∷ rs) (more a h) = own n a
 
 replied_value : (bytes : List ℕ) (ps : List Part) (i : ℕ) → RepliedSaid (value_from bytes ps i)
 unfolding value_with
@@ -179,9 +173,9 @@ header_step_replied (going s n) l h =
     of_either RepliedRun (ltb n header_lines) (on_outcome n (line_step s l)) (refused (at_line n late)) (go (line_step s l) refl)
     (at_line_lem n late (past_lined own-fault.number own-fault.column (λ k. own_lined (line_fault_fault true (columns true l) k))))
   where
-    go : (o : Outcome) → line_step s l ≡ o → RepliedRun (on_outcome n o)
-    go (Next t) e = tt
-    go (Refused f) e = at_line_lem n f (line_number s l f e, (fault_column (refused_fault s l f e)).from)
+    go : (o : Result State Refusal) → line_step s l ≡ o → RepliedRun (on_outcome n o)
+    go (Ok t) e = tt
+    go (Err f) e = at_line_lem n f (line_number s l f e, (fault_column (refused_fault s l f e)).from)
 header_step_replied (refused r) l h = h
 
 header_lines_replied : (ls : List (List ℕ)) (r : Run) → RepliedRun r → RepliedRun (over header_step r ls)
@@ -190,7 +184,7 @@ header_lines_replied [] r h = h
 header_lines_replied (l ∷ ls) r h = header_lines_replied ls (header_step r l) (header_step_replied r l h)
 
 -- a header's reply that names a line; `leaves` has replies that name none, for places that eleven lines do not leave
-abbrev IfLined : Header → Type 0
+abbrev IfLined : Answer → Type 0
 IfLined h = 1 ≤ h.reply.place → Replied h.reply
 
 leaves_replied : (p : Place) → IfLined (leaves p)

@@ -2,7 +2,7 @@
 -- they cite. A file is a list of bytes. Every call is proved to answer, for all bytes and numbers, by definitions that are named here, in its `ensures`: C
 -- gets `word` of a reply, a stored number or a value by `reply_for`, a burst by `Burst word` (crates/host/src/lib.rt); for C-11 also crates/stream_mut/src/lib.rt.
 -- `judged` is the judge's reply, and `Proper sets bytes` says from a list of sets alone that a text is a proper writing of it.
-use Rattle.std.specs.Prelude.{◌≡◌, true, false, List, [], ◌∷◌, ◌++◌, map, ◌⊎◌, ℕ, suc, ◌+◌, ◌*◌, ◌^◌, ◌-◌, ◌<◌, ◌≤◌, Float, ℤ, pos, length, get_or, take, drop}
+use Rattle.std.specs.Prelude.{◌≡◌, true, false, List, [], ◌∷◌, ◌++◌, map, ◌⊎◌, ℕ, suc, ◌+◌, ◌*◌, ◌^◌, ◌-◌, ◌<◌, ◌≤◌, Float, ℤ, pos, length, get_or, take, drop, Ok, Err}
 use Rattle.std.specs.Float.{binary64}
 use Rattle.std.specs.Float.Ieee.{round}
 use Rattle.laws.specs.Cut.{cut}
@@ -29,7 +29,6 @@ use Rattle.rewriter.specs.Rewriter.{head_text, rewritten_file, rewrite_reply, re
 use Rattle.header.specs.Header.{header_of}
 use Rattle.writer.specs.Writer.{write_reply, write_out}
 use Rattle.stream.specs.declared.Stream.{Stream}
-use Rattle.stream.specs.declared.Answer.TheVariants.{SoFar, Refused}
 use Rattle.stream.specs.Stream.{seen, Stepped, answer_of, paper, end_reply, closed, fresh_record}
 use Rattle.stream_c.specs.Lent.{is_short, stream_of, start_reply, start_numbers, start_line, end_of, end_numbers, Untouched, Burst, same}
 use Rattle.lister.specs.Lister.{row_numbers, rows_of, list_reply, list_rows}
@@ -91,15 +90,13 @@ use Rattle.format.specs.Format.{Format}
 use Rattle.format.specs.Reading.{fields, reading_of}
 use Rattle.format.specs.ReadingLaws as ReadingLaws
 use Rattle.line.specs.Line.{columns, filled}
-use Rattle.record_table.specs.Row.{Field, first_fields}
-use Rattle.record_table.specs.Records.{record_of, data_row, no_record, trace_entries, order_lists}
+use Rattle.record_table.specs.Row.{Field}
+use Rattle.record_table.specs.Records.{no_record, trace_entries, order_lists}
 use Rattle.record.specs.Check.{taken}
 use Rattle.walk.specs.Due.{record_due, row_due, may_continue}
 use Rattle.walk.specs.declared.Due.{Due}
 use Rattle.walk.specs.declared.Place.TheVariants.{Typed}
 use Rattle.walk.specs.declared.State.{State}
-use Rattle.walk.specs.declared.Outcome.TheVariants.{Next}
-use Rattle.walk.specs.declared.Outcome.TheVariants as Outcome
 use Rattle.judge.specs.Judge.{line_step}
 use Rattle.reader.specs.Reader.{refused_by}
 use Rattle.format_reader.specs.Question.{Seen}
@@ -424,17 +421,17 @@ any_cut = ArrivalLaws.any_cut
 pub any_cut_answer : {r : Stream} {bursts : List (List ℕ)} → Bursts fresh_record bursts r → answer_of r.ended (seen r) ≡ burst_answer (joined bursts)
 any_cut_answer = ArrivalLaws.any_cut_answer
 
-pub burst_too_long : (bytes : List ℕ) → 16777216 < length bytes → burst_answer bytes ≡ Refused (reply 1 0)
+pub burst_too_long : (bytes : List ℕ) → 16777216 < length bytes → burst_answer bytes ≡ Err (reply 1 0)
 burst_too_long = ArrivalLaws.burst_too_long
 
-pub lines_after : (bytes : List ℕ) (n : ℕ) → burst_answer bytes ≡ SoFar n → n ≡ length (cut bytes).lines
+pub lines_after : (bytes : List ℕ) (n : ℕ) → burst_answer bytes ≡ Ok n → n ≡ length (cut bytes).lines
 lines_after = StreamingLaws.lines_after
 
 -- a refusal once told is that of every file that begins so; where it is "so far", none of the finished lines is refused
-pub told_stays : (a b : List ℕ) (r : Reply) → burst_answer a ≡ Refused r → length (a ++ b) ≤ 16777216 → judged (a ++ b) ≡ r
+pub told_stays : (a b : List ℕ) (r : Reply) → burst_answer a ≡ Err r → length (a ++ b) ≤ 16777216 → judged (a ++ b) ≡ r
 told_stays = StreamingLaws.told_stays
 
-pub so_far_beyond : (bytes : List ℕ) (n : ℕ) → burst_answer bytes ≡ SoFar n
+pub so_far_beyond : (bytes : List ℕ) (n : ℕ) → burst_answer bytes ≡ Ok n
     → (judged bytes ≡ reply 0 n) ⊎ ((judged bytes ≡ reply 16 0) ⊎ ((judged bytes).place ≡ n + 1))
 so_far_beyond = StreamingLaws.so_far_beyond
 
@@ -452,7 +449,7 @@ pub proper_arrived : {r : Stream} {bursts : List (List ℕ)} → Bursts fresh_re
 proper_arrived = ArrivalLaws.proper_arrived
 
 -- "Refusals: 23, a burst after the end was asked, first of all."
-pub after_end : {t : Stream} {b : List ℕ} (r : Stream) → Stepped (closed r) b t → (t ≡ closed r) × (answer_of t.ended (seen t) ≡ Refused (reply 23 0))
+pub after_end : {t : Stream} {b : List ℕ} (r : Stream) → Stepped (closed r) b t → (t ≡ closed r) × (answer_of t.ended (seen t) ≡ Err (reply 23 0))
 after_end = StreamingLaws.after_end
 
 -- the same for a host, which lends the record as numbers and bytes, with the replies in its form
@@ -611,13 +608,13 @@ due_reads = ReachedLaws.reached_reads
 -- the line field k shows the list's item k in its own columns; where it refuses it, but for 9, 11 and 14, the question has the same number and column; where a field
 -- is shown it passes the line, or refuses it with 9, 11 or 14
 module _ {s : State} {l text : List ℕ} (a : Asked s l text) where
-  pub judge_passes : (t : State) → line_step s l ≡ Next t → ItemsShown a
+  pub judge_passes : (t : State) → line_step s l ≡ Ok t → ItemsShown a
   judge_passes = QuestionLaws.items_shown a
 
-  pub judge_refuses : (f : Refusal) → line_step s l ≡ Outcome.Refused f → (Ruled f.number → ⊥) → (k : ℕ) → Question.answer_of text k (columns true l) ≡ refused_by (at_line 0 f)
+  pub judge_refuses : (f : Refusal) → line_step s l ≡ Err f → (Ruled f.number → ⊥) → (k : ℕ) → Question.answer_of text k (columns true l) ≡ refused_by (at_line 0 f)
   judge_refuses = QuestionJudgeLaws.refused_same a
 
-  pub field_shown_lem : (k : ℕ) → (Question.answer_of text k (columns true l)).reply.number ≡ 0 → (f : Refusal) → line_step s l ≡ Outcome.Refused f → Ruled f.number
+  pub field_shown_lem : (k : ℕ) → (Question.answer_of text k (columns true l)).reply.number ≡ 0 → (f : Refusal) → line_step s l ≡ Err f → Ruled f.number
   field_shown_lem = QuestionJudgeLaws.shown_passes a
 
 -- so of every line of a file where a row is due, with no number field that may be blank left blank, by its printed FORMAT
@@ -625,15 +622,15 @@ module _ {s : State} {l : List ℕ} (a : DueLine s l) where
   pub due_asked : Asked s l (printed_text a)
   due_asked = ReachedLaws.due_asked a
 
-  pub due_passes : (t : State) → line_step s l ≡ Next t → ItemsShown due_asked
+  pub due_passes : (t : State) → line_step s l ≡ Ok t → ItemsShown due_asked
   due_passes = judge_passes due_asked
 
-  pub due_refuses : (f : Refusal) → line_step s l ≡ Outcome.Refused f → (Ruled f.number → ⊥)
+  pub due_refuses : (f : Refusal) → line_step s l ≡ Err f → (Ruled f.number → ⊥)
       → (k : ℕ) → Question.answer_of (printed_text a) k (columns true l) ≡ refused_by (at_line 0 f)
   due_refuses = judge_refuses due_asked
 
   pub due_shown : (k : ℕ) → (Question.answer_of (printed_text a) k (columns true l)).reply.number ≡ 0
-      → (f : Refusal) → line_step s l ≡ Outcome.Refused f → Ruled f.number
+      → (f : Refusal) → line_step s l ≡ Err f → Ruled f.number
   due_shown = field_shown_lem due_asked
 
 -- "a real as the reader shows it": of a 58 of the list, stored number j by a FORMAT of its data line's fields, or of the first n of them, where it is shown

@@ -1,9 +1,9 @@
 -- What calls answer: the reader's questions by the list alone, where they are refused, a stored number as it stands in a text, a buffer that is filled.
-use Rattle.std.specs.Prelude.{◌≡◌, Bool, List, [], ◌∷◌, ◌++◌, ℕ, suc, ◌*◌, ◌-◌, ◌<◌, ℤ, nat_abs, Float, length, take, drop}
+use Rattle.std.specs.Prelude.{◌≡◌, Bool, List, [], ◌∷◌, ◌++◌, ℕ, suc, ◌*◌, ◌-◌, ◌<◌, ℤ, nat_abs, Float, length, take, drop, Ok, Err}
 use Rattle.real.specs.Real.{below_zero}
 use Rattle.real.specs.Spelling.{RealSpelling}
-use Rattle.real.specs.declared.Real.{Real}
-use Rattle.real.specs.declared.Real.TheVariants.{Blank, Value}
+use Rattle.real.specs.Real.{Real}
+use Rattle.real.specs.declared.RealFault.TheVariants.{Blank}
 use Rattle.real.specs.Real as Real
 use Rattle.field.specs.Item.{Item}
 use Rattle.parts.specs.Parts.{Part}
@@ -22,10 +22,10 @@ use Rattle.parts_laws.specs.Stored.{stored_count, stored_item}
 
 -- an item that is a real, as a number; no stored number is any other item
 abbrev pub real_of_item : Item → Real
-real_of_item (Item.text t) = Blank
-real_of_item (Item.integer z) = Blank
-real_of_item Item.blank = Blank
-real_of_item (Item.real n c s) = Value (Real.number_of n c s)
+real_of_item (Item.text t) = Err Blank
+real_of_item (Item.integer z) = Err Blank
+real_of_item Item.blank = Err Blank
+real_of_item (Item.real n c s) = Ok (Real.number_of n c s)
 
 -- value i of a 58 of the list: what the reader's rule makes of its stored numbers
 unfoldable pub value_said : Set → ℕ → Said Float

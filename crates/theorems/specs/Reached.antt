@@ -8,14 +8,14 @@ use Rattle.walk.specs.Step.{start}
 use Rattle.walk.specs.declared.Due.{Due}
 use Rattle.walk.specs.declared.Place.TheVariants.{Typed}
 use Rattle.walk.specs.declared.State.{State}
-use Rattle.walk.specs.declared.Outcome.TheVariants.{Next}
+use Rattle.std.specs.Prelude.{Ok}
 use Rattle.judge.specs.Judge.{line_step}
 use Rattle.format_laws.specs.Asked.{left_blank}
 use Rattle.format_laws.specs.Printed.{printed_for}
 
 pub data Reached : State → Type 0 where
   begins : Reached start
-  line : {s t : State} (l : List ℕ) → Reached s → line_step s l ≡ Next t → Reached t
+  line : {s t : State} (l : List ℕ) → Reached s → line_step s l ≡ Ok t → Reached t
 
 -- a line of a file, by the bytes before its LF, where a row is due in a typed set: no delimiter, and no line with a field left blank
 pub record DueLine (s : State) (l : List ℕ) : Type 0 where

@@ -22,8 +22,7 @@ use Rattle.walk.specs.declared.Due.{Due}
 use Rattle.walk.specs.declared.Place.{Place}
 use Rattle.walk.specs.declared.Place.TheVariants.{Outside, Number, Plain, Typed}
 use Rattle.walk.specs.declared.State.{State}
-use Rattle.walk.specs.declared.Outcome.{Outcome}
-use Rattle.walk.specs.declared.Outcome.TheVariants.{Next, Refused}
+use Rattle.std.specs.Prelude.{Result, Ok, Err}
 use Rattle.judge.specs.Judge.{line_outcome, line_step}
 use Rattle.walk_laws.specs.ListLaws.{settled_cases}
 use Rattle.format_laws.specs.Asked.{ReadsAs, Asked}
@@ -91,11 +90,11 @@ HeldAt Number = Unit {0}
 HeldAt Plain = Unit {0}
 HeldAt (Typed d) = Holding d
 
-abbrev HeldBy : Outcome → Type 0
-HeldBy (Next s) = HeldAt s.place
-HeldBy (Refused f) = Unit {0}
+abbrev HeldBy : Result State Refusal → Type 0
+HeldBy (Ok s) = HeldAt s.place
+HeldBy (Err f) = Unit {0}
 
-either_held : (t : Bool) (x y : Outcome) → HeldBy x → HeldBy y → HeldBy (pick t x y)
+either_held : (t : Bool) (x y : Result State Refusal) → HeldBy x → HeldBy y → HeldBy (pick t x y)
 either_held true x y v w = v
 either_held false x y v w = w
 

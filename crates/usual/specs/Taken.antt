@@ -1,5 +1,5 @@
 -- Lines taken in a run: each is one that the step of a line accepts, and the state after them is the steps'.
-use Rattle.std.specs.Prelude.{◌≡◌, Bool, true, false, ◌&&◌, ◌⊎◌, List, ℕ, ◌+◌, ◌≤◌, ◌<◌, eqb, length, take, drop}
+use Rattle.std.specs.Prelude.{◌≡◌, Bool, true, false, ◌&&◌, ◌⊎◌, List, ℕ, ◌+◌, ◌-◌, ◌≤◌, ◌<◌, eqb, length, take, drop}
 use Rattle.laws.specs.Cut.{line_len}
 use Rattle.line.specs.Line.{passed, columns, line_fault, filled}
 use Rattle.layout.specs.Columns.{total}
@@ -9,13 +9,14 @@ use Rattle.record_table.specs.TypedSets.{kind58, header_lines}
 use Rattle.walk.specs.declared.Place.{Place}
 use Rattle.walk.specs.declared.Place.TheVariants.{Outside, Number, Plain, Typed}
 use Rattle.walk.specs.declared.State.{State}
-use Rattle.walk.specs.declared.Outcome.TheVariants.{Next}
+use Rattle.std.specs.Prelude.{Ok}
 use Rattle.walk.specs.Due.{due}
 use Rattle.walk.specs.Step.{state, step_of}
 use Rattle.usual.specs.declared.Shape.{Shape}
 use Rattle.usual.specs.declared.Run.{Run}
 use Rattle.usual.specs.declared.Ahead.{Ahead}
-use Rattle.usual_columns.specs.Cells.{Tables, Laid, table_cells}
+use Rattle.usual_columns.specs.declared.Tables.{Tables}
+use Rattle.usual_columns.specs.Cells.{Laid, table_cells}
 
 -- the columns of the line that begins at a byte
 abbrev pub columns_at : List ℕ → ℕ → List ℕ
@@ -26,7 +27,7 @@ pub record LineTaken (b : List ℕ) (s : State) (from : ℕ) (t : State) (to : �
   pub ends : to ≡ from + line_len (drop from b) + 1
   pub within : to ≤ length b
   pub whole : line_fault true (columns_at b from) ≡ passed
-  pub step : step_of s (filled (columns_at b from)) ≡ Next t
+  pub step : step_of s (filled (columns_at b from)) ≡ Ok t
 
 -- so many lines, one after the other
 pub data Taken (b : List ℕ) (s : State) (from : ℕ) : State → ℕ → ℕ → Type 0 where
@@ -54,6 +55,11 @@ pub record Shaped (h : Shape) : Type 0 where
 pub record Ready (h : Shape) (t : Tables) : Type 0 where
   pub shaped : Shaped h
   pub laid : Laid (table_cells h.letter 9 (layout_of h.case).widths h.columns) t
+
+-- a line of this shape begins at a byte: it is taken where more numbers are left than it has fields
+pub record LineOf (h : Shape) (b : List ℕ) (at : ℕ) : Type 0 where
+  pub within : at + h.size ≤ length b
+  pub taken : (l z n : ℕ) → h.fields < l → LineTaken b (data_state h.case l z n) at (data_state h.case (l - h.fields) z n) (at + h.size)
 
 abbrev pub run : ℕ → ℕ → ℕ → Run
 run k at left = record { lines = k; at = at; left = left }

@@ -1,5 +1,5 @@
 -- A data line whose columns and end pass the tables is one that the step of a line accepts.
-use Rattle.std.specs.Prelude.{◌≡◌, Bool, true, not, ◌&&◌, ℕ, suc, ◌+◌, ◌-◌, ◌≤◌, ◌<◌, eqb, get_or, take, drop}
+use Rattle.std.specs.Prelude.{◌≡◌, Bool, true, ◌&&◌, ℕ, suc, ◌+◌, ◌-◌, ◌≤◌, ◌<◌, eqb, get_or, take, drop}
 use Rattle.std.proofs.Math.Path.{refl, sym, ap}
 use Rattle.std.proofs.Common.{◌∙◌, inl, inr, ⊎_elim, arith, length-drop, take-append-drop, drop-cons, take-take, take_all, get_or-drop}
 use Rattle.std.proofs.Math.Bool.{false}
@@ -29,19 +29,20 @@ use Rattle.record.specs.TakenLaws.{taken_is}
 use Rattle.walk.specs.declared.State.{State}
 use Rattle.walk.specs.declared.Due.{Due}
 use Rattle.walk.specs.declared.Place.TheVariants.{Typed}
-use Rattle.walk.specs.declared.Outcome.TheVariants.{Next}
+use Rattle.std.specs.Prelude.{Ok}
 use Rattle.walk.specs.Due.{due, record_due, row_due, may_continue, settled, after, after_items, after_list}
 use Rattle.walk.specs.DueLaws.{row_refusal_data, list_row_58, data_row_length}
 use Rattle.walk.specs.Step.{state, typed_step, step_of}
 use Rattle.usual.specs.declared.Shape.{Shape}
 use Rattle.usual.specs.declared.Run.{Run}
 use Rattle.usual.specs.declared.Ahead.{Ahead}
-use Rattle.usual_columns.specs.Cells.{blank, any, row_cells, line_cells, table_cells, Wide, Fits, Tables, Passed}
+use Rattle.usual_columns.specs.declared.Tables.{Tables}
+use Rattle.usual_columns.specs.Cells.{blank, any, row_cells, line_cells, table_cells, Wide, Fits, Passed}
 use Rattle.usual_columns.specs.CellsLaws.{fits_split, fits_length, fits_passed}
 use Rattle.usual_columns.specs.FieldLaws.{blanks_allowed, blanks_fit, line_len_allowed}
 use Rattle.usual_columns.specs.RowLaws.{wide_at, row_length, row_allowed, row_passes, row_delimiter}
 use Rattle.usual_columns.specs.WidthsLaws.{layout_wide, layout_some, six_widths}
-use Rattle.usual.specs.Taken.{LineTaken, Taken, data_state, Ends, Shaped, Ready, run, Ran, ahead, NoneAhead, RanAhead}
+use Rattle.usual.specs.Taken.{LineTaken, Taken, data_state, Ends, Shaped, Ready, LineOf, run, Ran, ahead, NoneAhead, RanAhead}
 
 -- where the first line of bytes ends, and its columns: of bytes that may stand in columns, then LF or CR LF
 record Ended (cs l : List ℕ) (n : ℕ) : Type 0 where
@@ -118,7 +119,7 @@ module _ (c l z k : ℕ) (more : fields_of c < l) where
   after_is line = rw (none_due, list_row_58 d refl, data_row_length c, ne_eqb (l - fields_of c) 0 (λ (e : l - fields_of c ≡ 0). omega arith)) refl
 
   step_is : (line : List ℕ) → is_delimiter line ≡ false → fields_refusal (map E (layout_of c).widths) line ≡ passed
-      → step_of (data_state c l z k) line ≡ Next (data_state c (l - fields_of c) z k)
+      → step_of (data_state c l z k) line ≡ Ok (data_state c (l - fields_of c) z k)
   unfolding step_of typed_step may_continue
   step_is line other e = rw (other, none_due, lt-ltb 0 l (omega arith), row_refusal_lem line e, after_is line) refl
 
@@ -236,41 +237,30 @@ module _ (h : Shape) (t : Tables) (ready : Ready h t) (b : List ℕ) (a : ℕ) (
           step =
               ap (λ (m : List ℕ). step_of (data_state h.case l z k) (filled m)) ended.columns_are
               ∙ step_is h.case l z k due (filled line.cs) fine.other fine.refusal
-              ∙ ap (λ (n : ℕ). Next (data_state h.case (l - n) z k)) (sym ready.shaped.fields_are);
+              ∙ ap (λ (n : ℕ). Ok (data_state h.case (l - n) z k)) (sym ready.shaped.fields_are);
         }
 
--- the shape of a run's lines, by the parts that the loop over them has
-pub record Parts (h : Shape) (fields columns mark size : ℕ) : Type 0 where
-  pub fields_are : h.fields ≡ fields
-  pub columns_are : h.columns ≡ columns
-  pub mark_is : h.mark ≡ mark
-  pub size_is : h.size ≡ size
-
-pub parts_of_lem : (h : Shape) → Parts h h.fields h.columns h.mark h.size
-parts_of_lem h = record { fields_are = refl; columns_are = refl; mark_is = refl; size_is = refl }
-
--- what a test says that did not refuse a line
-all_three : (x y z : Bool) → not ((x && y) && z) ≡ false → (x ≡ true) × (y ≡ true) × (z ≡ true)
+-- what a test says that a line passes
+all_three : (x y z : Bool) → (x && y) && z ≡ true → (x ≡ true) × (y ≡ true) × (z ≡ true)
 all_three true true true h = (refl, refl, refl)
-all_three true true false h = false_not_true (sym h)
-all_three true false z h = false_not_true (sym h)
-all_three false y z h = false_not_true (sym h)
+all_three true true false h = false_not_true h
+all_three true false z h = false_not_true h
+all_three false y z h = false_not_true h
+
+pub line_of_lem : (h : Shape) (t : Tables) (b : List ℕ) (a : ℕ) (p : Bool) → Ready h t → (p ≡ true → Passed t b a 80)
+    → (eqb (get_or b (a + h.columns) 0) h.mark && eqb (get_or b (a + h.size - 1) 0) 10) && p ≡ true → 82 ≤ length b - a → LineOf h b a
+line_of_lem h t b a p ready so_far test room =
+    let all = all_three _ _ _ test in
+    let mark : get_or b (a + h.columns) 0 ≡ h.mark = eqb-true (get_or b (a + h.columns) 0) h.mark all.0 in
+    let lf : get_or b (a + h.size - 1) 0 ≡ 10 = eqb-true (get_or b (a + h.size - 1) 0) 10 all.1 in
+    record { within = omega (arith, ready_size h t ready); taken = λ l z n more. line_taken h t ready b a (omega arith) (so_far all.2) mark lf l z n more }
 
 -- one line more of a run
-module _ (h : Shape) (t : Tables) (b : List ℕ) (at left a lines rest fields columns mark size : ℕ) (ready : Ready h t) (same : Parts h fields columns mark size) where
-  pub run_next : (p : Bool) → (p ≡ true → Passed t b a 80) → not ((eqb (get_or b (a + columns) 0) mark && eqb (get_or b (a + size - 1) 0) 10) && p) ≡ false
-      → 82 ≤ length b - a → fields < rest → (z n : ℕ) → Taken b (data_state h.case left z n) at (data_state h.case rest z n) lines a
-      → Taken b (data_state h.case left z n) at (data_state h.case (rest - fields) z n) (lines + 1) (a + size)
-  run_next p so_far test room more z n r =
-      let all = all_three _ _ _ test in
-      let mark_here : get_or b (a + h.columns) 0 ≡ h.mark = rw (same.columns_are, same.mark_is) (eqb-true (get_or b (a + columns) 0) mark all.0) in
-      let lf-here : get_or b (a + h.size - 1) 0 ≡ 10 = rw same.size_is (eqb-true (get_or b (a + size - 1) 0) 10 all.1) in
-      rw (← same.fields_are, ← same.size_is)
-      (Taken.more r (line_taken h t ready b a (omega arith) (so_far all.2) mark_here lf-here rest z n (rw same.fields_are more)))
-
-pub not_false : (t : Bool) → not t ≡ false → t ≡ true
-not_false true h = refl
-not_false false h = sym h
+pub ran_more : (b : List ℕ) (c at left : ℕ) (h : Shape) (r : Run) → h.case ≡ c → 0 < h.size → Ran b c at left r → LineOf h b r.at → h.fields < r.left
+    → Ran b c at left (run (r.lines + 1) (r.at + h.size) (r.left - h.fields))
+ran_more b c at left h r e some ran line more =
+    let l = rw e at line in
+    record { taken = λ z n. Taken.more (ran.taken z n) (l.taken r.left z n more); within = line.within; few = omega (arith, ran.few) }
 
 -- no line
 pub ran_none : (b : List ℕ) (c at left : ℕ) (r : Run) → r ≡ run 0 at left → at ≤ length b → Ran b c at left r
@@ -283,10 +273,11 @@ ahead_none b s at r n h =
 
 -- data lines of a 58
 pub ahead_ran : (b : List ℕ) (d : Due) (n at wait : ℕ) (r : Run) → d.kind ≡ kind58 → d.at ≡ header_lines → Ran b d.case at d.left r → at < r.at
-    → RanAhead b (state (Typed d) n) at (ahead (data_state d.case r.left d.second n) r.lines r.at wait)
+    → RanAhead b (state (Typed d) n) at (ahead (state (Typed (record d { left = r.left })) n) r.lines r.at wait)
 ahead_ran b d n at wait r k a ran on =
     let e : data_state d.case d.left d.second n ≡ state (Typed d) n = rw (← k, ← a) refl in
-    record { taken = rw (← e) (ran.taken d.second n); within = ran.within; few = ran.few; moves = λ m. absurd (omega arith) }
+    let f : data_state d.case r.left d.second n ≡ state (Typed (record d { left = r.left })) n = rw (← k, ← a) refl in
+    record { taken = rw (← e, ← f) (ran.taken d.second n); within = ran.within; few = ran.few; moves = λ m. absurd (omega arith) }
 
 pub ahead_at : (b : List ℕ) (s : State) (d : Due) (at : ℕ) (r : Ahead) → s.place ≡ Typed d → RanAhead b (state (Typed d) s.sets) at r → RanAhead b s at r
 ahead_at b s d at r e h = rw (← e) at h

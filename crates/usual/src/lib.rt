@@ -1,13 +1,12 @@
 // Whole lines at once: full data lines of a 58 in their usual spelling, tested by their columns and taken in a run.
 #![tactic(auto)]
 
-ghost use Rattle.std.specs.Prelude.{◌≡◌, ◌+◌, ◌-◌, ◌≤◌, ◌<◌, length};
-ghost use Rattle.usual_columns.specs.Cells.{tables};
-ghost use Rattle.usual.specs.Taken.{Ends, Shaped, Ready, run, Ran, NoneAhead, RanAhead, in_data};
+ghost use Rattle.std.specs.Prelude.{◌≡◌, true, ◌+◌, ◌-◌, ◌≤◌, ◌<◌, length, IfSome};
+ghost use Rattle.usual.specs.Taken.{Ends, Shaped, Ready, LineOf, run, Ran, NoneAhead, RanAhead, in_data};
 ghost use Rattle.walk.specs.Step.{state};
 
 use record_table::{HEADER_LINES, KIND_58};
-use usual_columns::{passes, put_tables};
+use usual_columns::{Exponent, Tables, passes, put_tables};
 use walk::{Due, Place, State};
 
 // The lines of a run: the case of their 58 and its fields, the letter of their exponents, how many columns they have, and how many bytes with
@@ -39,75 +38,51 @@ pub struct Ahead {
     pub wait: usize,
 }
 
-// The lines of this shape from byte `at` on that pass, as far as the last data line.
-fn passed_lines(
-    s: &[u8],
-    at: usize,
-    left: usize,
-    shape: Shape,
-    lo: &[u8; 80],
-    span: &[u8; 80],
-    alt: &[u8; 80],
-) -> Run
-    requires { (at ≤ length s.now) × Ready shape (tables lo.now span.now alt.now) }
-    ensures { Ran s.now shape.case at left result }
+// Whether a line of this shape begins at byte `at`, where there is room for the longest one.
+fn line_passes(s: &[u8], at: usize, shape: Shape, tables: &Tables) -> bool
+    requires { (at ≤ length s.now) × Ready shape tables.now }
+    ensures { result ≡ true → LineOf shape s.now at }
 {
-    let fields = shape.fields;
-    let columns = shape.columns;
-    let mark = shape.mark;
-    let size = shape.size;
-    let mut a = at;
-    let mut lines = 0;
-    let mut rest = left;
-    while fields < rest {
-        if s.len() - a < 82 {
-            return Run {
-                lines,
-                at: a,
-                left: rest,
-            };
-        }
-        let ends = (s[a + columns] == mark) & (s[a + size - 1] == 10);
-        if !(ends & passes(s, a, lo, span, alt)) {
-            return Run {
-                lines,
-                at: a,
-                left: rest,
-            };
-        }
-        a += size;
-        lines += 1;
-        rest -= fields;
+    if s.len() - at < 82 {
+        return false;
     }
-    Run {
-        lines,
-        at: a,
-        left: rest,
-    }
+    let ends = (s[at + shape.columns] == shape.mark) & (s[at + shape.size - 1] == 10);
+    ends & passes(s, at, tables)
 }
 
-// The lines of this shape from byte `at` on that pass.
+// The lines of this shape from byte `at` on that pass, as far as the last data line. A `while`: it ends at the first line that does not pass, and a step
+// has as many bytes as a line.
+fn passed_lines(s: &[u8], at: usize, left: usize, shape: Shape, tables: &Tables) -> Run
+    requires { (at ≤ length s.now) × Ready shape tables.now }
+    ensures { Ran s.now shape.case at left result }
+{
+    let mut run = no_run(at, left);
+    while shape.fields < run.left && line_passes(s, run.at, shape, tables) {
+        run = Run {
+            lines: run.lines + 1,
+            at: run.at + shape.size,
+            left: run.left - shape.fields,
+        };
+    }
+    run
+}
+
+// The lines of this shape from byte `at` on that pass. Not inlined: the loop over lines has the registers for its tables.
+#[inline(never)]
 fn tabled_run(s: &[u8], at: usize, left: usize, shape: Shape) -> Run
     requires { (at ≤ length s.now) × Shaped shape }
     ensures { Ran s.now shape.case at left result }
 {
-    let fields = shape.fields;
     let widths = layout::line_widths(shape.case);
-    let mut lo = [0u8; 80];
-    let mut span = [0u8; 80];
-    let mut alt = [0u8; 80];
-    put_tables(
-        &mut lo,
-        &mut span,
-        &mut alt,
-        &widths[..fields],
-        shape.letter,
-        9,
-        shape.columns,
-    );
-    passed_lines(s, at, left, shape, &lo, &span, &alt)
+    let exponent = Exponent {
+        letter: shape.letter,
+        most: 9,
+    };
+    let (tables, _) = put_tables(&widths[..shape.fields], exponent, shape.columns);
+    passed_lines(s, at, left, shape, &tables)
 }
 
+// A run of no lines and not an Option: it is what a run begins with.
 // No line is taken.
 fn no_run(at: usize, left: usize) -> Run
     ensures { result ≡ run 0 at left }
@@ -115,38 +90,44 @@ fn no_run(at: usize, left: usize) -> Run
     Run { lines: 0, at, left }
 }
 
-// Data lines of this case, columns and end from byte `at` on, with the letter of the first one's first field.
-fn marked_run(
-    s: &[u8],
-    at: usize,
-    case: usize,
-    left: usize,
-    columns: usize,
-    mark: u8,
-    size: usize,
-) -> Run
-    requires { (case < 8) × (at + columns < length s.now) × Ends columns mark size }
-    ensures { Ran s.now case at left result }
+// How the line that begins at byte `at` ends whose LF is at `end`: how many columns it has, the byte past them, and how many bytes with its end.
+fn end_of(s: &[u8], at: usize, end: usize) -> (usize, u8, usize)
+    requires { (at < end) × (end < length s.now) }
+    ensures { Ends result.0 result.1 result.2 × (at + result.0 < length s.now) }
 {
-    if columns < layout::field_start(case, 6) {
-        return no_run(at, left);
+    let size = end - at + 1;
+    if s[end - 1] == 13 {
+        return (size - 2, 13, size);
     }
-    if 80 < columns {
-        return no_run(at, left);
+    (size - 1, 10, size)
+}
+
+// The shape of lines as the first from byte `at` on, a data line of this case, has it, with the letter of that line's first field; none where it is no line
+// in the usual spelling by its end and that letter.
+fn shape_at(s: &[u8], at: usize, case: usize) -> Option<Shape>
+    requires { case < 8 }
+    ensures { IfSome result (λ (h : Shape). Shaped h × (h.case ≡ case)) }
+{
+    let end = line::find_end(s, at);
+    if s.len() <= end || end <= at {
+        return None;
+    }
+    let (columns, mark, size) = end_of(s, at, end);
+    if columns < layout::field_start(case, 6) || 80 < columns {
+        return None;
     }
     let letter = s[at + layout::field_width(case, 0) - 4];
     if !real::is_letter(letter) {
-        return no_run(at, left);
+        return None;
     }
-    let shape = Shape {
+    Some(Shape {
         case,
         fields: layout::fields_of(case),
         letter,
         columns,
         mark,
         size,
-    };
-    tabled_run(s, at, left, shape)
+    })
 }
 
 // Data lines of this case in their usual spelling from byte `at` on, where there is room for two and four full ones are left: how many columns they
@@ -155,50 +136,27 @@ fn run_of(s: &[u8], at: usize, case: usize, left: usize) -> Run
     requires { at ≤ length s.now }
     ensures { Ran s.now case at left result }
 {
-    if 8 <= case {
+    if 8 <= case || s.len() - at < 164 || left / 4 < layout::fields_of(case) {
         return no_run(at, left);
     }
-    if s.len() - at < 164 {
+    let Some(shape) = shape_at(s, at, case) else {
         return no_run(at, left);
-    }
-    if left / 4 < layout::fields_of(case) {
-        return no_run(at, left);
-    }
-    let end = line::find_end(s, at);
-    if s.len() <= end {
-        return no_run(at, left);
-    }
-    if end <= at {
-        return no_run(at, left);
-    }
-    let last = end - 1;
-    if s[last] == 13 {
-        return marked_run(s, at, case, left, last - at, 13, last - at + 2);
-    }
-    marked_run(s, at, case, left, end - at, 10, end - at + 1)
+    };
+    tabled_run(s, at, left, shape)
 }
 
 // Whether the file stands among the data lines of a 58.
 pub fn in_data(s: State) -> bool
     ensures { result ≡ in_data s.place }
 {
-    let place = s.place;
-    match place {
-        Place::Typed(d) => (d.kind == KIND_58) & (d.at == HEADER_LINES),
-        Place::Outside => false,
-        Place::Number => false,
-        Place::Plain => false,
-    }
+    matches!(s.place, Place::Typed(d) if d.kind == KIND_58 && d.at == HEADER_LINES)
 }
 
 // For how many lines a run is not tried where none was taken, by how long it waited before: twice as long and one more, at most 63.
 fn longer(pause: usize) -> usize
     ensures { 0 < result }
 {
-    if pause < 32 {
-        return pause + pause + 1;
-    }
-    63
+    2 * pause.min(31) + 1
 }
 
 // No line is taken, and a run is not tried for some lines.
@@ -222,10 +180,7 @@ fn typed_ahead(d: Due, sets: u32, bytes: &[u8], at: usize, pause: usize) -> Ahea
         place: Place::Typed(d),
         sets,
     };
-    if d.kind != KIND_58 {
-        return not_ahead(here, at, pause);
-    }
-    if d.at != HEADER_LINES {
+    if d.kind != KIND_58 || d.at != HEADER_LINES {
         return not_ahead(here, at, pause);
     }
     let run = run_of(bytes, at, d.case, d.left);
@@ -233,11 +188,8 @@ fn typed_ahead(d: Due, sets: u32, bytes: &[u8], at: usize, pause: usize) -> Ahea
         return not_ahead(here, at, pause);
     }
     let due = Due {
-        kind: KIND_58,
-        at: HEADER_LINES,
-        case: d.case,
         left: run.left,
-        second: d.second,
+        ..d
     };
     Ahead {
         state: State {
@@ -256,21 +208,15 @@ pub fn run_ahead(s: State, bytes: &[u8], at: usize, pause: usize) -> Ahead
     requires { at ≤ length bytes.now }
     ensures { RanAhead bytes.now s at result }
 {
-    let place = s.place;
-    match place {
-        Place::Typed(d) => typed_ahead(d, s.sets, bytes, at, pause),
-        Place::Outside => not_ahead(s, at, pause),
-        Place::Number => not_ahead(s, at, pause),
-        Place::Plain => not_ahead(s, at, pause),
-    }
+    let Place::Typed(d) = s.place else {
+        return not_ahead(s, at, pause);
+    };
+    typed_ahead(d, s.sets, bytes, at, pause)
 }
 
 // One line less to wait.
 pub fn less(wait: usize) -> usize
     ensures { result ≡ wait - 1 }
 {
-    if 0 < wait {
-        return wait - 1;
-    }
-    0
+    wait.saturating_sub(1)
 }

@@ -2,13 +2,10 @@
 -- one point .., a letter E, e, D or d, a sign, two or three digits, reaching the last column").
 use Rattle.std.specs.Prelude.{◌≡◌, ℕ, ◌+◌, ◌-◌, ◌%◌, ◌<◌, ◌≤◌, ◌⊎◌, List, [], ◌∷◌, ◌++◌, map, length, replicate, slice_index}
 use Rattle.layout.specs.Columns.{total}
+use Rattle.usual_columns.specs.declared.Cell.{Cell}
+use Rattle.usual_columns.specs.declared.Tables.{Tables}
 
 -- what a column takes: the bytes from lo to as far as span past it, and alt
-pub record Cell : Type 0 where
-  pub lo : ℕ
-  pub span : ℕ
-  pub alt : ℕ
-
 abbrev pub cell : ℕ → ℕ → ℕ → Cell
 cell l s a = record { lo = l; span = s; alt = a }
 
@@ -76,13 +73,8 @@ pub data Fits : List Cell → List ℕ → Type 0 where
   more : {c : Cell} {b : ℕ} {cs : List Cell} {bs : List ℕ} → Takes c b → Fits cs bs → Fits (c ∷ cs) (b ∷ bs)
 
 -- the code's tables
-pub record Tables : Type 0 where
-  pub los : List ℕ
-  pub spans : List ℕ
-  pub alts : List ℕ
-
 abbrev pub tables : List ℕ → List ℕ → List ℕ → Tables
-tables l s a = record { los = l; spans = s; alts = a }
+tables l s a = record { lo = l; span = s; alt = a }
 
 -- a table of 80 numbers: these, and then only the one given
 pub record Begins (ns : List ℕ) (d : ℕ) (l : List ℕ) : Type 0 where
@@ -91,9 +83,9 @@ pub record Begins (ns : List ℕ) (d : ℕ) (l : List ℕ) : Type 0 where
 
 -- the first columns of the tables take this, the others a digit
 pub record Laid (cs : List Cell) (t : Tables) : Type 0 where
-  pub los_are : Begins (map (λ (c : Cell). c.lo) cs) digit.lo t.los
-  pub spans_are : Begins (map (λ (c : Cell). c.span) cs) digit.span t.spans
-  pub alts_are : Begins (map (λ (c : Cell). c.alt) cs) digit.alt t.alts
+  pub los_are : Begins (map (λ (c : Cell). c.lo) cs) digit.lo t.lo
+  pub spans_are : Begins (map (λ (c : Cell). c.span) cs) digit.span t.span
+  pub alts_are : Begins (map (λ (c : Cell). c.alt) cs) digit.alt t.alt
 
 -- the columns from the place given on take more, those before it what they took
 abbrev pub Grown : ℕ → List Cell → Tables → Tables → Type 0
@@ -101,4 +93,4 @@ Grown at new t t' = (cs : List Cell) → length cs ≡ at → Laid cs t → Laid
 
 -- the first n columns from a byte on are taken by the tables
 unfoldable pub Passed : Tables → List ℕ → ℕ → ℕ → Type 0
-Passed t s at n = (k : ℕ) → k < n → Takes (cell (slice_index t.los k) (slice_index t.spans k) (slice_index t.alts k)) (slice_index s (at + k))
+Passed t s at n = (k : ℕ) → k < n → Takes (cell (slice_index t.lo k) (slice_index t.span k) (slice_index t.alt k)) (slice_index s (at + k))

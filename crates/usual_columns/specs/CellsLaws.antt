@@ -5,7 +5,9 @@ use Rattle.std.proofs.lemmas.List.{length-map, length-replicate, replicate-appen
 use Rattle.std.proofs.Math.ListN.{get_or-map, get_or-append}
 use Rattle.std.proofs.Math.Seq.{set-append_seam}
 use Rattle.laws.specs.ChoiceLaws.{and_left, and_right}
-use Rattle.usual_columns.specs.Cells.{Cell, cell, digit, Takes, Fits, none, more, Tables, tables, Begins, Laid, Grown, Passed}
+use Rattle.usual_columns.specs.declared.Cell.{Cell}
+use Rattle.usual_columns.specs.declared.Tables.{Tables}
+use Rattle.usual_columns.specs.Cells.{cell, digit, Takes, Fits, none, more, tables, Begins, Laid, Grown, Passed}
 
 map_append : (f : Cell → ℕ) (a b : List Cell) → map f (a ++ b) ≡ map f a ++ map f b
 map_append f [] b = refl
@@ -51,20 +53,20 @@ module _ (f : Cell → ℕ) (cs : List Cell) (l : List ℕ) (at : ℕ) (e : leng
       let m : length (map f cs) ≡ at = length-map cs f ∙ e in
       rw (map_append f cs (replicate n digit), map_replicate f n digit) (begins_more (map f cs) l (f digit) n (omega arith) b)
 
-pub grown_set : (t : Tables) (at l s a : ℕ) → at < 80 → Grown at (cell l s a ∷ []) t (tables (slice_set t.los at l) (slice_set t.spans at s) (slice_set t.alts at a))
+pub grown_set : (t : Tables) (at l s a : ℕ) → at < 80 → Grown at (cell l s a ∷ []) t (tables (slice_set t.lo at l) (slice_set t.span at s) (slice_set t.alt at a))
 grown_set t at l s a h cs e d =
     record {
-      los_are = part_set (λ (c : Cell). c.lo) cs t.los at e (cell l s a) h d.los_are;
-      spans_are = part_set (λ (c : Cell). c.span) cs t.spans at e (cell l s a) h d.spans_are;
-      alts_are = part_set (λ (c : Cell). c.alt) cs t.alts at e (cell l s a) h d.alts_are;
+      los_are = part_set (λ (c : Cell). c.lo) cs t.lo at e (cell l s a) h d.los_are;
+      spans_are = part_set (λ (c : Cell). c.span) cs t.span at e (cell l s a) h d.spans_are;
+      alts_are = part_set (λ (c : Cell). c.alt) cs t.alt at e (cell l s a) h d.alts_are;
     }
 
 pub grown_digits : (t : Tables) (at n : ℕ) → at + n ≤ 80 → Grown at (replicate n digit) t t
 grown_digits t at n h cs e d =
     record {
-      los_are = part_digits (λ (c : Cell). c.lo) cs t.los at e n h d.los_are;
-      spans_are = part_digits (λ (c : Cell). c.span) cs t.spans at e n h d.spans_are;
-      alts_are = part_digits (λ (c : Cell). c.alt) cs t.alts at e n h d.alts_are;
+      los_are = part_digits (λ (c : Cell). c.lo) cs t.lo at e n h d.los_are;
+      spans_are = part_digits (λ (c : Cell). c.span) cs t.span at e n h d.spans_are;
+      alts_are = part_digits (λ (c : Cell). c.alt) cs t.alt at e n h d.alts_are;
     }
 
 -- nothing more, and more after more
@@ -122,11 +124,11 @@ pub passed_none : (t : Tables) (s : List ℕ) (at : ℕ) → Passed t s at 0
 unfolding Passed
 passed_none t s at k h = absurd (omega arith)
 
-pub passed_more : (t : Tables) (s : List ℕ) (at i r : ℕ) (ok : Bool) → (ok ≡ true → Passed t s at i) → (r + slice_index t.los i) % 256 ≡ slice_index s (at + i)
-    → ok && (nat_le r (slice_index t.spans i) || slice_index s (at + i) == slice_index t.alts i) ≡ true → Passed t s at (i + 1)
+pub passed_more : (t : Tables) (s : List ℕ) (at i r : ℕ) (ok : Bool) → (ok ≡ true → Passed t s at i) → (r + slice_index t.lo i) % 256 ≡ slice_index s (at + i)
+    → ok && (nat_le r (slice_index t.span i) || slice_index s (at + i) == slice_index t.alt i) ≡ true → Passed t s at (i + 1)
 unfolding Passed
 passed_more t s at i r ok so_far e h =
-    below_more _ i (so_far (and_left ok _ h)) (takes (slice_index t.los i) (slice_index t.spans i) (slice_index t.alts i) (slice_index s (at + i)) r e (and_right ok _ h))
+    below_more _ i (so_far (and_left ok _ h)) (takes (slice_index t.lo i) (slice_index t.span i) (slice_index t.alt i) (slice_index s (at + i)) r e (and_right ok _ h))
 
 pub passed_all : (t : Tables) (s : List ℕ) (at i : ℕ) → 80 ≤ i → i ≤ 80 → Passed t s at i → Passed t s at 80
 passed_all t s at i h m p = let e : i ≡ 80 = omega arith in rw e at p
@@ -154,9 +156,9 @@ fits_passed cs t s at d h p =
     same : (k : ℕ) → k < length cs → Takes (slice_index_or cs k (cell 0 0 0)) (slice_index (take (length cs) (drop at s)) k)
     same k l =
         rw (
-          ← part_at (λ (c : Cell). c.lo) cs t.los k refl d.los_are l,
-          ← part_at (λ (c : Cell). c.span) cs t.spans k refl d.spans_are l,
-          ← part_at (λ (c : Cell). c.alt) cs t.alts k refl d.alts_are l,
+          ← part_at (λ (c : Cell). c.lo) cs t.lo k refl d.los_are l,
+          ← part_at (λ (c : Cell). c.span) cs t.span k refl d.spans_are l,
+          ← part_at (λ (c : Cell). c.alt) cs t.alt k refl d.alts_are l,
           get_or-take (length cs) (drop at s) k 0 l,
           get_or-drop at s k 0,
         )

@@ -1,5 +1,5 @@
 -- Columns that fit a field of the usual spelling spell a real, and hold only bytes that may stand in columns.
-use Rattle.std.specs.Prelude.{◌≡◌, ℕ, zero, suc, ◌+◌, ◌-◌, ◌*◌, ◌<◌, ◌≤◌, Bool, true, false, ◌⊎◌, List, [], ◌∷◌, ◌++◌, length, replicate, ℤ, ◌≢◌}
+use Rattle.std.specs.Prelude.{◌≡◌, ℕ, zero, suc, ◌+◌, ◌-◌, ◌*◌, ◌<◌, ◌≤◌, Bool, true, false, ◌⊎◌, List, [], ◌∷◌, ◌++◌, length, replicate, ℤ, ◌≢◌, Ok}
 use Rattle.std.proofs.Common.{◌∙◌, inl, inr, ⊎_elim, arith, ne_eqb}
 use Rattle.std.proofs.Math.ListN.{length-replicate}
 use Rattle.laws.specs.Cut.{line_len}
@@ -11,8 +11,8 @@ use Rattle.real.specs.Spelling.{Letter, ExponentSign, ExponentSpelling, TwoOrThr
 use Rattle.real.specs.Real.{real_of, number_of}
 use Rattle.real.proofs.RealLaws.{real_of_complete}
 use Rattle.real.specs.declared.Number.{Number}
-use Rattle.real.specs.declared.Real.TheVariants.{Value}
-use Rattle.usual_columns.specs.Cells.{Cell, Takes, blank, minus, digit, digit_to, point, lettered, sign, exponent_cells, field_cells, Fits}
+use Rattle.usual_columns.specs.declared.Cell.{Cell}
+use Rattle.usual_columns.specs.Cells.{Takes, blank, minus, digit, digit_to, point, lettered, sign, exponent_cells, field_cells, Fits}
 use Rattle.usual_columns.specs.CellsLaws.{fits_split, fits_length}
 
 -- a text of three columns at least, the third of which is no blank
@@ -84,7 +84,7 @@ signed_by t = ⊎_elim (λ e. rw e (record { down = false; sign = ExponentSign.p
 -- what a field holds
 pub record Holds (l : List ℕ) : Type 0 where
   pub number : Number
-  pub is : real_of l ≡ Value number
+  pub is : real_of l ≡ Ok number
 
 holds_spelled : {n : Bool} {c : ℕ} {s : ℤ} {l : List ℕ} → RealSpelling n c s l → Holds l
 holds_spelled {n} {c} {s} r = record { number = number_of n c s; is = real_of_complete r }

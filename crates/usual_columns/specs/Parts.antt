@@ -9,7 +9,8 @@ use Rattle.codes.specs.Form.{integer, never, function_type, direction, ordinate_
 use Rattle.field.specs.Field.{may_blank, field_number}
 use Rattle.record_table.specs.Row.{Field}
 use Rattle.record_table.specs.Records.{A, X, E, I}
-use Rattle.usual_columns.specs.Cells.{Cell, cell, blank, minus, digit, field_cells}
+use Rattle.usual_columns.specs.declared.Cell.{Cell}
+use Rattle.usual_columns.specs.Cells.{cell, blank, minus, digit, field_cells}
 
 -- any byte that may stand in a column
 abbrev pub printable : Cell

@@ -19,7 +19,8 @@ use Rattle.record_table.specs.Row.{Field}
 use Rattle.record_table.specs.Records.{identification_form, function_form, data_form, axis_form, records, record_of}
 use Rattle.record.specs.Check.{or_else, otherwise, stray_fault, fields_fault, first_non_blank, stray_in, stray, fields_refusal}
 use Rattle.record.specs.CheckLaws.{first_byte_blank}
-use Rattle.usual_columns.specs.Cells.{Cell, Takes, blank, digit, field_cells, Fits, tables, Begins, Laid, Passed}
+use Rattle.usual_columns.specs.declared.Cell.{Cell}
+use Rattle.usual_columns.specs.Cells.{Takes, blank, digit, field_cells, Fits, tables, Begins, Laid, Passed}
 use Rattle.usual_columns.specs.CellsLaws.{fits_split, fits_passed}
 use Rattle.usual_columns.specs.FieldLaws.{takes_blank, field_holds, blanks_fit}
 use Rattle.usual_columns.specs.RowLaws.{field_length, Clear, clear_end, clear_on, fits_on, clear_passes}

@@ -18,7 +18,9 @@ use Rattle.record_table.specs.Row.{Field}
 use Rattle.record_table.specs.Records.{E}
 use Rattle.record.specs.Check.{fields_fault, stray_in, stray, fields_refusal}
 use Rattle.record.specs.CheckLaws.{first_byte_blank, fields_refusal_passed}
-use Rattle.usual_columns.specs.Cells.{Cell, blank, digit, any, start_cells, exponent_cells, field_cells, row_cells, line_cells, table_cells, Wide, Fits, Tables, tables, Laid, Grown, Passed}
+use Rattle.usual_columns.specs.declared.Cell.{Cell}
+use Rattle.usual_columns.specs.declared.Tables.{Tables}
+use Rattle.usual_columns.specs.Cells.{blank, digit, any, start_cells, exponent_cells, field_cells, row_cells, line_cells, table_cells, Wide, Fits, tables, Laid, Grown, Passed}
 use Rattle.usual_columns.specs.CellsLaws.{grown_none, grown_on, grown_digits, fits_split, fits_length, fits_passed}
 use Rattle.usual_columns.specs.FieldLaws.{Third, third, field_holds, line_len_allowed, field_allowed, field_third}
 

@@ -1,5 +1,5 @@
 -- The number that a field in the usual spelling is read as, and the bit pattern of its f64.
-use Rattle.std.specs.Prelude.{◌≡◌, Bool, true, false, not, List, ℕ, ◌+◌, ◌-◌, ◌^◌, ◌≤◌, ◌<◌, T, ltb, Float, length, get_or}
+use Rattle.std.specs.Prelude.{◌≡◌, Bool, true, false, not, List, ℕ, ◌+◌, ◌-◌, ◌^◌, ◌≤◌, ◌<◌, T, ltb, Float, length, get_or, Ok}
 use Rattle.std.specs.Float.{nan, inf, fin, binary64}
 use Rattle.std.specs.Float.Ieee.{fits}
 use Rattle.laws.specs.Choice.{pick}
@@ -8,7 +8,6 @@ use Rattle.real.specs.Real.{real_of}
 use Rattle.real.specs.Plain.{Few}
 use Rattle.exact.specs.Exact.{ten_of, magnitude_of}
 use Rattle.exact.specs.Bits.{bits_of}
-use Rattle.reader.specs.declared.Read.TheVariants as read
 use Rattle.reader.specs.Reader.{read_of}
 
 -- every column holds a digit
@@ -46,5 +45,5 @@ pub record Magnitude (x : Float) : Type 0 where
 -- the columns are read as the f64 of this bit pattern
 pub record UsualRead (l : List ℕ) (pattern : ℕ) : Type 0 where
   pub value : Float
-  pub read_is : read_of (real_of l) ≡ read.Value value
+  pub read_is : read_of (real_of l) ≡ Ok value
   pub pattern_is : pattern ≡ bits_of value

@@ -1,5 +1,5 @@
 -- A field in the usual spelling is read as the f64 whose bit pattern is worked out from its columns.
-use Rattle.std.specs.Prelude.{◌≡◌, Bool, cond, List, ℕ, zero, suc, ◌+◌, ◌-◌, ◌*◌, ◌^◌, ◌≤◌, ◌<◌, ltb, eqb, Float, length, get_or, take, drop}
+use Rattle.std.specs.Prelude.{◌≡◌, Bool, cond, List, ℕ, zero, suc, ◌+◌, ◌-◌, ◌*◌, ◌^◌, ◌≤◌, ◌<◌, ltb, eqb, Float, length, get_or, take, drop, Ok}
 use Rattle.std.proofs.Math.Path.{refl, ap}
 use Rattle.std.proofs.Common.{sym, ◌∙◌, ⊎_elim, length-take, length-drop, take_all, get_or-take, get_or-drop}
 use Rattle.std.proofs.Math.Bool.{true, false}
@@ -21,8 +21,7 @@ use Rattle.real.proofs.PlainLaws.{digits_next, lettered_last, plain_front, colum
 use Rattle.exact.specs.Exact.{magnitude_of, with_sign, exact_of}
 use Rattle.exact.specs.ExactLaws.{magnitude_of_times, magnitude_of_divided}
 use Rattle.exact.specs.Bits.{bits_of}
-use Rattle.reader.specs.declared.Read.{Read}
-use Rattle.reader.specs.declared.Read.TheVariants as read
+use Rattle.reader.specs.Reader.{Read}
 use Rattle.reader.specs.Reader.{read_of}
 use Rattle.usual_values.specs.Usual.{UsualField}
 use Rattle.usual_values.specs.Number.{AllDigits, Spelled, place_of, magnitude_at, is_unsigned, Magnitude}
@@ -94,15 +93,15 @@ module _ (c p : ℕ) where
 
 -- a number in the exact path is its magnitude with its sign
 module _ (n : Bool) (c : ℕ) (small : c ≤ 9007199254740992) where
-  read_scaled : (f x k : ℕ) (xn b : Bool) → k ≤ 22 → read_of (scaled (at 7 n c 0 f xn x) b k) ≡ read.Value (with_sign n (magnitude_of c b k))
+  read_scaled : (f x k : ℕ) (xn b : Bool) → k ≤ 22 → read_of (scaled (at 7 n c 0 f xn x) b k) ≡ Ok (with_sign n (magnitude_of c b k))
   unfolding read_of exact_of
   read_scaled f x k xn b h = rw (le-leb c 9007199254740992 small, le-leb k 22 h) refl
 
   abbrev Own : Bool → ℕ → ℕ → Type 0
-  Own xn x f = read_of (real_end (at 7 n c 0 f xn x)) ≡ read.Value (with_sign n (magnitude_at c (place_of xn x f)))
+  Own xn x f = read_of (real_end (at 7 n c 0 f xn x)) ≡ Ok (with_sign n (magnitude_at c (place_of xn x f)))
 
   abbrev value : Float → Read
-  value m = read.Value (with_sign n m)
+  value m = Ok (with_sign n m)
 
   read_minus : (x f : ℕ) → 1 ≤ f → x + f ≤ 22 → Own true x f
   unfolding place_of
@@ -224,7 +223,7 @@ module _ (l : List ℕ) (u : UsualField l) where
 
   -- what is read
   pub usual_read : (c : ℕ) → Spelled (get_or l 2 0 - 48) (between 4 (w - 4) l) c
-      → read_of (real_of l) ≡ read.Value (with_sign (eqb (get_or l 1 0) 45) (magnitude_at c (place_of (eqb (get_or l (w - 3) 0) 45) (get_or l (w - 1) 0 - 48) (w - 8))))
+      → read_of (real_of l) ≡ Ok (with_sign (eqb (get_or l 1 0) 45) (magnitude_at c (place_of (eqb (get_or l (w - 3) 0) 45) (get_or l (w - 1) 0 - 48) (w - 8))))
   usual_read c s =
       let wide = u.wide in
       let narrow = u.narrow in
@@ -236,7 +235,7 @@ module _ (l : List ℕ) (u : UsualField l) where
       ∙ read_placed (eqb (get_or l 1 0) 45) c (coefficient_small _ c s) (eqb (get_or l (w - 3) 0) 45) (get_or l (w - 1) 0 - 48) (w - 8) (omega arith) (omega arith)
 
   -- and it is a value
-  pub usual_value : (v : Float) × (read_of (real_of l) ≡ read.Value v)
+  pub usual_value : (v : Float) × (read_of (real_of l) ≡ Ok v)
   usual_value =
       let narrow = u.narrow in
       let n : length (between 4 (w - 4) l) ≡ w - 8 = part_length in

@@ -1,4 +1,5 @@
 // Numbers in the usual spelling: the bit pattern of the f64 that each is read as.
+// An `as` is proved to lose nothing; where one stands, std has no From between the two types, and `try_from` would ask for an answer to an error that cannot be.
 #![tactic(auto)]
 
 ghost use Rattle.std.specs.Prelude.{◌≡◌, ◌+◌, ◌≤◌, min, length};
@@ -7,31 +8,17 @@ ghost use Rattle.exact.specs.Exact.{with_sign};
 ghost use Rattle.usual_values.specs.Usual.{UsualField};
 ghost use Rattle.usual_values.specs.Number.{AllDigits, Spelled, PowersTo, place_of, magnitude_at, Magnitude, UsualRead};
 
-use laws::{index, wide};
-
-// The lesser of two numbers.
-fn lesser(a: usize, b: usize) -> usize
-    ensures { result ≡ min a b }
-{
-    if a <= b {
-        return a;
-    }
-    b
-}
-
 // The powers of ten up to 10^22, and up to 10^most where that is less; none is stored (document 02, C-16): the compiler does not know how
 // many there are.
 pub fn powers(most: usize) -> [f64; 23]
     ensures { PowersTo (min most 22) result }
 {
-    let last = lesser(most, 22);
+    let last = most.min(22);
     let mut tens = [1.0; 23];
     let mut power = 1.0;
-    let mut k = 0;
-    while k < last {
+    for k in 0..last {
         power = power * 10.0;
-        k += 1;
-        tens[k] = power;
+        tens[k + 1] = power;
     }
     tens
 }
@@ -42,10 +29,8 @@ fn digits_number(m: u64, s: &[u8]) -> u64
     ensures { Spelled m s.now result }
 {
     let mut c = m;
-    let mut i = 0;
-    while i < s.len() {
-        c = c * 10 + wide(s[i]) - 48;
-        i += 1;
+    for b in s {
+        c = c * 10 + u64::from(*b) - 48;
     }
     c
 }
@@ -95,8 +80,8 @@ pub fn usual_bits(s: &[u8], tens: &[f64; 23]) -> u64
     let past = s.len() - 4;
     let sign = s.len() - 3;
     let last = s.len() - 1;
-    let whole = wide(s[2]) - 48;
+    let whole = u64::from(s[2]) - 48;
     let c = digits_number(whole, &s[4..past]);
-    let place = place_of(s[sign] == 45, index(s[last]) - 48, s.len() - 8);
+    let place = place_of(s[sign] == 45, usize::from(s[last]) - 48, s.len() - 8);
     signed_bits(s[1] == 45, magnitude_at(c, place, tens))
 }

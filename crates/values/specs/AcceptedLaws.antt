@@ -1,13 +1,11 @@
 -- What the judge accepts has a real in each stored number's columns.
-use Rattle.std.specs.Prelude.{◌≡◌, Bool, true, false, ◌&&◌, ℕ, zero, suc, ◌+◌, ◌-◌, ◌*◌, ◌≤◌, ◌<◌, length, get_or, take, drop}
+use Rattle.std.specs.Prelude.{◌≡◌, Some, ℕ, zero, suc, ◌+◌, ◌-◌, ◌*◌, ◌≤◌, ◌<◌, length, get_or, take, drop}
 use Rattle.std.proofs.Math.Path.{refl}
 use Rattle.std.proofs.Common.{sym, ap, subst, ◌∙◌, zero-mul, length-drop, length-take-le}
 use Rattle.std.proofs.Math.Logic.{⊎_elim}
-use mathlib.Core.List.{List, [], ◌∷◌}
+use mathlib.Core.List.{List, ◌∷◌}
 use native.Mathlib.Omega.{arith}
 use borrow.Author.Tests.{eqb-true, ltb-true, le-leb}
-use Rattle.std.proofs.Math.Dec.{ltb}
-use Rattle.laws.specs.Choice.{pick}
 use Rattle.laws.specs.ChoiceLaws.{and_left, and_right}
 use Rattle.real.specs.Real.{real_of}
 use Rattle.layout.specs.Columns.{field_of, field_past}
@@ -25,13 +23,14 @@ use Rattle.parts_laws.specs.DeclaresLaws.{number_held}
 use Rattle.parts_laws.specs.Stored.{stored_count}
 use Rattle.parts_laws.proofs.ShownLaws.{stored_shown}
 use Rattle.parts_laws.specs.PaddingLaws.{stored_held}
+use Rattle.parts_laws.proofs.PaddedLaws.{stored_some}
 use Rattle.parts_laws.proofs.OrderLaws.{past_within}
 use Rattle.judge_laws.specs.HeldLaws.{accepted_held}
 use Rattle.reader.specs.declared.Data.{Data}
 use Rattle.reader.specs.Reader.{sets_from, read_in, read_of}
-use Rattle.reader.specs.Find.{nothing, data_of}
+use Rattle.reader.specs.Find.{data_of}
 use Rattle.reader.specs.FindLaws.{stands}
-use Rattle.reader.specs.ReaderLaws.{own}
+use Rattle.reader.specs.ReaderLaws.{own, Owned, data_owned}
 use Rattle.reader.specs.SpanLaws.{first_own, past_own}
 use Rattle.values.specs.LinesLaws.{width_either}
 use Rattle.values.specs.Scale.{RealColumns}
@@ -71,6 +70,11 @@ module _ (file : List ℕ) (p : Part) (ps : List Part) (w : Somewhere file p ps)
             (real_in_lem j (rw (stored_held h) at l));
       }
 
+-- a product of which something is left
+some_left : (a b : ℕ) → 0 < a * b → 0 < a
+some_left zero b h = absurd (omega (arith, zero-mul b))
+some_left (suc a) b h = omega arith
+
 -- the set asked for
 set_held : (file : List ℕ) (set : ℕ) (p : Part) (ps : List Part) → (judged file).number ≤ 0 → sets_from file set ≡ p ∷ ps → (s : Set) × Holds s p
 unfolding sets_from
@@ -78,24 +82,30 @@ set_held file zero p ps z q = let y : 0 ≡ suc (length ps) = ap length q in abs
 set_held file (suc k) p ps z q = accepted_held file z k p ps q
 
 module _ (file : List ℕ) (r : Reply) (f : r ≡ judged file) (accepted : r.number ≤ 0) (set : ℕ) where
-  none_real : AllReal file nothing (0 * numbers_of 0)
-  none_real = record { real = λ j l. absurd (omega (arith, zero-mul (numbers_of 0))) }
+  module _ (d : Data) (q : Some d ≡ data_of (sets_from file set)) where
+    abbrev o : Owned (sets_from file set) d
+    o = data_owned (sets_from file set) d q
 
-  part_real : (p : Part) (ps : List Part) (w : Somewhere file p ps) (s : Set) → Holds s p → (t : Bool) → is_function p && ltb (part_case p) 8 ≡ t
-      → AllReal file (pick t (own file p ps w) nothing) ((pick t (own file p ps w) nothing).count * numbers_of (pick t (own file p ps w) nothing).case)
-  part_real p ps w s h true q =
-      let a = eqb-true (dataset_of p) 58 (and_left (is_function p) _ q) in
-      let b = ltb-true (part_case p) 8 (and_right (is_function p) _ q) in
-      own_real file p ps w b s h (sym (number_held h) ∙ a)
-  part_real p ps w s h false q = none_real
+    held : (s : Set) × Holds s o.part
+    held = set_held file set o.part o.others (rw f at accepted) o.first
 
-  sets_real : (sets : List Part) → sets_from file set ≡ sets → AllReal file (data_of sets) ((data_of sets).count * numbers_of (data_of sets).case)
-  unfolding data_of
-  sets_real [] q = none_real
-  sets_real (p ∷ ps) q = let x = set_held file set p ps (rw f at accepted) q in part_real p ps (stands file set p ps q) x.0 x.1 (is_function p && ltb (part_case p) 8) refl
+    a58 : held.0.number ≡ 58
+    a58 = sym (number_held held.1) ∙ eqb-true (dataset_of o.part) 58 (and_left (is_function o.part) _ o.eight)
 
-  pub accepted_real : (d : Data) → d ≡ data_of (sets_from file set) → (n k : ℕ) → n ≡ d.count * k → k ≡ numbers_of d.case → AllReal file d n
-  accepted_real d q n k m e = rw (m, e) (subst (λ (x : Data). AllReal file x (x.count * numbers_of x.case)) (sym q) (sets_real (sets_from file set) refl))
+    part_real : AllReal file (own file o.part o.others (stands file set o.part o.others o.first)) (count_of o.part * numbers_of (part_case o.part))
+    part_real =
+        let b = ltb-true (part_case o.part) 8 (and_right (is_function o.part) _ o.eight) in
+        own_real file o.part o.others (stands file set o.part o.others o.first) b held.0 held.1 a58
+
+    pub accepted_real : (n k : ℕ) → n ≡ d.count * k → k ≡ numbers_of d.case → AllReal file d n
+    accepted_real n k m e = rw (m, e) (subst (λ (x : Data). AllReal file x (x.count * numbers_of x.case)) (sym o.own) part_real)
+
+    -- and has values
+    pub accepted_some : 0 < d.count
+    unfolding stored_of
+    accepted_some =
+        let stored : 0 < stored_of o.part = rw (stored_held held.1) (stored_some held.1.lines a58) in
+        subst (λ (x : Data). 0 < x.count) (sym o.own) (some_left (count_of o.part) (numbers_of (part_case o.part)) stored)
 
 -- what is read in the columns of a real, by their first byte and their number
 module _ {file : List ℕ} {a e : ℕ} (r : RealIn file a e) (w : ℕ) (f : a + w ≡ e) where

@@ -1,6 +1,6 @@
 -- The f64 of each stored number, value by value.
 use Rattle.std.specs.Prelude.{◌≡◌, List, ℕ, ◌*◌, ◌<◌, Float, length, take, drop}
-use Rattle.real.specs.declared.Real.{Real}
+use Rattle.real.specs.Real.{Real}
 use Rattle.layout.specs.Layout.{numbers_of}
 use Rattle.reader.specs.Reader.{said, value_kind, value_with}
 

@@ -1,6 +1,6 @@
 -- All values at once are the values one after the other: where they are shown, each value is its own part of them; where they are refused, a
 -- value is refused so.
-use Rattle.std.specs.Prelude.{◌≡◌, Float, length}
+use Rattle.std.specs.Prelude.{◌≡◌, Float, length, Ok, Err}
 use Rattle.std.proofs.Math.Path.{refl, ap}
 use Rattle.std.proofs.Common.{sym, ◌∙◌, zero-mul, suc-mul, mul-le-mul_right, lt-ltb, le-ltb}
 use Rattle.std.proofs.Math.Logic.{⊎_elim}
@@ -10,10 +10,9 @@ use native.Mathlib.Omega.{arith}
 use Rattle.std.proofs.Math.ListN.{take, drop}
 use Rattle.std.proofs.Math.Seq.{take_at, drop_at}
 use Rattle.laws.specs.ChoiceLaws.{below_or_not}
-use Rattle.real.specs.declared.Real.{Real}
+use Rattle.real.specs.Real.{Real}
 use Rattle.layout.specs.Layout.{numbers_of}
-use Rattle.reader.specs.declared.Read.{Read}
-use Rattle.reader.specs.declared.Read.TheVariants as read
+use Rattle.reader.specs.Reader.{Read}
 use Rattle.reader.specs.Reader.{Said, said, refused, read_of, reads, whole, value_kind, value_with}
 use Rattle.values.specs.Fill.{refusal_of, refusal_in, floats_in}
 use Rattle.values.specs.FillLaws.{whole_refused, whole_shown, shown_length}
@@ -31,8 +30,8 @@ reads_append g j (suc a) b =
 floats_append : (a b : List Read) → floats_in (a ++ b) ≡ floats_in a ++ floats_in b
 unfolding floats_in
 floats_append [] b = refl
-floats_append (read.Value x ∷ a) b = ap (λ (l : List Float). x ∷ l) (floats_append a b)
-floats_append (read.Refused n ∷ a) b = floats_append a b
+floats_append (Ok x ∷ a) b = ap (λ (l : List Float). x ∷ l) (floats_append a b)
+floats_append (Err n ∷ a) b = floats_append a b
 
 -- the first refusal is among the first numbers, or it is the first of the others
 refusal_before : (a b : List Read) → 0 < refusal_in a → refusal_in (a ++ b) ≡ refusal_in a

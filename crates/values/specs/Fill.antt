@@ -1,14 +1,13 @@
 -- What the code finds in numbers that are read, and what it puts into the places lent.
-use Rattle.std.specs.Prelude.{List, [], ◌∷◌, ℕ, ltb, Float}
+use Rattle.std.specs.Prelude.{List, [], ◌∷◌, ℕ, ltb, Float, Ok, Err}
 use Rattle.laws.specs.Choice.{pick}
 use Rattle.exact.specs.Bits.{bits_of}
-use Rattle.reader.specs.declared.Read.{Read}
-use Rattle.reader.specs.declared.Read.TheVariants as read
+use Rattle.reader.specs.Reader.{Read}
 
 -- the number of a refusal, 0 for a value
 abbrev pub refusal_of : Read → ℕ
-refusal_of (read.Value x) = 0
-refusal_of (read.Refused n) = n
+refusal_of (Ok x) = 0
+refusal_of (Err n) = n
 
 -- of the first that is refused
 unfoldable pub refusal_in : List Read → ℕ
@@ -17,14 +16,14 @@ refusal_in (r ∷ rs) = pick (ltb 0 (refusal_of r)) (refusal_of r) (refusal_in r
 
 -- the value's bit pattern, or what is given instead
 abbrev pub pattern_or : ℕ → Read → ℕ
-pattern_or y (read.Value x) = bits_of x
-pattern_or y (read.Refused n) = y
+pattern_or y (Ok x) = bits_of x
+pattern_or y (Err n) = y
 
 -- the values alone
 unfoldable pub floats_in : List Read → List Float
 floats_in [] = []
-floats_in (read.Value x ∷ rs) = x ∷ floats_in rs
-floats_in (read.Refused n ∷ rs) = floats_in rs
+floats_in (Ok x ∷ rs) = x ∷ floats_in rs
+floats_in (Err n ∷ rs) = floats_in rs
 
 -- the places with the bit patterns put in; where a number is refused, and past the last, they keep their contents
 unfoldable pub patterns_put : List Read → List ℕ → List ℕ

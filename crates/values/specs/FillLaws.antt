@@ -1,5 +1,5 @@
 -- A loop over the numbers finds the first refusal, and fills the places.
-use Rattle.std.specs.Prelude.{◌≡◌, Float, get_or, take, drop, set}
+use Rattle.std.specs.Prelude.{◌≡◌, Float, Option, Some, None, get_or, take, drop, set, Ok, Err}
 use Rattle.std.proofs.Math.Path.{refl, sym}
 use Rattle.std.proofs.Common.{ap, ◌∙◌, le_of_suc-le-suc, take-append-drop}
 use mathlib.Core.List.{List, [], ◌∷◌, ◌++◌, append_assoc, append-nil, map}
@@ -9,14 +9,10 @@ use native.Mathlib.Omega.{arith}
 use borrow.Author.Tests.{lt-ltb, le-ltb}
 use Rattle.std.proofs.Math.ListN.{length}
 use Rattle.std.proofs.Math.Seq.{drop-cons, take-suc-set, drop-set-lt}
-use Rattle.real.specs.declared.Real.{Real}
-use Rattle.exact.specs.declared.Exact.{Exact}
-use Rattle.exact.specs.declared.Exact.TheVariants as ex
-use Rattle.real.specs.declared.Real.TheVariants.{Blank, Malformed, Value}
+use Rattle.real.specs.Real.{Real}
 use Rattle.exact.specs.Exact.{exact_of}
 use Rattle.exact.specs.Bits.{bits_of}
-use Rattle.reader.specs.declared.Read.{Read}
-use Rattle.reader.specs.declared.Read.TheVariants as read
+use Rattle.reader.specs.Reader.{Read}
 use Rattle.reader.specs.Reader.{said, refused, on_exact, read_of, reads, whole}
 use Rattle.values.specs.Fill.{refusal_of, refusal_in, pattern_or, floats_in, patterns_put}
 
@@ -53,28 +49,27 @@ module _ (g : ℕ → Real) (j count : ℕ) where
       sym (rw (reads_next h, drop-cons l j y i, add-one, take-suc-set l j v i, drop-set-lt (suc j) l j v (omega arith), append_assoc, e) refl)
 
 -- a refusal of a number is 18 or 21
-refused_some : (x : Real) (n : ℕ) → read_of x ≡ read.Refused n → 0 < n
+refused_some : (x : Real) (n : ℕ) → read_of x ≡ Err n → 0 < n
 unfolding read_of
-refused_some (Value m) n e = on_exact_lem (exact_of m.minus m.coefficient m.below m.scale) e
+refused_some (Ok m) n e = on_exact_lem (exact_of m.minus m.coefficient m.below m.scale) e
   where
-    on_exact_lem : (y : Exact) → on_exact y ≡ read.Refused n → 0 < n
-    on_exact_lem (ex.Value v) q = let z : ◌≡◌ {A = ℕ} 0 1 = cc in absurd (omega arith)
-    on_exact_lem ex.Outside q = let z : 21 ≡ n = cc in omega arith
-refused_some Blank n e = let z : 18 ≡ n = cc in omega arith
-refused_some Malformed n e = let z : 18 ≡ n = cc in omega arith
+    on_exact_lem : (y : Option Float) → on_exact y ≡ Err n → 0 < n
+    on_exact_lem (Some v) q = let z : ◌≡◌ {A = ℕ} 0 1 = cc in absurd (omega arith)
+    on_exact_lem None q = let z : 21 ≡ n = cc in omega arith
+refused_some (Err _) n e = let z : 18 ≡ n = cc in omega arith
 
 -- a number that is refused has a refusal's number; so where none is refused there is a value
 module _ (x : Real) (rs : List Read) where
-  pub first_refused : (m : ℕ) → read_of x ≡ read.Refused m → refusal_in (read_of x ∷ rs) ≡ m
+  pub first_refused : (m : ℕ) → read_of x ≡ Err m → refusal_in (read_of x ∷ rs) ≡ m
   unfolding refusal_in
   first_refused m q = rw (q, lt-ltb 0 m (refused_some x m q)) refl
 
-  pub first_value : refusal_in (read_of x ∷ rs) ≤ 0 → (v : Float) × (read_of x ≡ read.Value v)
+  pub first_value : refusal_in (read_of x ∷ rs) ≤ 0 → (v : Float) × (read_of x ≡ Ok v)
   first_value h = go (read_of x) refl
     where
-      go : (r : Read) → read_of x ≡ r → (v : Float) × (read_of x ≡ read.Value v)
-      go (read.Value v) q = (v, q)
-      go (read.Refused m) q = absurd (omega (arith, first_refused m q, refused_some x m q))
+      go : (r : Read) → read_of x ≡ r → (v : Float) × (read_of x ≡ Ok v)
+      go (Ok v) q = (v, q)
+      go (Err m) q = absurd (omega (arith, first_refused m q, refused_some x m q))
 
 -- the numbers j to j + k − 1
 module _ (g : ℕ → Real) where
@@ -86,8 +81,8 @@ module _ (g : ℕ → Real) where
     where
       go : (r : Read) → read_of (g j) ≡ r → ((ys : List Float) → 0 < refusal_in (reads g (suc j) k) → whole place ys (reads g (suc j) k) ≡ refused (refusal_in (reads g (suc j) k)) 0)
           → whole place xs (read_of (g j) ∷ reads g (suc j) k) ≡ refused (refusal_in (read_of (g j) ∷ reads g (suc j) k)) 0
-      go (read.Value x) q ih = rw q (ih (xs ++ (x ∷ [])) (rw q at p))
-      go (read.Refused m) q ih = rw (first_refused (g j) (reads g (suc j) k) m q, q) refl
+      go (Ok x) q ih = rw q (ih (xs ++ (x ∷ [])) (rw q at p))
+      go (Err m) q ih = rw (first_refused (g j) (reads g (suc j) k) m q, q) refl
 
   -- otherwise all are shown, in order
   pub whole_shown : (j k place : ℕ) (xs : List Float) → refusal_in (reads g j k) ≤ 0 → whole place xs (reads g j k) ≡ said 0 place (xs ++ floats_in (reads g j k))

@@ -1,7 +1,7 @@
 -- A usual line is read field by field, and after it comes the line of the next numbers.
-use Rattle.std.specs.Prelude.{◌≡◌, ◌⊎◌, Bool, true, false, ◌||◌, List, eqb, Float, drop, set}
+use Rattle.std.specs.Prelude.{◌≡◌, Ok, Err, ◌⊎◌, Bool, true, false, ◌||◌, List, eqb, Float, drop}
 use Rattle.std.proofs.Math.Path.{refl, sym, ap}
-use Rattle.std.proofs.Common.{◌∙◌, inl, inr, eq-zero-or-pos, length-set, drop_at}
+use Rattle.std.proofs.Common.{◌∙◌, inl, inr, drop_at}
 use Rattle.std.proofs.Math.Logic.{⊎_elim}
 use Prim.Native.Nat.{ℕ, zero, suc, ◌+◌, ◌-◌, ◌*◌, ◌/◌, ◌%◌, ◌≤◌, ◌<◌, min}
 use Rattle.std.proofs.Math.Nat.{sub-zero, div_self, mod_self, div-eq_of_lt, mod-eq_of_lt, mul-add-div_right, mul-add-mod_self_right}
@@ -9,11 +9,11 @@ use native.Mathlib.Omega.{arith}
 use borrow.Author.Tests.{le-leb, eqb-true}
 use Rattle.std.proofs.Math.ListN.{length, get_or}
 use Rattle.std.proofs.Math.Seq.{drop-drop}
-use Rattle.laws.specs.Choice.{pick}
 use Rattle.laws.specs.Cut.{cut, line_len}
 use Rattle.laws.specs.Ranges.{all_are}
 use Rattle.laws.specs.RangesLaws.{in_range}
 use Rattle.laws.specs.Table.{tabulate}
+use Rattle.real.specs.Real.{Real}
 use Rattle.real.specs.Real.{is_letter, real_of}
 use Rattle.real.specs.ByteLaws.{is_letter_sound}
 use Rattle.layout.specs.Columns.{line_of, field_of, field_start, field_past, total}
@@ -24,12 +24,12 @@ use Rattle.record_table.specs.TypedSets.{header_lines}
 use Rattle.parts.specs.Scan.{skip_to}
 use Rattle.parts.specs.SetLaws.{skip_next}
 use Rattle.reader.specs.declared.Data.{Data}
-use Rattle.reader.specs.declared.Read.{Read}
-use Rattle.reader.specs.declared.Read.TheVariants as read
+use Rattle.reader.specs.Reader.{Read}
 use Rattle.reader.specs.Reader.{read_in, read_of, reads}
 use Rattle.reader.specs.Find.{line_at, span_of, real_at}
 use Rattle.usual_columns.specs.Cells as Cells
-use Rattle.usual_columns.specs.Cells.{table_cells, Wide, Tables, Laid}
+use Rattle.usual_columns.specs.declared.Tables.{Tables}
+use Rattle.usual_columns.specs.Cells.{table_cells, Wide, Laid}
 use Rattle.usual_columns.specs.CellsLaws.{fits_length}
 use Rattle.usual_columns.specs.RowLaws.{Begun, wide_at, row_length, row_line, row_field_lem, row_begun}
 use Rattle.usual_columns.specs.WidthsLaws.{layout_wide, layout_some}
@@ -37,17 +37,12 @@ use Rattle.usual_values.specs.Usual.{UsualField}
 use Rattle.usual_values.specs.UsualLaws.{field_usual}
 use Rattle.usual_values.specs.Number.{PowersTo, UsualRead}
 use Rattle.usual_values.specs.NumberLaws.{usual_value}
-use Rattle.values.specs.declared.Plan.{Plan}
 use Rattle.values.specs.declared.Spot.{Spot}
-use Rattle.values.specs.declared.Turn.{Turn}
 use Rattle.values.specs.Spot.{spot, spot_of, AtSpot}
 use Rattle.values.specs.SpotLaws.{skip_further}
-use Rattle.values.specs.Fill.{refusal_in, pattern_or, patterns_put}
-use Rattle.values.specs.FillLaws.{refusal_here, refusal_next, patterns_none, patterns_next}
-use Rattle.values.specs.Lines.{field, plan, TablesFor, Planned, Lent, UsualLine, filled, Gone, Passed, AllRead}
-
-pub some : (n : ℕ) → (n ≡ 0 → ⊥) → 0 < n
-some n h = ⊎_elim (λ (e : n ≡ 0). absurd (h e)) (λ (p : 0 < n). p) (eq-zero-or-pos n)
+use Rattle.values.specs.Fill.{refusal_of, refusal_in, pattern_or, patterns_put}
+use Rattle.values.specs.FillLaws.{refusal_here, refusal_next, patterns_none}
+use Rattle.values.specs.Lines.{field, Told, TablesFor, UsualLine, filled}
 
 -- all the powers of ten, where the file has a line
 pub powers_all : (n : ℕ) (t : List Float) → 22 ≤ n → PowersTo (min n 22) t → PowersTo 22 t
@@ -90,11 +85,7 @@ module _ (c : ℕ) (l : List ℕ) (own : l ≡ (layout_of c).widths) where
       let f : w ≡ get_or (layout_of c).widths 0 0 = e ∙ rw own refl in
       (omega (arith, wide_at 0 (layout_wide c h) (layout_some c h)), omega (arith, field_inside c 0))
 
--- no tables, and those of a set
-pub none_planned : (file : List ℕ) (d : Data) (t : Tables) (s : Spot) (count n : ℕ) (p : Plan) → p ≡ plan s count n 0 0 → n ≡ fields_of d.case
-    → ((p.first ≡ s) × (p.stored ≡ count)) × ((p.fields ≡ fields_of d.case) × Planned file d t p)
-none_planned file d t s count n p e f = rw e ((refl, refl), (f, record { inside = omega arith; laid = λ h. absurd (omega arith) }))
-
+-- the tables of a set
 pub tables_for : (d : Data) (l : List ℕ) (t : Tables) (b m c : ℕ) → l ≡ (layout_of d.case).widths → is_letter b ≡ true → c ≡ total l + (0 - total l) → Laid (table_cells b m l c) t → m ≡ 0
     → TablesFor d c t
 tables_for d l t b m c own x e laid z = record { letter = b; letter_is = x; columns_are = e ∙ rw own (omega arith); laid = rw (own, z) at laid }
@@ -133,13 +124,12 @@ module _ (file : List ℕ) (d : Data) (t : Tables) (c at : ℕ) (eight : d.case 
       rw (← drop-drop (field_start row k) at file, begun.is)
       (field_usual own.letter (get_or row k 0) own.letter_is low high (row_field_lem own.letter 0 k begun.rest wide h begun.fits))
 
-  pub usual_line : (until end : ℕ) → 80 ≤ until → at < d.closing → end ≡ at + c + line_len (drop (at + c) file) → end < length file → UsualLine file d until at (end + 1)
+  pub usual_line : (end : ℕ) → at < d.closing → end ≡ at + c + line_len (drop (at + c) file) → end < length file → UsualLine file d at (end + 1)
   unfolding skip_to
-  usual_line until end tried before f inside =
+  usual_line end before f inside =
       record {
         fields = field_here;
         room = room;
-        tried = tried;
         next_is = sym (skip_next file 1 d.closing at end (omega arith) before (omega arith) (f ∙ end_past) inside);
         next_inside = omega arith;
       }
@@ -155,7 +145,7 @@ spot_opens file d j s at h =
 
 -- a number that opens a line
 module _ (file : List ℕ) (d : Data) (body : d.body ≤ length file) (eight : d.case < 8) (j line next : ℕ) (at : AtSpot file d j (spot line 0 line))
-    {until : ℕ} (usual : UsualLine file d until line next) where
+    (usual : UsualLine file d line next) where
   abbrev n : ℕ
   n = fields_of d.case
 
@@ -211,7 +201,7 @@ module _ (file : List ℕ) (d : Data) (body : d.body ≤ length file) (eight : d
       let s : line + (field_start ws k + get_or ws k 0) - (line + field_start ws k) ≡ get_or ws k 0 = omega arith in
       rw (q.0, q.1, begins, le-leb (line + (field_start ws k + get_or ws k 0)) (length file) (omega arith), s) refl
 
-  pub line_value : (k : ℕ) → k < n → (v : Float) × (read_of (real_at file d (j + k)) ≡ read.Value v)
+  pub line_value : (k : ℕ) → k < n → (v : Float) × (read_of (real_at file d (j + k)) ≡ Ok v)
   line_value k h = let u = usual_value _ (usual.fields k h) in (u.0, ap read_of (line_real k h) ∙ u.1)
 
   -- a bit pattern worked out from a number's columns is what is put for it
@@ -227,57 +217,30 @@ module _ (file : List ℕ) (d : Data) (body : d.body ≤ length file) (eight : d
       go (suc k) l =
           let v = line_value k (omega arith) in
           let z : j + k + 1 ≡ j + suc k = omega arith in
-          rw (← z) (refusal_next (real_at file d) (j + k) count (omega arith) (read.Value v.0) 0 (sym v.1) refl (omega arith) ∙ go k (omega arith))
+          rw (← z) (refusal_next (real_at file d) (j + k) count (omega arith) (Ok v.0) 0 (sym v.1) refl (omega arith) ∙ go k (omega arith))
 
--- after the usual lines one number more is put
-module _ {file : List ℕ} {d : Data} {put : Bool} {count j r : ℕ} {before after l : List ℕ} {t : Turn} (f : Gone file d put count j before after t)
-    {a : Read} (p : Passed a put t.number after l r) where
-  pub gone_length : length l ≡ length before
-  gone_length = ap length p.places ∙ kept put ∙ f.long
-    where
-      kept : (q : Bool) → length (pick q (set after t.number (pattern_or (get_or after t.number 0) a)) after) ≡ length after
-      kept true = simp length-set refl
-      kept false = refl
+-- the places at the start and at the end
+module _ (g : ℕ → Real) (count : ℕ) where
+  pub filled_none : (out : List ℕ) → filled g count 0 out ≡ patterns_put (reads g 0 count) out
+  filled_none out = rw sub-zero refl
 
-  -- where it is put, none is answered
-  pub put_none : put ≡ true → r ≡ 0
-  put_none q = p.number_is ∙ rw q refl
+  pub filled_all : (j : ℕ) (out : List ℕ) → count ≤ j → out ≡ filled g count j out
+  filled_all j out h = patterns_none g j count h out
 
-  module _ (own : a ≡ read_of (real_at file d t.number)) where
-    pub gone_next : t.number < count → (put ≡ true → count ≤ length before) → filled put (real_at file d) count (t.number + 1) l ≡ filled put (real_at file d) count j before
-    gone_next h n = rw p.places (one put n) ∙ f.placed
-      where
-        one : (b : Bool) → (b ≡ true → count ≤ length before)
-            → filled b (real_at file d) count (t.number + 1) (pick b (set after t.number (pattern_or (get_or after t.number 0) a)) after) ≡ filled b (real_at file d) count t.number after
-        one true n = patterns_next (real_at file d) t.number count h after (omega (arith, f.long, n refl)) 0 _ (ap (pattern_or (get_or after t.number 0)) own)
-        one false n = refl
+-- what is told of a number
+pub told_is : {e n : ℕ} → Told (Err e) n → (e ≡ n) × (0 < e)
+told_is (Told.some h) = (refl, h)
 
-    -- where it is only looked at: it is refused, or none up to it is
-    pub gone_refused : t.number < count → put ≡ false → 0 < r → r ≡ refusal_in (reads (real_at file d) j (count - j))
-    gone_refused h q some = refusal_here (real_at file d) t.number count h a r own (p.number_is ∙ rw q refl) some ∙ f.same
+pub told_zero : {u : Unit} {n : ℕ} → Told (Ok u) n → n ≡ 0
+told_zero Told.none = refl
 
-    pub gone_same : t.number < count → put ≡ false → r ≤ 0
-        → refusal_in (reads (real_at file d) (t.number + 1) (count - (t.number + 1))) ≡ refusal_in (reads (real_at file d) j (count - j))
-    gone_same h q none = refusal_next (real_at file d) t.number count h a r own (p.number_is ∙ rw q refl) none ∙ f.same
+module _ (g : ℕ → Real) (j count : ℕ) (h : j < count) {a : Read} (own : a ≡ read_of (g j)) where
+  -- it is the first refusal, or the next numbers have that
+  pub told_refused : {e m : ℕ} → Told (Err e) (refusal_of a) → refusal_in (reads g j (count - j)) ≡ m → Told (Err e) m
+  told_refused {e} t q =
+      let i = told_is t in
+      let first : refusal_of a ≡ refusal_in (reads g j (count - j)) = refusal_here g j count h a (refusal_of a) own refl (omega (arith, i)) in
+      rw (← q, ← first) t
 
--- the places at the end
-module _ (file : List ℕ) (d : Data) (put : Bool) (count j : ℕ) (before after : List ℕ) (h : filled put (real_at file d) count j after ≡ filled put (real_at file d) count 0 before) where
-  pub end_kept : put ≡ false → after ≡ before
-  end_kept q = rw q at h
-
-  pub end_placed : count ≤ j → put ≡ true → after ≡ patterns_put (reads (real_at file d) 0 count) before
-  end_placed l q =
-      let n : filled true (real_at file d) count 0 before ≡ patterns_put (reads (real_at file d) 0 count) before = rw sub-zero refl in
-      patterns_none (real_at file d) j count l after ∙ (rw q at h) ∙ n
-
--- what is lent for a set's plan, and its numbers read by their count
-pub lent_for : (file : List ℕ) (d : Data) (widths : List ℕ) (tens : List Float) (t : Tables) (s : Spot) (count : ℕ) (p : Plan) → (d.body ≤ length file) × (d.case < 8)
-    → widths ≡ tabulate (cell_of d.case) 0 6 → PowersTo (min p.until 22) tens → ((p.first ≡ s) × (p.stored ≡ count)) × ((p.fields ≡ fields_of d.case) × Planned file d t p)
-    → (s ≡ spot_of file d 0) × (s.line ≤ length file) → (Lent file d widths tens p × Planned file d t p) × AtSpot file d 0 p.first
-lent_for file d widths tens t s count p inside own powers planned first = (
-  (record { body = inside.0; eight = inside.1; fields_are = planned.1.0; widths_are = own; powers = powers }, planned.1.1),
-  rw planned.0.0 (record { spot_is = first.0; inside = first.1 }),
-)
-
-pub read_count : {file : List ℕ} {d : Data} {put : Bool} {n : ℕ} {before after : List ℕ} {r : ℕ} (m : ℕ) → n ≡ m → AllRead file d put n before after r → AllRead file d put m before after r
-read_count m e h = rw e at h
+  pub told_passed : {u : Unit} → Told (Ok u) (refusal_of a) → refusal_in (reads g (j + 1) (count - (j + 1))) ≡ refusal_in (reads g j (count - j))
+  told_passed t = refusal_next g j count h a (refusal_of a) own refl (omega (arith, told_zero t))

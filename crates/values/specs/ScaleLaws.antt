@@ -1,9 +1,10 @@
 -- The point and the last columns of a well spelled real tell whether it is in the exact path.
-use Rattle.std.specs.Prelude.{◌≡◌, ◌⊎◌, Bool, true, false, ◌||◌, List, [], ◌∷◌, ◌++◌, ℕ, suc, ◌+◌, ◌-◌, ◌*◌, ◌%◌, ◌^◌, ◌≤◌, ◌<◌, eqb, ltb, length, get_or, drop}
+use Rattle.std.specs.Prelude.{◌≡◌, ◌⊎◌, Bool, true, false, ◌||◌, List, [], ◌∷◌, ◌++◌, ℕ, suc, ◌+◌, ◌-◌, ◌*◌, ◌%◌, ◌^◌, ◌≤◌, ◌<◌, eqb, ltb, length, get_or, Ok, not, cond}
+use Rattle.std.specs.List.{prefix_len}
 use Rattle.std.proofs.Math.Path.{refl}
-use Rattle.std.proofs.Common.{sym, ap, ◌∙◌, inl, inr, zero-add, add-one, arith, length-append, drop-cons, get_or-append-add}
+use Rattle.std.proofs.Common.{sym, ap, ◌∙◌, inl, inr, zero-add, arith, length-append, get_or-append-add}
 use Rattle.std.proofs.Math.Logic.{⊎_elim}
-use borrow.Author.Tests.{lt-ltb, le-ltb, le-leb, lt-leb, eq-eqb, ne_eqb}
+use borrow.Author.Tests.{lt-ltb, le-ltb, le-leb, lt-leb, ne_eqb}
 use Rattle.laws.specs.Choice.{pick}
 use Rattle.laws.specs.ChoiceLaws.{below_or_not}
 use Rattle.text.specs.Blank as Blank
@@ -11,7 +12,6 @@ use Rattle.text.specs.Blank.{Blanks}
 use Rattle.text.specs.Parts.{Sign, Digits, none, more}
 use Rattle.real.specs.declared.Number.{Number}
 use Rattle.real.specs.declared.Scan.{Scan}
-use Rattle.real.specs.declared.Real.TheVariants.{Value}
 use Rattle.real.specs.Spelling.{Letter, ExponentSign, TwoOrThree, two, three, ExponentSpelling, lettered, bare}
 use Rattle.real.specs.Real.{at, is_letter, scaled, real_end, real_of}
 use Rattle.real.specs.EndLaws.{real_end_value, real_end_minus, real_end_less, real_end_rest}
@@ -24,15 +24,15 @@ use Rattle.reader.specs.Reader.{read_of}
 use Rattle.values.specs.Fill.{refusal_of}
 use Rattle.values.specs.Scale.{RealColumns, point_in, from_end, exponent_in, is_down, size_of, size_in, most_size}
 
--- a loop that looks for the point: one column more, and the point
-module _ (l : List ℕ) (i : ℕ) (h : i < length l) where
-  pub point_next : (get_or l i 0 ≡ 46 → ⊥) → point_in (drop i l) ≡ suc (point_in (drop (i + 1) l))
-  unfolding point_in
-  point_next n = rw (drop-cons l i 0 h, ne_eqb (get_or l i 0) 46 n, add-one) refl
-
-  pub point_here : get_or l i 0 ≡ 46 → point_in (drop i l) ≡ 0
-  unfolding point_in
-  point_here e = rw (drop-cons l i 0 h, eq-eqb (get_or l i 0) 46 e) refl
+-- the point's column, as the library counts those before it
+pub point_prefix : (l : List ℕ) → prefix_len (λ (b : ℕ). not (eqb b 46)) l ≡ point_in l
+unfolding point_in
+point_prefix [] = refl
+point_prefix (b ∷ bs) = go (eqb b 46) (prefix_len (λ (b : ℕ). not (eqb b 46)) bs) (point_in bs) (point_prefix bs)
+  where
+    go : (t : Bool) (n m : ℕ) → n ≡ m → cond (not t) (1 + n) 0 ≡ pick t 0 (suc m)
+    go true n m e = refl
+    go false n m e = omega arith
 
 point_first : (r : List ℕ) → point_in (46 ∷ r) ≡ 0
 unfolding point_in
@@ -285,7 +285,7 @@ record Shape (l : List ℕ) : Type 0 where
   inside : point_in l < length l
   refusal_is : refusal_of (read_of (real_of l)) ≡ pick (ltb (most_size (is_down l) after) (size_in l)) 21 0
 
-shape_from : {v : Number} {l : List ℕ} → length l ≤ 20 → real_of l ≡ Value v → FromStart v l → Shape l
+shape_from : {v : Number} {l : List ℕ} → length l ≤ 20 → real_of l ≡ Ok v → FromStart v l → Shape l
 shape_from narrow read (columns {n} bl sg _ b g (whole ws _ dw (part {w = c} ps _ dp low high (exponent {xn} {x} {l = e} r q)))) =
     let long = exponent_long r in
     let tail : List ℕ = 46 ∷ (ps ++ e) in
@@ -296,7 +296,7 @@ shape_from narrow read (columns {n} bl sg _ b g (whole ws _ dw (part {w = c} ps 
     let below = digits_below (0 + length ws) (digits_below 0 (omega arith) dw) dp in
     let small : c ≤ 9007199254740992 = omega (arith, below_more c (0 + length ws + length ps) 15 (omega arith) below) in
     let value = real_end_value (at 7 n c 0 (length ps) xn x) (omega arith) (omega arith) long.1 refl refl in
-    let real : real_of (bl ++ (sg ++ (ws ++ tail))) ≡ real_end (at 7 n c 0 (length ps) xn x) = read ∙ ap Value (rw zero-add at q) ∙ sym value in
+    let real : real_of (bl ++ (sg ++ (ws ++ tail))) ≡ real_end (at 7 n c 0 (length ps) xn x) = read ∙ ap Ok (rw zero-add at q) ∙ sym value in
     record {
       after = length ps;
       few = omega arith;

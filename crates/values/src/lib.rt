@@ -1,26 +1,26 @@
 // All values of a 58 at once.
+// An `as` is proved to lose nothing; where one stands, std has no From between the two types, and `try_from` would ask for an answer to an error that cannot be.
 #![tactic(auto)]
 
-ghost use Rattle.std.specs.Prelude.{◌≡◌, true, ◌⊎◌, ◌+◌, ◌≤◌, ◌<◌, length, get_or, drop};
+ghost use Rattle.std.specs.Prelude.{◌≡◌, ℕ, ◌⊎◌, ◌+◌, ◌≤◌, ◌<◌, min, length, drop, IfSome};
 ghost use Rattle.real.specs.Real.{real_of};
-ghost use Rattle.reader.specs.Reader.{read_in, read_of};
+ghost use Rattle.reader.specs.Reader.{read_of, reads};
+ghost use Rattle.reader.specs.Find.{real_at};
 ghost use Rattle.values.specs.Values.{all_reply, all_places};
-ghost use Rattle.values.specs.Spot.{spot, spot_of, next_spot, AtSpot};
+ghost use Rattle.values.specs.Spot.{spot, spot_of, AtSpot};
 ghost use Rattle.laws.specs.Cut.{line_len};
 ghost use Rattle.layout.specs.Layout.{layout_of, fields_of};
-ghost use Rattle.usual_columns.specs.Cells.{tables};
 ghost use Rattle.usual_values.specs.Usual.{UsualField};
 ghost use Rattle.usual_values.specs.Number.{PowersTo, UsualRead};
 ghost use Rattle.values.specs.Scale.{RealColumns, point_in, exponent_in, size_of, most_size};
-ghost use Rattle.values.specs.Accepted.{RealIn, AllReal};
-ghost use Rattle.values.specs.Fill.{refusal_of, pattern_or};
-ghost use Rattle.values.specs.Lines.{field, plan, Planned, Lent, UsualLine, FilledTo, Gone, Passed, AllRead};
+ghost use Rattle.values.specs.Accepted.{AllReal};
+ghost use Rattle.values.specs.Fill.{refusal_of, refusal_in, pattern_or, patterns_put};
+ghost use Rattle.values.specs.Lines.{field, Told, TablesFor, Ready, UsualLine, UsualTurn, FilledTo};
 
 use judge::Reply;
-use laws::index;
 use parts::line_start;
-use reader::{Data, Read, find_data, read_of};
-use usual_columns::{passes, put_tables};
+use reader::{Data, find_data, read_of};
+use usual_columns::{Exponent, Tables, passes, put_tables};
 
 // Where a stored number is: the first byte of its line, its field, and the first byte of its columns.
 #[derive(Clone, Copy)]
@@ -37,28 +37,17 @@ pub struct Turn {
     pub spot: Spot,
 }
 
-// How the numbers of a set are read: where the first is, how many there are, how many fields a line has, how many columns these have together, and the byte
-// up to which lines are tried by the tables of the usual spelling; 0 where none is.
+// How the numbers of a set are read: the set, where the first is, how many there are, how many fields a line has and their widths, the powers of ten, and
+// where lines are tried by them the tables of the usual spelling, with how many columns their fields have together.
 #[derive(Clone, Copy)]
 pub struct Plan {
+    pub set: Data,
     pub first: Spot,
     pub stored: usize,
     pub fields: usize,
-    pub columns: usize,
-    pub until: usize,
-}
-
-// Where the first stored number is.
-fn first_spot(file: &[u8], d: Data) -> Spot
-    requires { d.body ≤ length file.now }
-    ensures { (result ≡ spot_of file.now d 0) × (result.line ≤ length file.now) }
-{
-    let line = line_start(file, d.body, d.closing, record_table::HEADER_LINES);
-    Spot {
-        line,
-        field: 0,
-        first: line,
-    }
+    pub widths: [u8; 6],
+    pub tens: [f64; 23],
+    pub usual: Option<(Tables, usize)>,
 }
 
 // The number j, which opens the line that begins at byte `line`.
@@ -75,21 +64,12 @@ fn at_line(j: usize, line: usize) -> Turn
     }
 }
 
-// Where the number after this one is, on lines of so many fields of these widths that stop before byte `closing`.
-fn next_spot(file: &[u8], closing: usize, fields: usize, widths: &[u8; 6], s: Spot) -> Spot
-    requires { (s.line ≤ length file.now) × ((s.field < 6) × (s.first + get_or widths.now s.field 0 ≤ length file.now + 80)) }
-    ensures { (result ≡ next_spot file.now closing fields widths.now s) × (result.line ≤ length file.now) }
+// Where the first stored number is.
+fn first_spot(file: &[u8], d: Data) -> Spot
+    requires { d.body ≤ length file.now }
+    ensures { (result ≡ spot_of file.now d 0) × (result.line ≤ length file.now) }
 {
-    let field = s.field;
-    let next = field + 1;
-    if next < fields {
-        return Spot {
-            line: s.line,
-            field: next,
-            first: s.first + index(widths[field]),
-        };
-    }
-    let line = line_start(file, s.line, closing, 1);
+    let line = line_start(file, d.body, d.closing, record_table::HEADER_LINES);
     Spot {
         line,
         field: 0,
@@ -97,16 +77,34 @@ fn next_spot(file: &[u8], closing: usize, fields: usize, widths: &[u8; 6], s: Sp
     }
 }
 
+// The turn after this one.
+fn next_turn(file: &[u8], p: &Plan, t: Turn) -> Turn
+    requires { Ready file.now p.now × (AtSpot file.now p.now.set t.number t.spot × (t.number < p.now.stored)) }
+    ensures { (result.number ≡ t.number + 1) × AtSpot file.now p.now.set result.number result.spot }
+{
+    let s = t.spot;
+    let number = t.number + 1;
+    let field = s.field + 1;
+    if field < p.fields {
+        let first = s.first + usize::from(p.widths[s.field]);
+        return Turn {
+            number,
+            spot: Spot {
+                line: s.line,
+                field,
+                first,
+            },
+        };
+    }
+    let line = line_start(file, s.line, p.set.closing, 1);
+    at_line(number, line)
+}
+
 // The column that holds the point, the first that does.
 fn point_in(s: &[u8]) -> usize
-    requires { point_in s.now < length s.now }
     ensures { result ≡ point_in s.now }
 {
-    let mut i = 0;
-    while s[i] != 46 {
-        i += 1;
-    }
-    i
+    s.iter().take_while(|b| **b != 46).count()
 }
 
 // The first column of a real's exponent: the fifth from the end where a letter stands there, otherwise the fourth.
@@ -125,11 +123,11 @@ fn exponent_in(s: &[u8]) -> usize
 fn exponent_size(third: u8, second: u8, last: u8) -> usize
     ensures { result ≡ size_of third second last }
 {
-    let size = index(second % 16) * 10 + index(last % 16);
+    let size = usize::from(second % 16) * 10 + usize::from(last % 16);
     if third < 48 {
         return size;
     }
-    index(third % 16) * 100 + size
+    usize::from(third % 16) * 100 + size
 }
 
 // The greatest size of an exponent, of this sign, with which the scale of a real with so many digits after the point is in -22 to 22.
@@ -143,97 +141,107 @@ fn most_size(down: bool, after: usize) -> usize
     22 + after
 }
 
-// The refusal of the real that these columns spell: 21 where its scale, its exponent less its digits after the point, is outside -22 to 22, otherwise 0. No
-// digit of its coefficient is looked at: there are at most 15.
-fn refusal_in(s: &[u8]) -> u8
+// The refusal of the real that these columns spell: 21 where its scale, its exponent less its digits after the point, is outside -22 to 22. No digit of its
+// coefficient is looked at: there are at most 15.
+fn refusal_in(s: &[u8]) -> Result<(), u8>
     requires { RealColumns s.now }
-    ensures { result ≡ refusal_of (read_of (real_of s.now)) }
+    ensures { Told result (refusal_of (read_of (real_of s.now))) }
 {
     let width = s.len();
     let after = exponent_in(s) - point_in(s) - 1;
     let third = s[width - 3];
     let most = most_size((third == 45) | (s[width - 4] == 45), after);
     if most < exponent_size(third, s[width - 2], s[width - 1]) {
-        return 21;
+        return Err(21);
     }
-    0
+    Ok(())
 }
 
 // The bit pattern of a value; for a refusal what is given instead.
-fn pattern_or(a: Read, instead: u64) -> u64
+fn pattern_or(a: Result<f64, u8>, instead: u64) -> u64
     ensures { result ≡ pattern_or instead a }
 {
     match a {
-        Read::Value(x) => exact::bits(x),
-        Read::Refused(_) => instead,
+        Ok(x) => exact::bits(x),
+        Err(_) => instead,
     }
 }
 
-// Passes the number there: where it is to be put, its bit pattern goes into place j, which a refusal leaves, and 0 is answered; otherwise its refusal, 0
-// where it has none, and it is only looked at.
-fn pass_number(file: &[u8], widths: &[u8; 6], s: Spot, j: usize, put: bool, out: &mut [u64]) -> u8
-    requires field_bound { (s.field < 6) × RealIn file.now s.first (s.first + get_or widths.now s.field 0) }
-    requires j_in_bounds { put ≡ true → j < length out.old }
-    ensures { Passed (read_of (read_in file.now s.first (s.first + get_or widths.now s.field 0))) put j out.old out.new result }
+// The columns of a turn's number.
+fn columns_of<'a>(file: &'a [u8], p: &Plan, t: Turn) -> &'a [u8]
+    requires ready { Ready file.now p.now × AllReal file.now p.now.set p.now.stored }
+    requires at_spot { AtSpot file.now p.now.set t.number t.spot × (t.number < p.now.stored) }
+    ensures { RealColumns result.now × (read_of (real_of result.now) ≡ read_of (real_at file.now p.now.set t.number)) }
 {
-    let field = s.field;
-    let first = s.first;
-    let past = first + index(widths[field]);
-    let columns = &file[first..past];
-    if !put {
-        return refusal_in(columns);
-    }
-    out[j] = pattern_or(read_of(real::real_field(columns)), out[j]);
-    0
+    let first = t.spot.first;
+    let past = first + usize::from(p.widths[t.spot.field]);
+    &file[first..past]
 }
 
-// A plan by which no line is tried by tables.
-fn no_tables(first: Spot, stored: usize, fields: usize) -> Plan
-    ensures { result ≡ plan first stored fields 0 0 }
+// Puts the bit pattern of a turn's number into its place, which a refusal leaves.
+fn put_number(file: &[u8], p: &Plan, t: Turn, out: &mut [u64])
+    requires ready { Ready file.now p.now × AllReal file.now p.now.set p.now.stored }
+    requires at_spot { AtSpot file.now p.now.set t.number t.spot × ((t.number < p.now.stored) × (p.now.stored ≤ length out.old)) }
+    ensures { FilledTo file.now p.now.set t.number (t.number + 1) out.old out.new }
 {
-    Plan {
-        first,
-        stored,
-        fields,
-        columns: 0,
-        until: 0,
-    }
+    let read = read_of(real::real_field(columns_of(file, p, t)));
+    out[t.number] = pattern_or(read, out[t.number]);
 }
 
-// How the numbers of a set with fields of these widths are read, and the tables for its lines: those of the usual spelling with the letter of its first
-// number, an exponent's first digit being 0. There are none where the set has not four full lines or its first number no letter.
+// The tables for the lines of a set with fields of these widths: those of the usual spelling with the letter of its first number, an exponent's first digit
+// being 0. There are none where the set has not four full lines or its first number no letter.
 fn line_tables(
     file: &[u8],
     d: Data,
     widths: &[u8],
     first: Spot,
     stored: usize,
-    lo: &mut [u8; 80],
-    span: &mut [u8; 80],
-    alt: &mut [u8; 80],
-) -> Plan
+) -> Option<(Tables, usize)>
     requires { (d.case < 8) × ((first.line ≤ length file.now) × (widths.now ≡ (layout_of d.case).widths)) }
-    ensures { ((result.first ≡ first) × (result.stored ≡ stored)) × ((result.fields ≡ fields_of d.case) × Planned file.now d (tables lo.new span.new alt.new) result) }
+    ensures { IfSome result (λ t. TablesFor d t.1 t.0) }
 {
-    let fields = widths.len();
-    if stored / 4 < fields {
-        return no_tables(first, stored, fields);
+    if stored / 4 < widths.len() {
+        return None;
     }
-    let past = first.line + index(widths[0]);
+    let past = first.line + usize::from(widths[0]);
     if file.len() < past {
-        return no_tables(first, stored, fields);
+        return None;
     }
     let letter = file[past - 4];
     if !real::is_letter(letter) {
-        return no_tables(first, stored, fields);
+        return None;
     }
-    let columns = put_tables(lo, span, alt, widths, letter, 0, 0);
+    let exponent = Exponent { letter, most: 0 };
+    Some(put_tables(widths, exponent, 0))
+}
+
+// The powers of ten for lines that are tried by tables; where none is, no power is worked out.
+fn powers_for(file: &[u8], usual: &Option<(Tables, usize)>) -> [f64; 23]
+    ensures { IfSome usual.now (λ _. PowersTo (min (length file.now) 22) result) }
+{
+    match usual {
+        Some(_) => usual_values::powers(file.len()),
+        None => usual_values::powers(0),
+    }
+}
+
+// How this many numbers of a set are read.
+fn plan_for(file: &[u8], d: Data, stored: usize) -> Plan
+    requires { (d.body ≤ length file.now) × (d.case < 8) }
+    ensures { ((result.set ≡ d) × (result.stored ≡ stored)) × (Ready file.now result × AtSpot file.now d 0 result.first) }
+{
+    let fields = layout::fields_of(d.case);
+    let widths = layout::line_widths(d.case);
+    let first = first_spot(file, d);
+    let usual = line_tables(file, d, &widths[..fields], first, stored);
     Plan {
+        set: d,
         first,
         stored,
         fields,
-        columns,
-        until: file.len(),
+        widths,
+        tens: powers_for(file, &usual),
+        usual,
     }
 }
 
@@ -250,36 +258,38 @@ fn end_from(file: &[u8], from: usize) -> usize
     line::find_end(file, from)
 }
 
-// The first byte of the line after the one that begins at byte `at`, whose fields are all in the usual spelling; 0 where it is no such line, or where the 80
-// bytes from it on do not end before byte `until`.
-fn usual_next(
-    file: &[u8],
-    d: Data,
-    p: Plan,
-    lo: &[u8; 80],
-    span: &[u8; 80],
-    alt: &[u8; 80],
-    at: usize,
-) -> usize
-    requires { (d.case < 8) × ((at ≤ length file.now) × Planned file.now d (tables lo.now span.now alt.now) p) }
-    ensures { 0 < result → UsualLine file.now d p.until at result }
+// The first byte of the line after the one that begins at byte `at`, whose fields are all in the usual spelling; none where it is no such line, or the 80
+// bytes from it on are not all in the file.
+fn usual_next(file: &[u8], p: &Plan, at: usize) -> Option<usize>
+    requires { (at ≤ length file.now) × Ready file.now p.now }
+    ensures { IfSome result (λ n. UsualLine file.now p.now.set at n × PowersTo 22 p.now.tens) }
 {
-    if d.closing <= at {
-        return 0;
+    let Some((tables, columns)) = &p.usual else {
+        return None;
+    };
+    if p.set.closing <= at || file.len() < at + 80 || !passes(file, at, tables) {
+        return None;
     }
-    if p.until < at + 80 {
-        return 0;
-    }
-    if !passes(file, at, lo, span, alt) {
-        return 0;
-    }
-    let end = end_from(file, at + p.columns);
+    let end = end_from(file, at + *columns);
     if file.len() <= end {
-        return 0;
+        return None;
     }
-    end + 1
+    Some(end + 1)
 }
 
+// The turn after the numbers of the usual line that this one opens, where it opens one and all of that line's numbers are the set's.
+fn usual_turn(file: &[u8], p: &Plan, t: Turn) -> Option<Turn>
+    requires { Ready file.now p.now × (AtSpot file.now p.now.set t.number t.spot × (t.number ≤ p.now.stored)) }
+    ensures { IfSome result (λ u. UsualTurn file.now p.now.set p.now.stored t u × PowersTo 22 p.now.tens) }
+{
+    if 0 < t.spot.field || p.stored - t.number < p.fields {
+        return None;
+    }
+    let line = usual_next(file, p, t.spot.line)?;
+    Some(at_line(t.number + p.fields, line))
+}
+
+// A call for each width, so that the compiler may lay each out for its own count of digits; one for any width has not been tried.
 // The bit pattern of the number in a usual field, which has 13 or 20 columns.
 fn field_bits(file: &[u8], at: usize, width: usize, tens: &[f64; 23]) -> u64
     requires fact { (width ≡ 13) ⊎ (width ≡ 20) }
@@ -294,110 +304,61 @@ fn field_bits(file: &[u8], at: usize, width: usize, tens: &[f64; 23]) -> u64
     usual_values::usual_bits(&file[at..past], tens)
 }
 
-// Puts the bit patterns of the numbers of a usual line, of so many fields of these widths, into their places, the first of which is place j, where they are
-// to be put.
-fn put_line(
-    file: &[u8],
-    d: Data,
-    p: Plan,
-    widths: &[u8; 6],
-    tens: &[f64; 23],
-    line: usize,
-    next: usize,
-    j: usize,
-    put: bool,
-    out: &mut [u64],
-)
-    requires lent { Lent file.now d widths.now tens.now p × (put ≡ true → j + fields_of d.case ≤ length out.old) }
-    requires at_spot { AtSpot file.now d j (spot line 0 line) × UsualLine file.now d p.until line next }
-    ensures { FilledTo file.now d put j (j + fields_of d.case) out.old out.new }
+// Puts the bit patterns of the numbers of a usual line, which this turn opens, into their places.
+fn put_line(file: &[u8], p: &Plan, t: Turn, out: &mut [u64])
+    requires ready { Ready file.now p.now × (PowersTo 22 p.now.tens × (t.number + fields_of p.now.set.case ≤ length out.old)) }
+    requires at_spot { AtSpot file.now p.now.set t.number (spot t.spot.line 0 t.spot.line) × ((next : ℕ) × UsualLine file.now p.now.set t.spot.line next) }
+    ensures { FilledTo file.now p.now.set t.number (t.number + fields_of p.now.set.case) out.old out.new }
 {
-    if !put {
-        return;
-    }
-    let fields = p.fields;
-    let mut at = line;
-    let mut k = 0;
-    while k < fields {
-        let width = index(widths[k]);
-        out[j + k] = field_bits(file, at, width, tens);
+    let widths = &p.widths[..p.fields];
+    let mut at = t.spot.line;
+    for (k, width) in widths.iter().enumerate() {
+        let width = usize::from(*width);
+        out[t.number + k] = field_bits(file, at, width, &p.tens);
         at += width;
-        k += 1;
     }
 }
 
-// Passes the numbers from this one on that are on usual lines with all their fields, and puts their bit patterns where they are to be put; the first that
-// is on no such line.
-fn pass_usual(
-    file: &[u8],
-    d: Data,
-    p: Plan,
-    lo: &[u8; 80],
-    span: &[u8; 80],
-    alt: &[u8; 80],
-    widths: &[u8; 6],
-    tens: &[f64; 23],
-    t: Turn,
-    put: bool,
-    out: &mut [u64],
-) -> Turn
-    requires lent { Lent file.now d widths.now tens.now p × Planned file.now d (tables lo.now span.now alt.now) p }
-    requires at_spot { AtSpot file.now d t.number t.spot × ((t.number ≤ p.stored) × (put ≡ true → p.stored ≤ length out.old)) }
-    ensures { Gone file.now d put p.stored t.number out.old out.new result }
+// The first refusal of a set's numbers, all of them reals; they are only looked at. A `while`, as in `put_all`: a step has one number or
+// a line's. Two walks, since nothing may be put where a number is refused.
+fn look_all(file: &[u8], p: &Plan) -> Result<(), u8>
+    requires { Ready file.now p.now × (AtSpot file.now p.now.set 0 p.now.first × AllReal file.now p.now.set p.now.stored) }
+    ensures { Told result (refusal_in (reads (real_at file.now p.now.set) 0 p.now.stored)) }
 {
-    if 0 < t.spot.field {
-        return t;
-    }
-    let fields = p.fields;
-    let mut line = t.spot.line;
-    let mut j = t.number;
-    while fields <= p.stored - j {
-        let next = usual_next(file, d, p, lo, span, alt, line);
-        if next == 0 {
-            return at_line(j, line);
+    let mut t = Turn {
+        number: 0,
+        spot: p.first,
+    };
+    while t.number < p.stored {
+        if let Some(next) = usual_turn(file, p, t) {
+            t = next;
+        } else {
+            refusal_in(columns_of(file, p, t))?;
+            t = next_turn(file, p, t);
         }
-        put_line(file, d, p, widths, tens, line, next, j, put, out);
-        line = next;
-        j += fields;
     }
-    at_line(j, line)
+    Ok(())
 }
 
-// The first refusal of a set's numbers, all of them reals, 0 where there is none; they are only looked at. Where they are to be put, their bit patterns are
-// put into the places lent instead, one after the other, and what is answered says nothing.
-fn read_all(
-    file: &[u8],
-    d: Data,
-    p: Plan,
-    lo: &[u8; 80],
-    span: &[u8; 80],
-    alt: &[u8; 80],
-    widths: &[u8; 6],
-    tens: &[f64; 23],
-    put: bool,
-    out: &mut [u64],
-) -> u8
-    requires lent { Lent file.now d widths.now tens.now p × Planned file.now d (tables lo.now span.now alt.now) p }
-    requires at_spot { AtSpot file.now d 0 p.first × (AllReal file.now d p.stored × (put ≡ true → p.stored ≤ length out.old)) }
-    ensures { AllRead file.now d put p.stored out.old out.new result }
+// Puts the bit patterns of a set's numbers, all of them reals, into the places lent, one after the other.
+fn put_all(file: &[u8], p: &Plan, out: &mut [u64])
+    requires ready { Ready file.now p.now × (AtSpot file.now p.now.set 0 p.now.first × AllReal file.now p.now.set p.now.stored) }
+    requires room { p.now.stored ≤ length out.old }
+    ensures { out.new ≡ patterns_put (reads (real_at file.now p.now.set) 0 p.now.stored) out.old }
 {
-    let mut s = p.first;
-    let mut j = 0;
-    while j < p.stored {
-        let turn = Turn { number: j, spot: s };
-        let t = pass_usual(file, d, p, lo, span, alt, widths, tens, turn, put, out);
-        let number = t.number;
-        if p.stored <= number {
-            return 0;
+    let mut t = Turn {
+        number: 0,
+        spot: p.first,
+    };
+    while t.number < p.stored {
+        if let Some(next) = usual_turn(file, p, t) {
+            put_line(file, p, t, out);
+            t = next;
+        } else {
+            put_number(file, p, t, out);
+            t = next_turn(file, p, t);
         }
-        let refusal = pass_number(file, widths, t.spot, number, put, out);
-        if 0 < refusal {
-            return refusal;
-        }
-        s = next_spot(file, d.closing, p.fields, widths, t.spot);
-        j = number + 1;
     }
-    0
 }
 
 // All values of a set, counted from 1, as the bit patterns of f64 into the places lent: the judge's refusal first; 18 where there is no such set
@@ -409,27 +370,17 @@ pub fn values(file: &[u8], set: u32, out: &mut [u64]) -> Reply
     if 0 < judged.number {
         return judged;
     }
-    let d = find_data(file, set);
-    if d.count == 0 {
+    let Some(d) = find_data(file, set) else {
         return judge::bare_reply(18, 0);
-    }
+    };
     let stored = (d.count as usize) * layout::numbers_of(d.case);
-    let fields = layout::fields_of(d.case);
-    let widths = layout::line_widths(d.case);
-    let row = &widths[..fields];
-    let first = first_spot(file, d);
-    let mut lo = [0u8; 80];
-    let mut span = [0u8; 80];
-    let mut alt = [0u8; 80];
-    let p = line_tables(file, d, row, first, stored, &mut lo, &mut span, &mut alt);
-    let tens = usual_values::powers(p.until);
-    let number = read_all(file, d, p, &lo, &span, &alt, &widths, &tens, false, out);
-    if 0 < number {
+    let p = plan_for(file, d, stored);
+    if let Err(number) = look_all(file, &p) {
         return judge::bare_reply(number, 0);
     }
     if out.len() < stored {
         return judge::bare_reply(20, 0);
     }
-    read_all(file, d, p, &lo, &span, &alt, &widths, &tens, true, out);
+    put_all(file, &p, out);
     judge::bare_reply(0, stored)
 }

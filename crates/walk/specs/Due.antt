@@ -1,5 +1,5 @@
 -- What is due in a typed set, line by line.
-use Rattle.std.specs.Prelude.{Bool, ◌&&◌, ◌||◌, List, ℕ, ◌+◌, ◌-◌, leb, ltb, eqb, length, get_or}
+use Rattle.std.specs.Prelude.{Bool, ◌&&◌, ◌||◌, List, ℕ, ◌+◌, ◌-◌, leb, ltb, eqb, length, get_or, Option, Some, None}
 use Rattle.laws.specs.Choice.{pick}
 use Rattle.field.specs.Item.{Item}
 use Rattle.record_table.specs.Row.{Row, first_fields}
@@ -20,6 +20,10 @@ opening k = due k 0 0 0 0
 -- the record due, by number; none where all of them have come
 unfoldable pub record_due : Due → ℕ
 record_due d = get_or (sequence d.kind) d.at no_record
+
+-- a record's number as the code answers it: None where there is no such record
+unfoldable pub due_record : ℕ → Option ℕ
+due_record n = pick (ltb n no_record) (Some n) None
 
 -- a full line of what follows a set's records, by the case of a 58
 abbrev pub full_row : Following → ℕ → Row

@@ -1,16 +1,16 @@
 -- The code's table of records, the numbers that a record gives, and the rows of lists.
-use Rattle.std.specs.Prelude.{◌≡◌, Bool, true, false, not, ◌||◌, List, [], ◌∷◌, ℕ, zero, suc, ◌-◌, ◌≤◌, ◌<◌, leb, eqb, ltb, get_or, take}
+use Rattle.std.specs.Prelude.{◌≡◌, Bool, true, false, not, ◌||◌, List, [], ◌∷◌, ℕ, zero, suc, ◌-◌, ◌≤◌, ◌<◌, leb, eqb, ltb, get_or, take, Ok, Err, Some, None, is_some, unwrap_or, slice_get}
 use Rattle.std.proofs.Math.Path.{refl}
-use Rattle.std.proofs.Common.{sym, ap, ◌∙◌, ⊎_elim, arith, leb-true, lt-ltb, le-ltb, eqb-true, ne_eqb, le-leb}
+use Rattle.std.proofs.Common.{sym, ap, ◌∙◌, ⊎_elim, arith, leb-true, ltb-true, ltb-false, lt-ltb, le-ltb, eqb-true, ne_eqb, le-leb}
 use Rattle.std.proofs.lemmas.Bool.{eqb-false, lt-leb}
 use Rattle.std.proofs.Math.ListN.{length, get_or-eq_default}
 use Rattle.std.proofs.lemmas.List.{length-map}
+use Rattle.std.proofs.lemmas.Option.{none-some, same_Some, slice_get-get_or, slice_get_past, unwrap_or-slice_get}
 use Rattle.laws.specs.Choice.{pick}
 use Rattle.laws.specs.ChoiceLaws.{below_or_not, false_not_true}
 use Rattle.laws.specs.Ranges.{all_are}
 use Rattle.laws.specs.RangesLaws.{in_range}
-use Rattle.integer.specs.declared.Integer.{Integer}
-use Rattle.integer.specs.declared.Integer.TheVariants.{Blank, Malformed, OutOfRange, Value}
+use Rattle.integer.specs.Integer.{Held, valued}
 use Rattle.line.specs.Line.{passed}
 use Rattle.line.specs.declared.Refusal.{Refusal}
 use Rattle.delimiter.specs.Kind.{positive}
@@ -27,7 +27,32 @@ use Rattle.record_table.specs.TabledLaws.{record_of_past}
 use Rattle.record.specs.Declares.{natural_at, number_in, case_in, stored_in}
 use Rattle.record.specs.DeclaresLaws.{declares_items}
 use Rattle.walk.specs.declared.Due.{Due}
-use Rattle.walk.specs.Due.{due, record_due, list_row, row_due, settled, after_list, full_row, count_place, next, items_due, after_record, after_items, after, may_close, may_continue}
+use Rattle.walk.specs.Due.{due, record_due, due_record, list_row, row_due, settled, after_list, full_row, count_place, next, items_due, after_record, after_items, after, may_close, may_continue}
+
+-- what the code's answer says of the number
+pub due_record_some : (n r : ℕ) → due_record n ≡ Some r → (n ≡ r) × (n < no_record)
+unfolding due_record
+due_record_some n r = by (ltb n no_record) refl
+  where
+    by : (t : Bool) → ltb n no_record ≡ t → pick t (Some n) None ≡ Some r → (n ≡ r) × (n < no_record)
+    by true h e = (same_Some n r e, ltb-true n no_record h)
+    by false h e = absurd (none-some r e)
+
+pub due_record_none : (n : ℕ) → due_record n ≡ None → no_record ≤ n
+unfolding due_record
+due_record_none n = by (ltb n no_record) refl
+  where
+    by : (t : Bool) → ltb n no_record ≡ t → pick t (Some n) None ≡ None → no_record ≤ n
+    by true h e = absurd (none-some n (sym e))
+    by false h e = ltb-false n no_record h
+
+pub due_record_is_some : (n : ℕ) → is_some (due_record n) ≡ ltb n no_record
+unfolding due_record
+due_record_is_some n = by (ltb n no_record)
+  where
+    by : (t : Bool) → is_some (pick t (Some n) None) ≡ t
+    by true = refl
+    by false = refl
 
 -- no sequence is longer than the longest
 abbrev short : ℕ → Bool
@@ -57,6 +82,29 @@ module _ (d : Due) where
   unfolding record_due
   record_due_sequence rs k e h = rw (e, h) refl
 
+  -- the record due stands in its kind's sequence, and None past its end
+  pub due_record_found : slice_get (sequence d.kind) d.at ≡ due_record (record_due d)
+  unfolding record_due due_record
+  due_record_found = ⊎_elim inside past (below_or_not d.at (length (sequence d.kind)))
+    where
+      past : length (sequence d.kind) ≤ d.at → slice_get (sequence d.kind) d.at ≡ due_record (record_due d)
+      past h = slice_get_past (sequence d.kind) d.at h ∙ rw (get_or-eq_default (sequence d.kind) no_record h) refl
+
+      inside : d.at < length (sequence d.kind) → slice_get (sequence d.kind) d.at ≡ due_record (record_due d)
+      inside h =
+          let b : get_or (sequence d.kind) d.at no_record < no_record =
+          ⊎_elim
+          (λ k. (typed_sound d.kind k).below d.at h)
+          (λ k. let e : length (sequence d.kind) ≡ 0 = ap length (sequence_past d.kind k) in absurd (omega arith))
+          (below_or_not d.kind untyped)
+          in
+          slice_get-get_or (sequence d.kind) d.at no_record h ∙ rw (lt-ltb _ _ b) refl
+
+  -- so the answer tells the number: `no_record` where it is None
+  pub due_record_tells : unwrap_or (due_record (record_due d)) no_record ≡ record_due d
+  unfolding record_due
+  due_record_tells = rw (← due_record_found) (unwrap_or-slice_get (sequence d.kind) d.at no_record)
+
 -- inside a list nothing else is read
 pub get_d_inside : (l : List ℕ) (i d e : ℕ) → i < length l → get_or l i d ≡ get_or l i e
 get_d_inside [] i d e h = absurd (omega arith)
@@ -64,13 +112,14 @@ get_d_inside (x ∷ xs) zero d e h = refl
 get_d_inside (x ∷ xs) (suc i) d e h = get_d_inside xs i d e (omega arith)
 
 -- the number of an integer item is that of an integer above zero, and 0 otherwise
-pub natural_positive : (i : Integer) → natural (integer_item i) ≡ positive i
-natural_positive Blank = refl
-natural_positive Malformed = refl
-natural_positive OutOfRange = refl
-natural_positive (Value true zero) = refl
-natural_positive (Value true (suc v)) = refl
-natural_positive (Value false v) = refl
+pub natural_positive : (i : Held) → natural (integer_item i) ≡ positive i
+natural_positive (Err f) = refl
+natural_positive (Ok i) = by i.minus i.size
+  where
+    by : (n : Bool) (v : ℕ) → natural (integer_item (valued n v)) ≡ positive (valued n v)
+    by true zero = refl
+    by true (suc v) = refl
+    by false v = refl
 
 -- a value stores three numbers at most
 abbrev few : ℕ → Bool

@@ -12,8 +12,7 @@ use Rattle.walk.specs.declared.Due.{Due}
 use Rattle.walk.specs.declared.Place.{Place}
 use Rattle.walk.specs.declared.Place.TheVariants.{Outside, Number, Plain, Typed}
 use Rattle.walk.specs.declared.State.{State}
-use Rattle.walk.specs.declared.Outcome.{Outcome}
-use Rattle.walk.specs.declared.Outcome.TheVariants.{Next, Refused}
+use Rattle.std.specs.Prelude.{Result, Ok, Err}
 use Rattle.walk.specs.Due.{opening, may_close, may_continue, row_due, after}
 
 abbrev pub state : Place → ℕ → State
@@ -24,44 +23,44 @@ abbrev pub start : State
 start = state Outside 0
 
 -- refused by this refusal; where its number is 0, the state that follows
-abbrev pub unless : Refusal → State → Outcome
+abbrev pub unless : Refusal → State → Result State Refusal
 unless f s = fault f.number
   where
-    fault : ℕ → Outcome
-    fault zero = Next s
-    fault (suc n) = Refused f
+    fault : ℕ → Result State Refusal
+    fault zero = Ok s
+    fault (suc n) = Err f
 
 -- a set of this number opens: typed, or plain
 unfoldable pub opened : ℕ → Place
 opened v = pick (is_typed v) (Typed (opening (kind_of v))) Plain
 
 -- outside sets: a blank line, an opening delimiter (15 for "a 4,097th set opens"), or 5
-unfoldable pub outside_step : ℕ → List ℕ → Outcome
+unfoldable pub outside_step : ℕ → List ℕ → Result State Refusal
 outside_step n line =
-    pick (all_blank line) (Next (state Outside n))
-    (pick (is_delimiter line) (pick (ltb n 4096) (Next (state Number (n + 1))) (Refused (refusal 15 1)))
-    (Refused (refusal 5 1)))
+    pick (all_blank line) (Ok (state Outside n))
+    (pick (is_delimiter line) (pick (ltb n 4096) (Ok (state Number (n + 1))) (Err (refusal 15 1)))
+    (Err (refusal 5 1)))
 
 -- the number line, or 6: "number line wrong, or a delimiter in its place"
-unfoldable pub number_step : ℕ → List ℕ → Outcome
-number_step n line = pick (ltb 0 (dataset_number line)) (Next (state (opened (dataset_number line)) n)) (Refused (refusal 6 1))
+unfoldable pub number_step : ℕ → List ℕ → Result State Refusal
+number_step n line = pick (ltb 0 (dataset_number line)) (Ok (state (opened (dataset_number line)) n)) (Err (refusal 6 1))
 
 -- in a plain set: any line, or the delimiter that closes it
-unfoldable pub plain_step : ℕ → List ℕ → Outcome
-plain_step n line = pick (is_delimiter line) (Next (state Outside n)) (Next (state Plain n))
+unfoldable pub plain_step : ℕ → List ℕ → Result State Refusal
+plain_step n line = pick (is_delimiter line) (Ok (state Outside n)) (Ok (state Plain n))
 
 -- in a typed set: 7 for a "delimiter while a typed set has lines due", 8 for "another line where the delimiter is due"
-unfoldable pub typed_step : Due → ℕ → List ℕ → Outcome
+unfoldable pub typed_step : Due → ℕ → List ℕ → Result State Refusal
 typed_step d n line =
-    pick (is_delimiter line) (pick (may_close d) (Next (state Outside n)) (Refused (refusal 7 1)))
-    (pick (may_continue d) (unless (row_refusal (row_due d) line) (state (Typed (after d line)) n)) (Refused (refusal 8 1)))
+    pick (is_delimiter line) (pick (may_close d) (Ok (state Outside n)) (Err (refusal 7 1)))
+    (pick (may_continue d) (unless (row_refusal (row_due d) line) (state (Typed (after d line)) n)) (Err (refusal 8 1)))
 
 -- by the place where the file stands
-abbrev pub place_step : Place → ℕ → List ℕ → Outcome
+abbrev pub place_step : Place → ℕ → List ℕ → Result State Refusal
 place_step Outside n line = outside_step n line
 place_step Number n line = number_step n line
 place_step Plain n line = plain_step n line
 place_step (Typed d) n line = typed_step d n line
 
-unfoldable pub step_of : State → List ℕ → Outcome
+unfoldable pub step_of : State → List ℕ → Result State Refusal
 step_of s line = place_step s.place s.sets line

@@ -1,18 +1,18 @@
 // The walk over a file's lines: the state, and the step of one line. It is the only place that knows what is due.
+// An `as` is proved to lose nothing; where one stands, std has no From between the two types, and `try_from` would ask for an answer to an error that cannot be.
 #![tactic(auto)]
 
-ghost use Rattle.std.specs.Prelude.{◌≡◌, List, ℕ, ◌≤◌, ◌<◌, length, get_or};
-ghost use Rattle.line.specs.Line.{refusal};
+ghost use Rattle.std.specs.Prelude.{◌≡◌, List, ℕ, ◌≤◌, ◌<◌, length, Ok, Err};
+ghost use Rattle.line.specs.Line.{refusal, verdict};
 ghost use Rattle.delimiter.specs.Kind.{Delimiter};
 ghost use Rattle.record_table.specs.Records.{no_record};
 ghost use Rattle.record_table.specs.TypedSets.{kind58, kind82, kind1815, before_axes, most_records, kind_of, is_typed};
 ghost use Rattle.record.specs.Check.{row_refusal};
 ghost use Rattle.record.specs.Declares.{number_in, case_in, count_in, stored_in};
-ghost use Rattle.walk.specs.Due.{due, next, record_due, list_row, row_due, may_close, may_continue, settled, items_due, after_record, after_list, after};
+ghost use Rattle.walk.specs.Due.{due, next, record_due, due_record, list_row, row_due, may_close, settled, items_due, after_record, after_list};
 ghost use Rattle.walk.specs.Step.{state, opened, outside_step, number_step, plain_step, typed_step, step_of};
 
 use integer::integer_field;
-use laws::index;
 use line::Refusal;
 use record_table::{
     BEFORE_AXES, KIND_58, KIND_82, KIND_151, KIND_164, KIND_1815, LINE_SEVEN, MOST_RECORDS,
@@ -21,6 +21,7 @@ use record_table::{
 
 // What is due in a typed set: the kind of set, how many of its records have come, the case of a
 // 58 from 0, how many numbers are left in the list that follows the records, and how many a second list has.
+// `kind` stays a number: the C interface (`stream_c`) lays back any number that it was lent.
 #[derive(Clone, Copy)]
 pub struct Due {
     pub kind: usize,
@@ -50,13 +51,6 @@ pub struct State {
     pub sets: u32,
 }
 
-// What a line does: the file goes on, or is refused.
-#[derive(Clone, Copy)]
-pub enum Outcome {
-    Next(State),
-    Refused(Refusal),
-}
-
 // The records of each kind of set in order, by number.
 const RECORDS_58: [u8; 11] = [1, 1, 1, 1, 1, 2, 3, 4, 4, 4, 4];
 
@@ -77,22 +71,14 @@ const MOST_SETS: u32 = 4096;
 pub fn kind_of(number: u32) -> usize
     ensures { result ≡ kind_of number }
 {
-    if number == 58 {
-        return KIND_58;
+    match number {
+        58 => KIND_58,
+        82 => KIND_82,
+        151 => KIND_151,
+        164 => KIND_164,
+        1815 => KIND_1815,
+        _ => UNTYPED,
     }
-    if number == 82 {
-        return KIND_82;
-    }
-    if number == 151 {
-        return KIND_151;
-    }
-    if number == 164 {
-        return KIND_164;
-    }
-    if number == 1815 {
-        return KIND_1815;
-    }
-    UNTYPED
 }
 
 // Whether a set of this number is typed.
@@ -102,59 +88,26 @@ pub fn is_typed(number: u32) -> bool
     kind_of(number) < UNTYPED
 }
 
-// The record at this place of a sequence; none past its end.
-fn record_at(records: &[u8], at: usize) -> usize
-    ensures { result ≡ get_or records.now at no_record }
+// The number of the record due; None where all have come.
+pub fn record_due(d: Due) -> Option<usize>
+    ensures { result ≡ due_record (record_due d) }
 {
-    if at < records.len() {
-        return index(records[at]);
-    }
-    NO_RECORD
-}
-
-// The number of the record due; none where all have come.
-pub fn record_due(d: Due) -> usize
-    ensures { result ≡ record_due d }
-{
-    let at = d.at;
-    if d.kind == KIND_58 {
-        return record_at(&RECORDS_58, at);
-    }
-    if d.kind == KIND_82 {
-        return record_at(&RECORDS_82, at);
-    }
-    if d.kind == KIND_151 {
-        return record_at(&RECORDS_151, at);
-    }
-    if d.kind == KIND_164 {
-        return record_at(&RECORDS_164, at);
-    }
-    if d.kind == KIND_1815 {
-        return record_at(&RECORDS_1815, at);
-    }
-    NO_RECORD
+    let records: &[u8] = match d.kind {
+        KIND_58 => &RECORDS_58,
+        KIND_82 => &RECORDS_82,
+        KIND_151 => &RECORDS_151,
+        KIND_164 => &RECORDS_164,
+        KIND_1815 => &RECORDS_1815,
+        _ => &[],
+    };
+    records.get(d.at).map(|record| usize::from(*record))
 }
 
 // Whether the delimiter may come: no record is due, and no number.
-fn may_close(d: Due, number: usize) -> bool
-    requires { number ≡ record_due d }
+fn may_close(d: Due) -> bool
     ensures { result ≡ may_close d }
 {
-    if number < NO_RECORD {
-        return false;
-    }
-    d.left == 0
-}
-
-// Whether a line may come: a record is due, or some number.
-fn may_continue(d: Due, number: usize) -> bool
-    requires { number ≡ record_due d }
-    ensures { result ≡ may_continue d }
-{
-    if number < NO_RECORD {
-        return true;
-    }
-    0 < d.left
+    record_due(d).is_none() && d.left == 0
 }
 
 // Where a list is done, the second one is next.
@@ -163,33 +116,30 @@ pub fn settled(d: Due) -> Due
 {
     if d.left == 0 {
         return Due {
-            kind: d.kind,
-            at: d.at,
-            case: d.case,
             left: d.second,
             second: 0,
+            ..d
         };
     }
     d
 }
 
-// The number of the integer in these columns, counted from 0; 0 where they hold none, or one below zero.
+// The number of the integer in these columns, counted from 0; 0 where they hold none, or one below zero, as the definition `number_in` says.
 pub fn number_in(line: &[u8; 80], from: usize, past: usize) -> u32
     requires { (from ≤ past) × (past ≤ 80) }
     ensures { result ≡ number_in from past line.now }
 {
-    let columns: &[u8] = line;
-    delimiter::positive(integer_field(&columns[from..past]))
+    delimiter::positive(integer_field(&line[from..past])).unwrap_or(0)
 }
 
-// The case of a 58, from its line 7.
+// The case of a 58, from its line 7; a plain number, 8 for none, since `Due.case` holds it.
 pub fn case_in(line: &[u8; 80]) -> usize
     ensures { result ≡ case_in line.now }
 {
     layout::case_of(number_in(line, 0, 10), number_in(line, 20, 30))
 }
 
-// The declared count of a 58, from its line 7.
+// The declared count of a 58, from its line 7; a plain number, 0 for none, as the definition says.
 pub fn count_in(line: &[u8; 80]) -> u32
     ensures { result ≡ count_in line.now }
 {
@@ -245,13 +195,7 @@ fn next_record(d: Due) -> Due
     requires { d.at < most_records }
     ensures { result ≡ next d }
 {
-    Due {
-        kind: d.kind,
-        at: d.at + 1,
-        case: d.case,
-        left: d.left,
-        second: d.second,
-    }
+    Due { at: d.at + 1, ..d }
 }
 
 // After a record: 58's line 7, 82's line 1 and 1815's record 24 say how many numbers follow the records.
@@ -259,109 +203,61 @@ fn after_record(d: Due, line: &[u8; 80]) -> Due
     requires { d.at < most_records }
     ensures { result ≡ after_record d (items_due d line.now) }
 {
-    if d.kind == KIND_58 {
-        if d.at == LINE_SEVEN {
-            return after_data_form(line);
-        }
-        return next_record(d);
+    match (d.kind, d.at) {
+        (KIND_58, LINE_SEVEN) => after_data_form(line),
+        (KIND_82, 0) => after_trace(line),
+        (KIND_1815, 23) => after_orders(line),
+        _ => next_record(d),
     }
-    if d.kind == KIND_82 {
-        if d.at == 0 {
-            return after_trace(line);
-        }
-        return next_record(d);
-    }
-    if d.kind == KIND_1815 {
-        if d.at == 23 {
-            return after_orders(line);
-        }
-        return next_record(d);
-    }
-    next_record(d)
 }
 
-// How many fields a full line of the list that follows the records has.
+// How many fields a full line of the list that follows the records has; none where no list follows, which is 0 of them.
 fn list_fields(d: Due) -> usize
     ensures { result ≡ length (list_row d).fields }
 {
-    if d.kind == KIND_58 {
-        return layout::fields_of(d.case);
+    match d.kind {
+        KIND_58 => layout::fields_of(d.case),
+        KIND_82 => 8,
+        KIND_1815 => 5,
+        _ => 0,
     }
-    if d.kind == KIND_82 {
-        return 8;
-    }
-    if d.kind == KIND_1815 {
-        return 5;
-    }
-    0
 }
 
 // After a line of the list.
 pub fn after_list(d: Due) -> Due
     ensures { result ≡ after_list d }
 {
-    let fields = list_fields(d);
-    if d.left <= fields {
-        return settled(Due {
-            kind: d.kind,
-            at: d.at,
-            case: d.case,
-            left: 0,
-            second: d.second,
-        });
-    }
     settled(Due {
-        kind: d.kind,
-        at: d.at,
-        case: d.case,
-        left: d.left - fields,
-        second: d.second,
+        left: d.left.saturating_sub(list_fields(d)),
+        ..d
     })
 }
 
-// After a line that passes.
-fn after(d: Due, number: usize, line: &[u8; 80]) -> Due
-    requires { number ≡ record_due d }
-    ensures { result ≡ after d line.now }
+// The first refusal of a line of the list.
+fn check_list(d: Due, line: &[u8; 80]) -> Result<(), Refusal>
+    requires { no_record ≤ record_due d }
+    ensures { result ≡ verdict (row_refusal (row_due d) line.now) }
 {
-    if number < NO_RECORD {
-        return after_record(d, line);
+    match d.kind {
+        KIND_58 => record::check_data(line, d.case, d.left),
+        KIND_82 => record::check_list(line, TRACE_ENTRIES, d.left),
+        KIND_1815 => record::check_list(line, ORDER_LISTS, d.left),
+        _ => record::check_list(line, NO_RECORD, d.left),
     }
-    after_list(d)
-}
-
-// The first refusal of a line by the row due; number 0 where it passes.
-fn check_due(d: Due, number: usize, line: &[u8; 80]) -> Refusal
-    requires { number ≡ record_due d }
-    ensures { result ≡ row_refusal (row_due d) line.now }
-{
-    if number < NO_RECORD {
-        return usual_columns::check_record(line, number);
-    }
-    if d.kind == KIND_58 {
-        return record::check_data(line, d.case, d.left);
-    }
-    if d.kind == KIND_82 {
-        return record::check_list(line, TRACE_ENTRIES, d.left);
-    }
-    if d.kind == KIND_1815 {
-        return record::check_list(line, ORDER_LISTS, d.left);
-    }
-    record::check_list(line, NO_RECORD, d.left)
 }
 
 // The file goes on.
-fn goes_on(place: Place, sets: u32) -> Outcome
-    ensures { result ≡ Outcome.Next (state place sets) }
+fn goes_on(place: Place, sets: u32) -> Result<State, Refusal>
+    ensures { result ≡ Ok (state place sets) }
 {
-    Outcome::Next(State { place, sets })
+    Ok(State { place, sets })
 }
 
 // The file is refused at a line's first column.
-fn refused(number: u8) -> Outcome
-    ensures { result ≡ Outcome.Refused (refusal number 1) }
+fn refused(number: u8) -> Result<State, Refusal>
+    ensures { result ≡ Err (refusal number 1) }
 {
-    Outcome::Refused(Refusal { number, column: 1 })
+    Err(Refusal { number, column: 1 })
 }
 
 // A set of this number opens.
@@ -381,7 +277,7 @@ pub fn opened(number: u32) -> Place
 }
 
 // Outside sets: a blank line, or an opening delimiter.
-pub fn outside_step(sets: u32, line: &[u8; 80]) -> Outcome
+pub fn outside_step(sets: u32, line: &[u8; 80]) -> Result<State, Refusal>
     ensures { result ≡ outside_step sets line.now }
 {
     if delimiter::is_blank_line(line) {
@@ -397,18 +293,17 @@ pub fn outside_step(sets: u32, line: &[u8; 80]) -> Outcome
 }
 
 // After an opening delimiter: the number line.
-pub fn number_step(sets: u32, line: &[u8; 80]) -> Outcome
+pub fn number_step(sets: u32, line: &[u8; 80]) -> Result<State, Refusal>
     ensures { result ≡ number_step sets line.now }
 {
-    let number = delimiter::dataset_number(line);
-    if 0 < number {
-        return goes_on(opened(number), sets);
+    match delimiter::dataset_number(line) {
+        Some(number) => goes_on(opened(number), sets),
+        None => refused(6),
     }
-    refused(6)
 }
 
 // In a plain set: any line, or the delimiter that closes it.
-pub fn plain_step(sets: u32, line: &[u8; 80]) -> Outcome
+pub fn plain_step(sets: u32, line: &[u8; 80]) -> Result<State, Refusal>
     ensures { result ≡ plain_step sets line.now }
 {
     if delimiter::is_delimiter(line) {
@@ -418,33 +313,34 @@ pub fn plain_step(sets: u32, line: &[u8; 80]) -> Outcome
 }
 
 // In a typed set: the line due, or the delimiter that closes it.
-pub fn typed_step(d: Due, sets: u32, line: &[u8; 80]) -> Outcome
+pub fn typed_step(d: Due, sets: u32, line: &[u8; 80]) -> Result<State, Refusal>
     ensures { result ≡ typed_step d sets line.now }
 {
-    let number = record_due(d);
     if delimiter::is_delimiter(line) {
-        if may_close(d, number) {
+        if may_close(d) {
             return goes_on(Place::Outside, sets);
         }
         return refused(7);
     }
-    if may_continue(d, number) {
-        let found = check_due(d, number, line);
-        if 0 < found.number {
-            return Outcome::Refused(found);
+    match record_due(d) {
+        Some(row) => {
+            usual_columns::check_record(line, row)?;
+            goes_on(Place::Typed(after_record(d, line)), sets)
         }
-        return goes_on(Place::Typed(after(d, number, line)), sets);
+        None if 0 < d.left => {
+            check_list(d, line)?;
+            goes_on(Place::Typed(after_list(d)), sets)
+        }
+        None => refused(8),
     }
-    refused(8)
 }
 
 // The step of a delimiter, whatever blanks it is filled with.
-pub fn delimiter_step(s: State) -> Outcome
+pub fn delimiter_step(s: State) -> Result<State, Refusal>
     ensures { (line : List ℕ) → Delimiter line → result ≡ step_of s line }
 {
     let sets = s.sets;
-    let place = s.place;
-    match place {
+    match s.place {
         Place::Outside => {
             if sets < MOST_SETS {
                 return goes_on(Place::Number, sets + 1);
@@ -454,7 +350,7 @@ pub fn delimiter_step(s: State) -> Outcome
         Place::Number => refused(6),
         Place::Plain => goes_on(Place::Outside, sets),
         Place::Typed(d) => {
-            if may_close(d, record_due(d)) {
+            if may_close(d) {
                 return goes_on(Place::Outside, sets);
             }
             refused(7)
@@ -463,12 +359,11 @@ pub fn delimiter_step(s: State) -> Outcome
 }
 
 // The step of one line.
-pub fn step(s: State, line: &[u8; 80]) -> Outcome
+pub fn step(s: State, line: &[u8; 80]) -> Result<State, Refusal>
     ensures { result ≡ step_of s line.now }
 {
     let sets = s.sets;
-    let place = s.place;
-    match place {
+    match s.place {
         Place::Outside => outside_step(sets, line),
         Place::Number => number_step(sets, line),
         Place::Plain => plain_step(sets, line),

@@ -29,7 +29,7 @@ use Rattle.walk.specs.declared.Due.{Due}
 use Rattle.walk.specs.declared.Place.{Place}
 use Rattle.walk.specs.declared.Place.TheVariants.{Outside, Number, Plain, Typed}
 use Rattle.walk.specs.declared.State.{State}
-use Rattle.walk.specs.declared.Outcome.TheVariants.{Next, Refused}
+use Rattle.std.specs.Prelude.{Ok, Err}
 use Rattle.judge.specs.Judge.{line_outcome, line_step}
 use Rattle.judge.specs.Refusal.{Refusing}
 use Rattle.judge.specs.RefusalLaws.{no_fault}
@@ -103,7 +103,7 @@ module _ (line : List ℕ) (eighty : length line ≡ 80) where
   outside_fault sets = by (all_blank line) (is_delimiter line) (ltb sets 4096) refl refl refl
     where
       by : (b d m : Bool) → all_blank line ≡ b → is_delimiter line ≡ d → ltb sets 4096 ≡ m
-          → Refusing (PlaceFault sets line Outside) (pick b (Next (state Outside sets)) (pick d (pick m (Next (state Number (sets + 1))) (Refused (refusal 15 1))) (Refused (refusal 5 1))))
+          → Refusing (PlaceFault sets line Outside) (pick b (Ok (state Outside sets)) (pick d (pick m (Ok (state Number (sets + 1))) (Err (refusal 15 1))) (Err (refusal 5 1))))
       by true d m e f g = tt
       by false true true e f g = tt
       by false true false e f g = many (is_delimiter_sound line f) (ltb-false sets 4096 g)
@@ -114,7 +114,7 @@ module _ (line : List ℕ) (eighty : length line ≡ 80) where
   number_fault sets = by (ltb 0 (dataset_number line)) refl
     where
       by : (t : Bool) → ltb 0 (dataset_number line) ≡ t
-          → Refusing (PlaceFault sets line Number) (pick t (Next (state (opened (dataset_number line)) sets)) (Refused (refusal 6 1)))
+          → Refusing (PlaceFault sets line Number) (pick t (Ok (state (opened (dataset_number line)) sets)) (Err (refusal 6 1)))
       by true e = tt
       by false e = number (λ n w. omega (arith, ltb-false 0 (dataset_number line) e, dataset_number_complete w, number_some w))
 
@@ -129,7 +129,7 @@ module _ (line : List ℕ) (eighty : length line ≡ 80) where
     where
       by : (t c m : Bool) → is_delimiter line ≡ t → may_close d ≡ c → may_continue d ≡ m
           → Refusing (PlaceFault sets line (Typed d))
-          (pick t (pick c (Next (state Outside sets)) (Refused (refusal 7 1))) (pick m (unless (row_refusal (row_due d) line) (state (Typed (after d line)) sets)) (Refused (refusal 8 1))))
+          (pick t (pick c (Ok (state Outside sets)) (Err (refusal 7 1))) (pick m (unless (row_refusal (row_due d) line) (state (Typed (after d line)) sets)) (Err (refusal 8 1))))
       by true true m e f g = tt
       by true false m e f g = early (is_delimiter_sound line e) f
       by false c true e f g =
@@ -140,7 +140,7 @@ module _ (line : List ℕ) (eighty : length line ≡ 80) where
   unfolding plain_step
   plain_step_lem sets = by (is_delimiter line)
     where
-      by : (t : Bool) → Refusing (PlaceFault sets line Plain) (pick t (Next (state Outside sets)) (Next (state Plain sets)))
+      by : (t : Bool) → Refusing (PlaceFault sets line Plain) (pick t (Ok (state Outside sets)) (Ok (state Plain sets)))
       by true = tt
       by false = tt
 
@@ -150,7 +150,7 @@ module _ (line : List ℕ) (eighty : length line ≡ 80) where
   place_fault Plain sets = plain_step_lem sets
   place_fault (Typed d) sets = typed_fault d sets
 
-  pub step_of_fault : (s : State) (f : Refusal) → step_of s line ≡ Refused f → PlaceFault s.sets line s.place f
+  pub step_of_fault : (s : State) (f : Refusal) → step_of s line ≡ Err f → PlaceFault s.sets line s.place f
   unfolding step_of
   step_of_fault s f e = rw e at (place_fault s.place s.sets)
 
@@ -162,7 +162,7 @@ module _ (line : List ℕ) (eighty : length line ≡ 80) where
       by true e = absurd (n (dataset_number line) (dataset_number_sound line (dataset_number line) (omega arith) refl (ltb-true 0 (dataset_number line) e)))
       by false e = e
 
-  pub step_of_only : (s : State) {p : Place} {f : Refusal} → p ≡ s.place → PlaceFault s.sets line p f → step_of s line ≡ Refused f
+  pub step_of_only : (s : State) {p : Place} {f : Refusal} → p ≡ s.place → PlaceFault s.sets line p f → step_of s line ≡ Err f
   unfolding step_of outside_step number_step typed_step
   step_of_only s e (outside b d) = rw (← e, blank_not line b, not_delimiter line d) refl
   step_of_only s e (many d h) = rw (← e, delimiter_not_blank line d, is_delimiter_complete d, le-ltb s.sets 4096 h) refl
@@ -177,16 +177,16 @@ module _ (line : List ℕ) (eighty : length line ≡ 80) where
 
 module _ (s : State) (l : List ℕ) where
   -- a refusal by itself stands before that of its place
-  outcome_own : (n c : ℕ) (cs : List ℕ) → 0 < n → line_outcome s (refusal n c) cs ≡ Refused (refusal n c)
+  outcome_own : (n c : ℕ) (cs : List ℕ) → 0 < n → line_outcome s (refusal n c) cs ≡ Err (refusal n c)
   outcome_own zero c cs h = absurd (omega arith)
   outcome_own (suc n) c cs h = refl
 
   -- SOUND: what a line is refused for is wrong with it, in the column that the refusal names
-  pub refused_fault : (f : Refusal) → line_step s l ≡ Refused f → Fault s l f
+  pub refused_fault : (f : Refusal) → line_step s l ≡ Err f → Fault s l f
   unfolding line_step
   refused_fault f e = by (line_fault true (columns true l)).number (line_fault true (columns true l)).column refl e
     where
-      by : (n c : ℕ) → line_fault true (columns true l) ≡ refusal n c → line_outcome s (refusal n c) (columns true l) ≡ Refused f → Fault s l f
+      by : (n c : ℕ) → line_fault true (columns true l) ≡ refusal n c → line_outcome s (refusal n c) (columns true l) ≡ Err f → Fault s l f
       by zero c q e =
           let t = line_fault_sound true (columns true l) (no_fault (columns true l) (ap (λ (r : Refusal). r.number) q)) in
           place t.2 t.1 (step_of_fault (filled (columns true l)) (filled_length (columns true l)) s f e)
@@ -195,7 +195,7 @@ module _ (s : State) (l : List ℕ) where
           own (rw (q ∙ same) at (line_fault_fault true (columns true l) (omega (arith, ap (λ (r : Refusal). r.number) q))))
 
   -- COMPLETE: a line with something wrong is refused for it, in that column; so nothing else is wrong first
-  pub fault_refused : {f : Refusal} → Fault s l f → line_step s l ≡ Refused f
+  pub fault_refused : {f : Refusal} → Fault s l f → line_step s l ≡ Err f
   unfolding line_step
   fault_refused {f} (own w) = rw (line_fault_only w) (outcome_own f.number f.column (columns true l) (line_some w))
   fault_refused (place a h w) = rw (line_fault_complete true (columns true l) refl h a) (step_of_only (filled (columns true l)) (filled_length (columns true l)) s refl w)

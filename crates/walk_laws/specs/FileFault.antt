@@ -7,7 +7,7 @@ use Rattle.line.specs.declared.Refusal.{Refusal}
 use Rattle.walk.specs.Step.{start}
 use Rattle.walk.specs.declared.Place.TheVariants.{Outside}
 use Rattle.walk.specs.declared.State.{State}
-use Rattle.walk.specs.declared.Outcome.TheVariants.{Next}
+use Rattle.std.specs.Prelude.{Ok}
 use Rattle.judge.specs.declared.Reply.{Reply}
 use Rattle.judge.specs.Judge.{reply, line_step, at_line}
 use Rattle.line_laws.specs.Fault.{LineFault}
@@ -16,7 +16,7 @@ use Rattle.walk_laws.specs.Fault.{Fault}
 -- lines that are taken, from a state to the one that they lead to
 pub data Taken : State → List (List ℕ) → State → Type 0 where
   none : {s : State} → Taken s [] s
-  more : {s t u : State} {l : List ℕ} {ls : List (List ℕ)} → line_step s l ≡ Next t → Taken t ls u → Taken s (l ∷ ls) u
+  more : {s t u : State} {l : List ℕ} {ls : List (List ℕ)} → line_step s l ≡ Ok t → Taken t ls u → Taken s (l ∷ ls) u
 
 -- the refusal of a file, after this many lines that are taken
 pub data FileFault (bytes : List ℕ) : ℕ → Refusal → Type 0 where

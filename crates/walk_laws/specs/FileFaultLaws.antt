@@ -1,21 +1,20 @@
 -- A file is refused for what is wrong with its earliest bad line.
-use Rattle.std.specs.Prelude.{◌≡◌, Bool, true, false, List, [], ◌∷◌, ℕ, suc, ◌+◌, ◌≤◌, ◌<◌, ltb, eqb, take, drop}
+use Rattle.std.specs.Prelude.{◌≡◌, Bool, true, false, List, [], ◌∷◌, ℕ, suc, ◌+◌, ◌≤◌, ◌<◌, eqb, take, drop}
 use Rattle.std.proofs.Math.Path.{refl, ap}
 use Rattle.std.proofs.Common.{◌∙◌, add-zero, zero-add, arith, lt-ltb, le-ltb, take-append-drop}
 use Rattle.std.proofs.Math.ListN.{length, length-drop, length-take}
 use Rattle.laws.specs.Choice.{pick}
 use Rattle.laws.specs.Cut.{cut, over, judge}
 use Rattle.laws.specs.CutLaws.{over_append}
-use Rattle.line.specs.Line.{refusal, first_bad, line_fault}
+use Rattle.line.specs.Line.{refusal, line_fault}
 use Rattle.line.specs.declared.Refusal.{Refusal}
 use Rattle.walk.specs.Step.{start}
 use Rattle.walk.specs.declared.Place.{Place}
 use Rattle.walk.specs.declared.Place.TheVariants.{Outside, Number, Plain, Typed}
 use Rattle.walk.specs.declared.State.{State}
-use Rattle.walk.specs.declared.Outcome.{Outcome}
-use Rattle.walk.specs.declared.Outcome.TheVariants.{Next, Refused}
+use Rattle.std.specs.Prelude.{Result, Ok, Err}
 use Rattle.judge.specs.Judge.{reply, at_line, line_step, Run, going, refused, on_outcome, run_step, at_end, run_end, judged}
-use Rattle.judge.specs.JudgeLaws.{over_refused}
+use Rattle.judge.specs.JudgeLaws.{over_refused, unended_some}
 use Rattle.line_laws.specs.Fault.{LineFault}
 use Rattle.line_laws.specs.FaultLaws.{line_fault_fault, line_fault_only}
 use Rattle.walk_laws.specs.Fault.{Fault}
@@ -28,7 +27,7 @@ data Ran (s : State) (k : ℕ) (ls : List (List ℕ)) : Run → Type 0 where
   stopped : {t : State} {f : Refusal} (j : ℕ) (l : List ℕ) (rest : List (List ℕ)) → Taken s (take j ls) t → drop j ls ≡ l ∷ rest → Fault t l f
       → Ran s k ls (refused (at_line (k + j) f))
 
-ran_next : {s t : State} {k : ℕ} {l : List ℕ} {ls : List (List ℕ)} {r : Run} → line_step s l ≡ Next t → Ran t (k + 1) ls r → Ran s k (l ∷ ls) r
+ran_next : {s t : State} {k : ℕ} {l : List ℕ} {ls : List (List ℕ)} {r : Run} → line_step s l ≡ Ok t → Ran t (k + 1) ls r → Ran s k (l ∷ ls) r
 ran_next {s} {t} {k} {l} {ls} e (through {t = u} p) =
     let m : k + suc (length ls) ≡ k + 1 + length ls = omega arith in
     let here : Ran s k (l ∷ ls) (going u (k + suc (length ls))) = through (more e p) in
@@ -43,21 +42,11 @@ unfolding over
 ran s k [] = let here : Ran s k [] (going s (k + 0)) = through none in rw (add-zero k) at here
 ran s k (l ∷ ls) = by (line_step s l) refl (λ t. ran t (k + 1) ls)
   where
-    by : (o : Outcome) → line_step s l ≡ o → ((t : State) → Ran t (k + 1) ls (over run_step (going t (k + 1)) ls)) → Ran s k (l ∷ ls) (over run_step (on_outcome k o) ls)
-    by (Next t) e r = ran_next e (r t)
-    by (Refused f) e r =
+    by : (o : Result State Refusal) → line_step s l ≡ o → ((t : State) → Ran t (k + 1) ls (over run_step (going t (k + 1)) ls)) → Ran s k (l ∷ ls) (over run_step (on_outcome k o) ls)
+    by (Ok t) e r = ran_next e (r t)
+    by (Err f) e r =
         let here : Ran s k (l ∷ ls) (refused (at_line (k + 0) f)) = stopped 0 l ls none refl (refused_fault s l f e) in
         rw (over_refused (at_line k f) ls) (rw (add-zero k) at here)
-
--- bytes without an LF are always refused
-pub unended_some : (cs : List ℕ) → 0 < (line_fault false cs).number
-unfolding line_fault
-unended_some cs = by (ltb 0 (first_bad 1 cs)) (ltb 80 (length cs))
-  where
-    by : (bad long : Bool) → 0 < (pick bad (refusal 2 (first_bad 1 cs)) (pick long (refusal 3 1) (refusal 4 1))).number
-    by true long = omega arith
-    by false true = omega arith
-    by false false = omega arith
 
 module _ (bytes : List ℕ) {s : State} (t : Taken start (cut bytes).lines s) where
   -- the end of a file whose lines are all taken
@@ -103,7 +92,7 @@ taken_run k (more {ls = ls} e t) =
 module _ (bytes : List ℕ) where
   -- the run over the lines before the one that is refused, and over all
   stopped_run : {s : State} {f : Refusal} (k : ℕ) (l : List ℕ) (ls : List (List ℕ)) → Taken start (take k (cut bytes).lines) s → drop k (cut bytes).lines ≡ l ∷ ls
-      → line_step s l ≡ Refused f → over run_step (going start 0) (cut bytes).lines ≡ refused (at_line k f)
+      → line_step s l ≡ Err f → over run_step (going start 0) (cut bytes).lines ≡ refused (at_line k f)
   unfolding over
   stopped_run {s} {f} k l ls t q e =
       let n : 0 + length (take k (cut bytes).lines) ≡ k = omega (arith, length-take k (cut bytes).lines, length-drop k (cut bytes).lines, ap length q) in

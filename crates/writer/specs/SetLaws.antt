@@ -13,7 +13,9 @@ use Rattle.parts.specs.PartsLaws.{lines_past}
 use Rattle.judge.specs.declared.Reply.{Reply}
 use Rattle.judge.specs.Judge.{reply}
 use Rattle.header.specs.declared.Header.{Header}
-use Rattle.header.specs.Header.{header_of}
+use Rattle.std.specs.Prelude.{Ok, Err}
+use Rattle.header.specs.HeaderLaws.{result_refused, result_passes}
+use Rattle.header.specs.Header.{result_of, header_of}
 use Rattle.rewriter.specs.Rewriter.{head_text, lines_text, delimiter_line, set_text}
 use Rattle.output.specs.Output.{Put, placed}
 use Rattle.output.specs.OutputLaws.{put_start, put_done, put_room, put_next}
@@ -135,55 +137,58 @@ module _ (header : List ℕ) (xs ss : List ℤ) (out : List ℕ) where
       rw (← q, h, z) refl
 
   -- the replies in their order, and the buffer after each
-  module _ (h : Header) (q : h ≡ header_of header) where
-    pub header_both : 0 < h.reply.number
-        → (h.reply ≡ write_reply header xs ss (length out)) × (out ≡ write_out header xs ss out)
+  pub header_both : (r : Reply) → Err r ≡ result_of (header_of header)
+      → (r ≡ write_reply header xs ss (length out)) × (out ≡ write_out header xs ss out)
+  unfolding write_reply
+  header_both r q =
+      let g = result_refused (header_of header) r q in
+      refused r (rw (lt-ltb 0 (header_of header).reply.number g.0) g.1) (rw g.1 g.0)
+
+  module _ (h : Header) (q : Ok h ≡ result_of (header_of header)) where
+    passes : laid_reply header h.case h.stored xs ss (length out) ≡ write_reply header xs ss (length out)
     unfolding write_reply
-    header_both g = refused h.reply (rw (← q, lt-ltb 0 h.reply.number g) refl) g
+    passes =
+        let g = result_passes (header_of header) h q in
+        rw (le-ltb 0 (header_of header).reply.number g.0, g.1, g.2) refl
 
-    module _ (g : h.reply.number ≤ 0) where
-      passes : laid_reply header h.case h.stored xs ss (length out) ≡ write_reply header xs ss (length out)
-      unfolding write_reply
-      passes = rw (← q, le-ltb 0 h.reply.number g) refl
+    count_reply : (eqb (length xs) h.stored && eqb (length ss) h.stored) ≡ false → reply 22 0 ≡ laid_reply header h.case h.stored xs ss (length out)
+    unfolding laid_reply
+    count_reply e = rw e refl
 
-      count_reply : (eqb (length xs) h.stored && eqb (length ss) h.stored) ≡ false → reply 22 0 ≡ laid_reply header h.case h.stored xs ss (length out)
+    pub count_both : (length xs ≡ h.stored → ⊥) ⊎ (length ss ≡ h.stored → ⊥)
+        → (reply 22 0 ≡ write_reply header xs ss (length out)) × (out ≡ write_out header xs ss out)
+    count_both (inl n) = refused (reply 22 0) (count_reply (rw (ne_eqb (length xs) h.stored n) refl) ∙ passes) (omega arith)
+    count_both (inr n) = refused (reply 22 0) (count_reply (rw (ne_eqb (length ss) h.stored n) (neither (eqb (length xs) h.stored))) ∙ passes) (omega arith)
+
+    module _ (a : length xs ≡ h.stored) (b : length ss ≡ h.stored) (at : ℕ) (u : at ≡ first_unfit h.case 0 xs ss) where
+      unfit_reply : at < length xs → reply 19 at ≡ laid_reply header h.case h.stored xs ss (length out)
       unfolding laid_reply
-      count_reply e = rw e refl
+      unfit_reply l = rw (eq-eqb (length xs) h.stored a, eq-eqb (length ss) h.stored b, ← u, lt-ltb at (length xs) l) refl
 
-      pub count_both : (length xs ≡ h.stored → ⊥) ⊎ (length ss ≡ h.stored → ⊥)
-          → (reply 22 0 ≡ write_reply header xs ss (length out)) × (out ≡ write_out header xs ss out)
-      count_both (inl n) = refused (reply 22 0) (count_reply (rw (ne_eqb (length xs) h.stored n) refl) ∙ passes) (omega arith)
-      count_both (inr n) = refused (reply 22 0) (count_reply (rw (ne_eqb (length ss) h.stored n) (neither (eqb (length xs) h.stored))) ∙ passes) (omega arith)
+      pub unfit_both : at < length xs → (reply 19 at ≡ write_reply header xs ss (length out)) × (out ≡ write_out header xs ss out)
+      unfit_both l = refused (reply 19 at) (unfit_reply l ∙ passes) (omega arith)
 
-      module _ (a : length xs ≡ h.stored) (b : length ss ≡ h.stored) (at : ℕ) (u : at ≡ first_unfit h.case 0 xs ss) where
-        unfit_reply : at < length xs → reply 19 at ≡ laid_reply header h.case h.stored xs ss (length out)
+      module _ (l : length xs ≤ at) (t : Bool) (f : t ≡ leb (set_len header h.case (length xs)) (length out)) where
+        short_reply : t ≡ false → reply 20 0 ≡ laid_reply header h.case h.stored xs ss (length out)
         unfolding laid_reply
-        unfit_reply l = rw (eq-eqb (length xs) h.stored a, eq-eqb (length ss) h.stored b, ← u, lt-ltb at (length xs) l) refl
+        short_reply e =
+            let n : length (written_set header h.case xs ss) ≡ set_len header h.case (length xs) = set_length header h.case xs ss (b ∙ sym a) in
+            rw (eq-eqb (length xs) h.stored a, eq-eqb (length ss) h.stored b, ← u, le-ltb at (length xs) l, n, lt-ltb (length out) _ (leb-false _ _ (sym f ∙ e))) refl
 
-        pub unfit_both : at < length xs → (reply 19 at ≡ write_reply header xs ss (length out)) × (out ≡ write_out header xs ss out)
-        unfit_both l = refused (reply 19 at) (unfit_reply l ∙ passes) (omega arith)
+        pub short_both : t ≡ false → (reply 20 0 ≡ write_reply header xs ss (length out)) × (out ≡ write_out header xs ss out)
+        short_both e = refused (reply 20 0) (short_reply e ∙ passes) (omega arith)
 
-        module _ (l : length xs ≤ at) (t : Bool) (f : t ≡ leb (set_len header h.case (length xs)) (length out)) where
-          short_reply : t ≡ false → reply 20 0 ≡ laid_reply header h.case h.stored xs ss (length out)
+        module _ (e : t ≡ true) where
+          pub set_room : length (written_set header h.case xs ss) ≤ length out
+          set_room = rw (set_length header h.case xs ss (b ∙ sym a)) (leb-true _ _ (sym f ∙ e))
+
+          accepted_reply : (n : ℕ) → n ≡ length (written_set header h.case xs ss) → reply 0 n ≡ laid_reply header h.case h.stored xs ss (length out)
           unfolding laid_reply
-          short_reply e =
-              let n : length (written_set header h.case xs ss) ≡ set_len header h.case (length xs) = set_length header h.case xs ss (b ∙ sym a) in
-              rw (eq-eqb (length xs) h.stored a, eq-eqb (length ss) h.stored b, ← u, le-ltb at (length xs) l, n, lt-ltb (length out) _ (leb-false _ _ (sym f ∙ e))) refl
+          accepted_reply n k =
+              rw (eq-eqb (length xs) h.stored a, eq-eqb (length ss) h.stored b, ← u, le-ltb at (length xs) l, ← k, le-ltb (length out) n (rw k set_room)) refl
 
-          pub short_both : t ≡ false → (reply 20 0 ≡ write_reply header xs ss (length out)) × (out ≡ write_out header xs ss out)
-          short_both e = refused (reply 20 0) (short_reply e ∙ passes) (omega arith)
-
-          module _ (e : t ≡ true) where
-            pub set_room : length (written_set header h.case xs ss) ≤ length out
-            set_room = rw (set_length header h.case xs ss (b ∙ sym a)) (leb-true _ _ (sym f ∙ e))
-
-            accepted_reply : (n : ℕ) → n ≡ length (written_set header h.case xs ss) → reply 0 n ≡ laid_reply header h.case h.stored xs ss (length out)
-            unfolding laid_reply
-            accepted_reply n k =
-                rw (eq-eqb (length xs) h.stored a, eq-eqb (length ss) h.stored b, ← u, le-ltb at (length xs) l, ← k, le-ltb (length out) n (rw k set_room)) refl
-
-            pub accepted_both : (n : ℕ) → n ≡ length (written_set header h.case xs ss) → (now : List ℕ) → now ≡ placed 0 (written_set header h.case xs ss) out
-                → (reply 0 n ≡ write_reply header xs ss (length out)) × (now ≡ write_out header xs ss out)
-            accepted_both n k now o =
-                let r : reply 0 n ≡ write_reply header xs ss (length out) = accepted_reply n k ∙ passes in
-                (r, o ∙ rw q (accepted_out (reply 0 n) r refl))
+          pub accepted_both : (n : ℕ) → n ≡ length (written_set header h.case xs ss) → (now : List ℕ) → now ≡ placed 0 (written_set header h.case xs ss) out
+              → (reply 0 n ≡ write_reply header xs ss (length out)) × (now ≡ write_out header xs ss out)
+          accepted_both n k now o =
+              let r : reply 0 n ≡ write_reply header xs ss (length out) = accepted_reply n k ∙ passes in
+              (r, o ∙ rw (result_passes (header_of header) h q).1 (accepted_out (reply 0 n) r refl))

@@ -4,6 +4,7 @@ use Rattle.std.proofs.Math.Path.{refl, sym}
 use Rattle.std.proofs.Common.{ap, ◌∙◌, append_assoc, append-nil, arith, eq-eqb, ne_eqb, length-append, length-drop, drop_of_length-le, drop-cons, length-take-le}
 use Rattle.std.proofs.Math.Numerals.{add-one}
 use Rattle.std.proofs.Math.Nat.{mod-zero}
+use mir.Val.{bool_byte}
 use borrow.Rule.Slice.PartMut.{put_mid}
 use Rattle.std.proofs.Math.ListN.{get_or-eq_default}
 use Rattle.laws.specs.Choice.{pick}
@@ -149,13 +150,14 @@ pub data_len_end : (c j n : ℕ) → n ≤ j → data_len c j (n - j) ≡ 0
 unfolding data_len
 data_len_end c j n l = let z : n - j ≡ 0 = omega arith in rw z refl
 
-pub stored_len_ends : (c j n w : ℕ) (t : Bool) → w ≡ width_at c j → t ≡ ends_line c j n → t ≡ true → w + 1 ≡ stored_len c j n
-unfolding stored_len
-stored_len_ends c j n w t p q h = rw (p, ← q, h) refl
+pub flag_most : (t : Bool) → bool_byte t ≤ 1
+flag_most true = omega arith
+flag_most false = omega arith
 
-pub stored_len_goes : (c j n w : ℕ) (t : Bool) → w ≡ width_at c j → t ≡ ends_line c j n → t ≡ false → w ≡ stored_len c j n
+pub stored_len_is : (c j n w k : ℕ) (t : Bool) → w ≡ width_at c j → t ≡ ends_line c j n → k ≡ bool_byte t → w + k ≡ stored_len c j n
 unfolding stored_len
-stored_len_goes c j n w t p q h = rw (p, ← q, h) (omega arith)
+stored_len_is c j n w k true p q h = rw (p, ← q, h) refl
+stored_len_is c j n w k false p q h = rw (p, ← q, h) refl
 
 -- number j in its columns: w of them are lent on at the byte at, and come back filled
 module _ (out : List ℕ) (at c j n w : ℕ) (x s : ℤ) (room : at + length (stored_text c j n x s) ≤ length out) (p : w ≡ width_at c j) where

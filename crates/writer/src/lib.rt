@@ -2,7 +2,7 @@
 // A number is given by a coefficient and a scale: coefficient × 10^scale.
 #![tactic(auto)]
 
-ghost use Rattle.std.specs.Prelude.{◌≡◌, ◌+◌, ◌-◌, ◌≤◌, ◌<◌, leb, length};
+ghost use Rattle.std.specs.Prelude.{◌≡◌, ◌+◌, ◌-◌, ◌≤◌, ◌<◌, leb, length, MatchOption};
 ghost use Rattle.output.specs.Output.{placed};
 ghost use Rattle.writer.specs.Writer.{decimals_of, width_at, first_unfit, data_text, written_set, write_reply, write_out};
 ghost use Rattle.writer.specs.Lines.{ends_line, stored_text, stored_len, data_len, set_len};
@@ -10,7 +10,7 @@ ghost use Rattle.writer.specs.Lines.{ends_line, stored_text, stored_len, data_le
 use judge::Reply;
 use output::put_line;
 
-// The width of stored number j's field; 0 where there is no such case.
+// The width of stored number j's field; 0 where there is no such case, which is then the count of its columns.
 fn width_at(case: usize, j: usize) -> usize
     ensures { result ≡ width_at case j }
 {
@@ -51,11 +51,7 @@ fn stored_len(case: usize, j: usize, count: usize) -> usize
     requires { j < count }
     ensures { result ≡ stored_len case j (count - (j + 1)) }
 {
-    let width = width_at(case, j);
-    if ends_line(case, j, count) {
-        return width + 1;
-    }
-    width
+    width_at(case, j) + usize::from(ends_line(case, j, count))
 }
 
 // Whether the data lines of so many numbers fit into the room.
@@ -63,14 +59,12 @@ fn data_fits(case: usize, count: usize, room: usize) -> bool
     ensures { result ≡ leb (data_len case 0 count) room }
 {
     let mut left = room;
-    let mut j = 0;
-    while j < count {
+    for j in 0..count {
         let n = stored_len(case, j, count);
         if left < n {
             return false;
         }
         left -= n;
-        j += 1;
     }
     true
 }
@@ -89,20 +83,18 @@ fn set_fits(header: &[u8], case: usize, count: usize, room: usize) -> bool
     data_fits(case, count, room - 21 - lines)
 }
 
-// The index of the first number that its field does not show exactly; past the last where each does.
-fn first_unfit(case: usize, coefficients: &[i64], scales: &[i16]) -> usize
+// The index of the first number that its field does not show exactly; none where each does.
+fn first_unfit(case: usize, coefficients: &[i64], scales: &[i16]) -> Option<usize>
     requires { length scales.now ≡ length coefficients.now }
-    ensures { result ≡ first_unfit case 0 coefficients.now scales.now }
+    ensures { let first = first_unfit case 0 coefficients.now scales.now in MatchOption result (length coefficients.now ≤ first) (λ j. (j ≡ first) × (j < length coefficients.now)) }
 {
-    let mut j = 0;
-    while j < coefficients.len() {
+    for (j, coefficient) in coefficients.iter().enumerate() {
         let decimals = decimals_of(width_at(case, j));
-        if !decimal::fits(coefficients[j], scales[j], decimals) {
-            return j;
+        if !decimal::fits(*coefficient, scales[j], decimals) {
+            return Some(j);
         }
-        j += 1;
     }
-    j
+    None
 }
 
 // Puts number j of so many at byte `at`, in its own columns, and the LF where one stands after it; answers the byte past them.
@@ -135,10 +127,8 @@ fn put_data(out: &mut [u8], at: usize, case: usize, coefficients: &[i64], scales
 {
     let count = coefficients.len();
     let mut past = at;
-    let mut j = 0;
-    while j < count {
-        past = put_stored(out, past, case, j, count, coefficients[j], scales[j]);
-        j += 1;
+    for (j, coefficient) in coefficients.iter().enumerate() {
+        past = put_stored(out, past, case, j, count, *coefficient, scales[j]);
     }
     past
 }
@@ -162,20 +152,18 @@ fn put_set(
 
 // Document 01's writer: the header's refusal first; 22 where the coefficients or the scales are not as many as the stored numbers the
 // header calls for; 19 at the first number that its field does not show exactly; 20 where the buffer is too short; otherwise the set is in
-// the buffer, and its length the place.
+// the buffer, and its length the place. Coefficients and scales are two slices side by side, as C lends them.
 pub fn write(header: &[u8], coefficients: &[i64], scales: &[i16], out: &mut [u8]) -> Reply
     ensures { (result ≡ write_reply header.now coefficients.now scales.now (length out.old)) × (out.new ≡ write_out header.now coefficients.now scales.now out.old) }
 {
-    let found = header::judge_header(header);
-    let judged = found.reply;
-    if 0 < judged.number {
-        return judged;
-    }
+    let found = match header::judge_header(header) {
+        Ok(found) => found,
+        Err(refused) => return refused,
+    };
     if coefficients.len() != found.stored || scales.len() != found.stored {
         return judge::bare_reply(22, 0);
     }
-    let at = first_unfit(found.case, coefficients, scales);
-    if at < coefficients.len() {
+    if let Some(at) = first_unfit(found.case, coefficients, scales) {
         return judge::bare_reply(19, at);
     }
     if !set_fits(header, found.case, coefficients.len(), out.len()) {

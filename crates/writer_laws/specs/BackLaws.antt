@@ -1,5 +1,5 @@
 -- The numbers that the writer laid out are the stored numbers of the set, index by index.
-use Rattle.std.specs.Prelude.{◌≡◌, refl, true, List, [], ◌∷◌, ◌++◌, map, ℤ, pos, nat_abs, take, drop, replicate}
+use Rattle.std.specs.Prelude.{◌≡◌, refl, true, List, [], ◌∷◌, ◌++◌, map, ℤ, pos, nat_abs, take, drop, replicate, Ok}
 use Rattle.std.proofs.Math.Path.{sym, ap}
 use Rattle.std.proofs.Common.{subst, ◌∙◌, append_assoc, add-zero, suc-mul, zero-mul, arith, length-append, take_at, drop_at, drop-drop}
 use Prim.Native.Nat.{ℕ, zero, suc, ◌+◌, ◌-◌, ◌*◌, ◌^◌, ◌≤◌, ◌<◌}
@@ -10,8 +10,7 @@ use Rattle.text.specs.Parts.{signed}
 use Rattle.line.specs.Line.{filled}
 use Rattle.line.specs.LineLaws.{filled_short, columns_allowed}
 use Rattle.real.specs.declared.Number.{Number}
-use Rattle.real.specs.declared.Real.TheVariants.{Value}
-use Rattle.real.specs.Real.{number_of}
+use Rattle.real.specs.Real.{Real, number_of}
 use Rattle.real.proofs.RealLaws.{real_of_complete}
 use Rattle.real.specs.EndLaws.{signed_size}
 use Rattle.layout.specs.Columns.{field_start, line_of, field_of}
@@ -120,7 +119,7 @@ item_back x s i cols p r =
       same = subst (SameNumber (nat_abs x) s p.coefficient) (signed_size p.scale) (subst (λ (v : Number). SameNumber (nat_abs x) s v.coefficient (signed v.below v.scale)) e r.same);
     }
   where
-    value_same : {a b : Number} → Value a ≡ Value b → a ≡ b
+    value_same : {a b : Number} → ◌≡◌ {A = Real} (Ok a) (Ok b) → a ≡ b
     value_same q = cc
 
 module _ (header : List ℕ) (p : Passed header) (xs ss : List ℤ) (stored : length xs ≡ (header_of header).stored) (fit : AllFit (header_of header).case 0 xs ss) where

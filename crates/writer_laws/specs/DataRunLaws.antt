@@ -22,7 +22,7 @@ use Rattle.record.specs.Written.{FieldsIn, InColumns, Written, Kept}
 use Rattle.record_laws.specs.RowGroupLaws.{data_readable, data_together}
 use Rattle.record_laws.specs.LineReadingLaws.{written_complete}
 use Rattle.walk.specs.declared.Place.TheVariants.{Typed}
-use Rattle.walk.specs.declared.Outcome.TheVariants.{Next}
+use Rattle.std.specs.Prelude.{Ok}
 use Rattle.walk.specs.Due.{record_due, list_row, may_close, may_continue, row_due, settled, after_list, after, after_items}
 use Rattle.walk.specs.DueLaws.{data_row_length, open_continues}
 use Rattle.walk.specs.Step.{state, step_of, typed_step}
@@ -80,7 +80,7 @@ module _ (c : ℕ) (w : ℕ) (ws : List ℕ) (x s : ℤ) (xs ss : List ℤ) (wid
     kept = Kept.nothing;
   }
 
-  data_step : (sets : ℕ) → line_step (state (Typed (data_due c (length (x ∷ xs)))) sets) line ≡ Next (state (Typed (data_due c (length (x ∷ xs) - fields_of c))) sets)
+  data_step : (sets : ℕ) → line_step (state (Typed (data_due c (length (x ∷ xs)))) sets) line ≡ Ok (state (Typed (data_due c (length (x ∷ xs) - fields_of c))) sets)
   unfolding line_step step_of typed_step
   data_step sets =
       let a : Allowed line = fields_allowed fit in

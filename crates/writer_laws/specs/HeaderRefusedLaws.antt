@@ -14,8 +14,7 @@ use Rattle.record_table.specs.TypedSets.{header_lines, kind58}
 use Rattle.walk.specs.declared.Due.{Due}
 use Rattle.walk.specs.declared.State.{State}
 use Rattle.walk.specs.declared.Place.TheVariants.{Number, Typed}
-use Rattle.walk.specs.declared.Outcome.{Outcome}
-use Rattle.walk.specs.declared.Outcome.TheVariants.{Next, Refused}
+use Rattle.std.specs.Prelude.{Result, Ok, Err}
 use Rattle.walk.specs.Due.{opening, after}
 use Rattle.walk.specs.Step.{state, start}
 use Rattle.judge.specs.declared.Reply.{Reply}
@@ -84,7 +83,7 @@ module _ (d : Due) (n : ℕ) (l : List ℕ) (ls : List (List ℕ)) (rest : List 
         past = λ p q. rw z (r.past (omega arith) q);
       })
 
-  halted_stopped : n < header_lines → (f : Refusal) → line_step (state (Typed d) 1) l ≡ Refused f → Halts d n (l ∷ ls) rest
+  halted_stopped : n < header_lines → (f : Refusal) → line_step (state (Typed d) 1) l ≡ Err f → Halts d n (l ∷ ls) rest
   unfolding over
   halted_stopped h f e =
       rw (lt-ltb n header_lines h, e, over_refused (at_line n f) ls, Judge.over_refused (at_line (n + 2) f) ls)
@@ -154,11 +153,11 @@ steps_alike [] more s n h = refl
 steps_alike (l ∷ ls) more s n h =
     ap (λ (r : Run). over header_step r (ls ++ more)) (step_alike s n l (omega arith)) ∙ by (line_step s l) (λ t. steps_alike ls more t (n + 1) (omega arith))
   where
-    by : (o : Outcome)
+    by : (o : Result State Refusal)
         → ((t : State) → over header_step (going t (n + 1)) (ls ++ more) ≡ over header_step (over run_step (going t (n + 1)) ls) more)
         → over header_step (on_outcome n o) (ls ++ more) ≡ over header_step (over run_step (on_outcome n o) ls) more
-    by (Next t) ih = ih t
-    by (Refused f) ih =
+    by (Ok t) ih = ih t
+    by (Err f) ih =
         let r : Reply = at_line n f in
         rw (Judge.over_refused r ls, over_refused r (ls ++ more), over_refused r more) refl
 

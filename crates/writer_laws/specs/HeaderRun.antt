@@ -9,9 +9,9 @@ use Rattle.walk.specs.declared.Due.{Due}
 use Rattle.walk.specs.declared.Place.TheVariants.{Typed}
 use Rattle.walk.specs.Due.{row_due, after}
 use Rattle.walk.specs.Step.{state}
-use Rattle.walk.specs.declared.Outcome.TheVariants.{Next, Refused}
+use Rattle.std.specs.Prelude.{Ok, Err}
 use Rattle.judge.specs.Judge.{going, run_step, line_step}
-use Rattle.header.specs.declared.Header.{Header}
+use Rattle.header.specs.Header.{Answer}
 use Rattle.header.specs.Header.{opened, header_of, header_step, header_end}
 use Rattle.parts.specs.Parts.{columns_in, closes}
 use Rattle.rewriter.specs.Fair.{Inner, Fair}
@@ -56,12 +56,12 @@ pub record Taken (d : Due) (l : List ℕ) : Type 0 where
   pub fair : Fair l
   pub inside : closes l ≡ false
   pub row : (row_refusal (row_due d) (columns_in l)).number ≡ 0
-  pub step : line_step (state (Typed d) 1) l ≡ Next (state (Typed (after d (columns_in l))) 1)
+  pub step : line_step (state (Typed d) 1) l ≡ Ok (state (Typed (after d (columns_in l))) 1)
 
 pub data Met (d : Due) (l : List ℕ) : Type 0 where
   taken : Taken d l → Met d l
-  stopped : (f : Refusal) → line_step (state (Typed d) 1) l ≡ Refused f → 0 < f.number → Met d l
+  stopped : (f : Refusal) → line_step (state (Typed d) 1) l ≡ Err f → 0 < f.number → Met d l
 
 -- the lines of a header that passes, from line n on
-abbrev pub ended : Due → ℕ → List (List ℕ) → List ℕ → Header
+abbrev pub ended : Due → ℕ → List (List ℕ) → List ℕ → Answer
 ended d n ls rest = header_end (over header_step (going (state (Typed d) 1) n) ls) rest

@@ -11,7 +11,7 @@ use Rattle.laws.specs.ChoiceLaws.{below_or_not}
 use Rattle.laws.specs.RangesLaws.{in_range}
 use Rattle.laws.specs.Cut.{cut, over, judge}
 use Rattle.line.specs.declared.Refusal.{Refusal}
-use Rattle.line.specs.Line.{refusal, columns, first_bad, line_fault, filled}
+use Rattle.line.specs.Line.{refusal, columns, line_fault, filled}
 use Rattle.layout.specs.Layout.{numbers_of}
 use Rattle.field.specs.Item.{Item}
 use Rattle.record_table.specs.Row.{span, with_padding}
@@ -21,20 +21,21 @@ use Rattle.record.specs.Check.{row_refusal, items_of}
 use Rattle.record.specs.Declares.{case_in, stored_in, case_by, count_by, stored_by}
 use Rattle.walk.specs.declared.Due.{Due}
 use Rattle.walk.specs.declared.Place.TheVariants.{Typed}
-use Rattle.walk.specs.declared.Outcome.TheVariants.{Refused}
+use Rattle.std.specs.Prelude.{Err}
 use Rattle.walk.specs.Due.{due, record_due, may_close, row_due, opening, next, after}
 use Rattle.walk.specs.DueLaws.{numbers_of_few, row_refusal_record, after_58, open_continues}
 use Rattle.walk.specs.Step.{state, unless, typed_step, step_of}
 use Rattle.walk.specs.StepLaws.{unless_here, unless_on}
 use Rattle.judge.specs.declared.Reply.{Reply}
 use Rattle.judge.specs.Judge.{at_line, line_step, Run, going, refused, run_step}
-use Rattle.header.specs.declared.Header.{Header}
+use Rattle.header.specs.Header.{Answer}
 use Rattle.header.specs.HeaderLaws.{over_refused}
 use Rattle.header.specs.Header.{answer, refused_at, past_fault, header_step, header_end, header_of}
 use Rattle.parts.specs.Parts.{columns_in, closes}
 use Rattle.rewriter.specs.Fair.{Fair, Inner, Inner.none as no_line, Inner.more as one_line}
 use Rattle.rewriter.proofs.RewriterLaws.{fair_passed}
 use Rattle.judge.specs.RefusalLaws.{no_fault}
+use Rattle.judge.specs.JudgeLaws.{unended_some}
 use Rattle.line.specs.LineLaws.{filled_length}
 use Rattle.layout.specs.Columns.{total}
 use Rattle.record.specs.DeclaresLaws.{declares_items}
@@ -107,23 +108,13 @@ module _ (n : ℕ) (d : Due) (s : Stood n d) (h : n < header_lines) where
         by false e =
             record { kind = s.kind; at = omega (arith, s.at); second = s.second; bounds = λ k. s.bounds (omega (arith, eqb-false n line_seven e)) }
 
--- bytes with no LF after them never pass
-open_fault_lem : (cs : List ℕ) → 0 < (line_fault false cs).number
-unfolding line_fault
-open_fault_lem cs = by (ltb 0 (first_bad 1 cs)) (ltb 80 (length cs))
-  where
-    by : (bad long : Bool) → 0 < (pick bad (refusal 2 (first_bad 1 cs)) (pick long (refusal 3 1) (refusal 4 1))).number
-    by true long = omega arith
-    by false true = omega arith
-    by false false = omega arith
-
 module _ (d : Due) (l : List ℕ) (c : may_close d ≡ false) where
   -- a line that passes by itself is judged by its place
   step_place : (line_fault true (columns true l)).number ≡ 0 → line_step (state (Typed d) 1) l ≡ typed_step d 1 (columns_in l)
   unfolding line_step step_of
   step_place h = rw h refl
 
-  step_closing : closes l ≡ true → typed_step d 1 (columns_in l) ≡ Refused (refusal 7 1)
+  step_closing : closes l ≡ true → typed_step d 1 (columns_in l) ≡ Err (refusal 7 1)
   unfolding typed_step closes
   step_closing h = rw (h, c) refl
 
@@ -182,7 +173,7 @@ record Ran (d : Due) (n : ℕ) (ls : List (List ℕ)) (rest : List ℕ) : Type 0
 -- no line more: they are eleven, and nothing is left
 run_end_lem : (d : Due) (n : ℕ) (rest : List ℕ) → Stood n d → n ≤ header_lines → (ended d n [] rest).reply.number ≡ 0 → Ran d n [] rest
 unfolding over
-run_end_lem d n (b ∷ bs) s l h = absurd (omega (arith, open_fault_lem (b ∷ bs)))
+run_end_lem d n (b ∷ bs) s l h = absurd (omega (arith, unended_some (b ∷ bs)))
 run_end_lem d n [] s l h = by (ltb n header_lines) refl h
   where
     by : (t : Bool) → ltb n header_lines ≡ t → (pick t (refused_at n (refusal 7 1)) (answer 0 0 d.case d.left)).reply.number ≡ 0 → Ran d n [] []
@@ -275,8 +266,8 @@ header_passed header h = passes (header_ran (cut header).lines (opening kind58) 
     passes : Ran (opening kind58) 0 (cut header).lines (cut header).rest → Passed header
     passes r =
         let b : Bounds r.due.case r.due.left = r.stood.bounds (omega arith) in
-        let c : r.due.case ≡ (header_of header).case = sym (ap (λ (x : Header). x.case) r.ends) in
-        let m : r.due.left ≡ (header_of header).stored = sym (ap (λ (x : Header). x.stored) r.ends) in
+        let c : r.due.case ≡ (header_of header).case = sym (ap (λ (x : Answer). x.case) r.ends) in
+        let m : r.due.left ≡ (header_of header).stored = sym (ap (λ (x : Answer). x.stored) r.ends) in
         record {
           due = r.due;
           rest = r.none_open;

@@ -24,8 +24,8 @@ use Rattle.record.specs.Declares.{case_in, count_in, stored_in}
 use Rattle.walk.specs.declared.Due.{Due}
 use Rattle.walk.specs.declared.State.{State}
 use Rattle.walk.specs.declared.Place.TheVariants.{Outside, Number, Typed}
-use Rattle.walk.specs.declared.Outcome.{Outcome}
-use Rattle.walk.specs.declared.Outcome.TheVariants.{Next}
+use Rattle.std.specs.Prelude.{Result, Ok}
+use Rattle.line.specs.declared.Refusal.{Refusal}
 use Rattle.walk.specs.Due.{due, record_due, may_close}
 use Rattle.walk.specs.Step.{state, start, opened, step_of, outside_step, number_step, typed_step}
 use Rattle.judge.specs.Judge.{judged, reply, line_step, Run, going, on_outcome, run_step, run_end}
@@ -73,24 +73,24 @@ over_end : (r : Run) → over run_step r [] ≡ r
 unfolding over
 over_end r = refl
 
-pub over_line : (s : State) {t : State} (n : ℕ) (l : List ℕ) → line_step s l ≡ Next t → (ls : List (List ℕ)) → over run_step (going s n) (l ∷ ls) ≡ over run_step (going t (n + 1)) ls
+pub over_line : (s : State) {t : State} (n : ℕ) (l : List ℕ) → line_step s l ≡ Ok t → (ls : List (List ℕ)) → over run_step (going s n) (l ∷ ls) ≡ over run_step (going t (n + 1)) ls
 unfolding over
-over_line s n l e ls = ap (λ (o : Outcome). over run_step (on_outcome n o) ls) e
+over_line s n l e ls = ap (λ (o : Result State Refusal). over run_step (on_outcome n o) ls) e
 
 -- the lines that open and close a set
 pub cut_head : (t : List ℕ) → cut (head_text 58 ++ t) ≡ text (plain_delimiter ∷ plain_number 58 ∷ (cut t).lines) (cut t).rest
 unfolding cut head_text plain_number plain_in digit_or_blank
 cut_head t = refl
 
-pub opens : line_step start plain_delimiter ≡ Next (state Number 1)
+pub opens : line_step start plain_delimiter ≡ Ok (state Number 1)
 unfolding line_step columns without_return line_fault first_bad is_allowed filled step_of outside_step all_blank is_delimiter then_blank
 opens = refl
 
-pub numbered : line_step (state Number 1) (plain_number 58) ≡ Next Header.opened
+pub numbered : line_step (state Number 1) (plain_number 58) ≡ Ok Header.opened
 unfolding line_step columns without_return line_fault first_bad is_allowed filled step_of number_step plain_number plain_in digit_or_blank opened is_typed kind_of typed_sets dataset_number all_blank integer_of end_integer run step_integer is_digit push
 numbered = refl
 
-closed : (c : ℕ) → line_step (state (Typed (data_due c 0)) 1) plain_delimiter ≡ Next (state Outside 1)
+closed : (c : ℕ) → line_step (state (Typed (data_due c 0)) 1) plain_delimiter ≡ Ok (state Outside 1)
 unfolding line_step columns without_return line_fault first_bad is_allowed filled step_of typed_step all_blank is_delimiter then_blank may_close record_due sequence typed_sets
 closed c = refl
 

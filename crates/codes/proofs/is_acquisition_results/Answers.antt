@@ -13,9 +13,9 @@ pub returns-in-2-to-3 : goal.returns-in-2-to-3
 unfolding keeps
 returns-in-2-to-3 c = sym (in_range (λ v. keeps acquisition_results (pos v)) true 2 2 c.args.code refl (omega arith) (omega arith))
 
-pub returns-in-5-to-14 : goal.returns-in-5-to-14
+pub returns-in-2-to-3-2 : goal.returns-in-2-to-3-2
 unfolding keeps
-returns-in-5-to-14 c = sym (in_range (λ v. keeps acquisition_results (pos v)) true 5 10 c.args.code refl (omega arith) (omega arith))
+returns-in-2-to-3-2 c = sym (in_range (λ v. keeps acquisition_results (pos v)) true 5 10 c.args.code refl (omega arith) (omega arith))
 
 pub returns-in_default : goal.returns-in_default
 unfolding keeps

@@ -17,21 +17,21 @@ pub returns-in-0-to-3 : goal.returns-in-0-to-3
 unfolding keeps
 returns-in-0-to-3 c = sym (in_range listed true 0 4 c.args.code refl (omega arith) (omega arith))
 
-pub returns-in-5-to-6 : goal.returns-in-5-to-6
+pub returns-in-0-to-3-2 : goal.returns-in-0-to-3-2
 unfolding keeps
-returns-in-5-to-6 c = sym (in_range listed true 5 2 c.args.code refl (omega arith) (omega arith))
+returns-in-0-to-3-2 c = sym (in_range listed true 5 2 c.args.code refl (omega arith) (omega arith))
 
-pub returns-in-8-to-9 : goal.returns-in-8-to-9
+pub returns-in-0-to-3-3 : goal.returns-in-0-to-3-3
 unfolding keeps
-returns-in-8-to-9 c = sym (in_range listed true 8 2 c.args.code refl (omega arith) (omega arith))
+returns-in-0-to-3-3 c = sym (in_range listed true 8 2 c.args.code refl (omega arith) (omega arith))
 
-pub returns-in-11-to-13 : goal.returns-in-11-to-13
+pub returns-in-0-to-3-4 : goal.returns-in-0-to-3-4
 unfolding keeps
-returns-in-11-to-13 c = sym (in_range listed true 11 3 c.args.code refl (omega arith) (omega arith))
+returns-in-0-to-3-4 c = sym (in_range listed true 11 3 c.args.code refl (omega arith) (omega arith))
 
-pub returns-in-15-to-19 : goal.returns-in-15-to-19
+pub returns-in-0-to-3-5 : goal.returns-in-0-to-3-5
 unfolding keeps
-returns-in-15-to-19 c = sym (in_range listed true 15 5 c.args.code refl (omega arith) (omega arith))
+returns-in-0-to-3-5 c = sym (in_range listed true 15 5 c.args.code refl (omega arith) (omega arith))
 
 pub returns-in_default : goal.returns-in_default
 unfolding keeps

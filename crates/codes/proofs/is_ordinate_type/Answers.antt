@@ -12,11 +12,11 @@ use Rattle.codes.proofs.is_ordinate_type.Goals as goal
 
 pub returns-in-2 : goal.returns-in-2
 unfolding keeps
-returns-in-2 c = rw c.in-2.is refl
+returns-in-2 c = sym (in_range (λ v. keeps ordinate_type (pos v)) true 2 1 c.args.code refl (omega arith) (omega arith))
 
-pub returns-in-4-to-6 : goal.returns-in-4-to-6
+pub returns-in-2-2 : goal.returns-in-2-2
 unfolding keeps
-returns-in-4-to-6 c = sym (in_range (λ v. keeps ordinate_type (pos v)) true 4 3 c.args.code refl (omega arith) (omega arith))
+returns-in-2-2 c = sym (in_range (λ v. keeps ordinate_type (pos v)) true 4 3 c.args.code refl (omega arith) (omega arith))
 
 pub returns-in_default-2 : goal.returns-in_default-2
 returns-in_default-2 c = sym (keeps_past ordinate_type 7 _ refl (omega arith))

@@ -1,7 +1,7 @@
 -- `decimal::exponent` meets its contract.
 use native.Mathlib.Omega.{arith}
 use Rattle.decimal.specs.CountLaws.{count_in_least, count_in_most}
-use Rattle.decimal.specs.SignLaws.{wide_first, exponent_zero, sum_first, exponent_is}
+use Rattle.decimal.specs.SignLaws.{exponent_zero, sum_first, exponent_is}
 use Rattle.decimal.proofs.exponent.Goals as goal
 
 pub returns-then-size-eq0 : goal.returns-then-size-eq0
@@ -11,13 +11,10 @@ pub overflow_sub-more : goal.overflow_sub-more
 overflow_sub-more c = omega (arith, c.count-more.ensures, count_in_least 19 c.args.size)
 
 pub overflow_cast-result : goal.overflow_cast-result
-overflow_cast-result c = wide_first _ c.ranges.scale
-
-pub overflow_cast-result-2 : goal.overflow_cast-result-2
-overflow_cast-result-2 c = record { sfits = omega (arith, c.count-more.ensures, count_in_most 19 c.args.size) }
+overflow_cast-result c = record { sfits = omega (arith, c.count-more.ensures, count_in_most 19 c.args.size) }
 
 pub overflow_add-result : goal.overflow_add-result
-overflow_add-result c = sum_first _ _ _ c.ranges.scale c.if-size-eq0.false c.count-more.ensures
+overflow_add-result c = rw c.from.ensures (sum_first _ _ _ c.ranges.scale c.if-size-eq0.false c.count-more.ensures)
 
 pub returns : goal.returns
-returns c = exponent_is _ _ _ c.ranges.scale c.if-size-eq0.false c.count-more.ensures
+returns c = rw c.from.ensures (exponent_is _ _ _ c.ranges.scale c.if-size-eq0.false c.count-more.ensures)

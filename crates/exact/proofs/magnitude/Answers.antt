@@ -10,8 +10,8 @@ int_to_float-c c = le→leb _ _ c.requires.coefficient_bound
 
 pub returns-then-below : goal.returns-then-below
 unfolding magnitude_of
-returns-then-below c = simp (c.ten-t.ensures, c.if-below.true)
+returns-then-below c = simp (c.ten-t.ensures, c.from.ensures, c.if-below.true)
 
 pub returns : goal.returns
 unfolding magnitude_of
-returns c = simp (c.ten-t.ensures, c.if-below.false)
+returns c = simp (c.ten-t.ensures, c.from.ensures, c.if-below.false)

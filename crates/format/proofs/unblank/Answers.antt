@@ -1,38 +1,29 @@
-use mathlib.Core.Path.{refl, ap, ◌∙◌}
-use Prim.Native.Nat.{◌<◌}
-use lib.Dec.{eqb}
-use lib.ListN.{length, get_or, length-set}
-use lib.Seq.{take_all}
+-- `format::unblank` meets its contract.
+use Rattle.std.proofs.Common.{◌<◌, length, refl, arith}
 use Rattle.format.specs.Format.{unblanked}
-use Rattle.format.proofs.RowLaws.{kept_most, unblanked_next}
-use native.Mathlib.Omega.{arith}
+use Rattle.format.proofs.RowLaws.{unblanked_blank, unblanked_byte}
 use Rattle.format.proofs.unblank.Goals as goal
+use Rattle.format.proofs.unblank.Goals.{then-b-ne32, else-b-ne32}
 
-pub loop-i-init : goal.loop-i-init
+pub loop-b-init : goal.loop-b-init
 unfolding unblanked
-loop-i-init c = record { within = omega arith; most = omega arith; size = refl; bytes = refl }
+loop-b-init c = record { within = omega arith; size = refl; bytes = refl }
 
-pub bounds-out-n : goal.bounds-out-n
-bounds-out-n c = omega (arith, c.loop-i.invariant.within, c.requires)
-
-pub kept-n-requires : goal.kept-n-requires
-kept-n-requires c = omega (arith, c.loop-i.invariant.within, c.requires)
-
-pub loop-i-preserved : goal.loop-i-preserved
-loop-i-preserved c =
-    let inv = c.loop-i.invariant in
-    let room : c.loop-i.n < length c.loop-i.out = omega (arith, inv.within, inv.size, c.requires) in
-    let next = unblanked_next c.args.text.now c.loop-i.out c.loop-i.i c.loop-i.n c.loop-i-test.true room inv.bytes in
-    let few = kept_most (eqb (get_or c.args.text.now c.loop-i.i 0) 32) c.loop-i.n in
-    record {
-      within = omega (arith, c.kept-n.ensures, few, inv.within);
-      most = omega (arith, c.loop-i-test.true);
-      size = simp length-set inv.size;
-      bytes = rw c.kept-n.ensures next;
-    }
-
-pub returns : goal.returns
-returns c =
-    let inv = c.loop-i.invariant in
-    let whole = take_all c.loop-i.i c.args.text.now c.loop-i-test.false in
-    record { within = omega (arith, inv.within, inv.most); bytes = inv.bytes ∙ ap unblanked whole; size = inv.size }
+pub loop-b-preserved : goal.loop-b-preserved
+loop-b-preserved c = elim c.if-b-ne32.branch [
+  | then-b-ne32 w ↦
+      let inv = c.loop-b.invariant in
+      let room : c.loop-b.n < length c.loop-b.out = omega (arith, inv.within, inv.size, c.requires) in
+      record {
+        within = omega (arith, inv.within, w.n-is);
+        size = c.if-b-ne32.array_long;
+        bytes = rw (w.n-is, w.out-is) (unblanked_byte _ _ c.loop-b-test.true _ _ inv.bytes w.if-b-ne32.true room);
+      }
+  | else-b-ne32 w ↦
+      let inv = c.loop-b.invariant in
+      record {
+        within = omega (arith, inv.within, w.n-is);
+        size = c.if-b-ne32.array_long;
+        bytes = rw (w.n-is, w.out-is) (unblanked_blank _ _ c.loop-b-test.true _ _ inv.bytes w.if-b-ne32.false);
+      }
+]

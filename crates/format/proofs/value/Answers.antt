@@ -1,13 +1,11 @@
-use mathlib.Core.Path.{refl, sym, ◌∙◌}
+-- `format::value` meets its contract.
+use Rattle.std.proofs.Common.{◌≡◌, fold, sym, ◌∙◌, rules}
+use Rattle.std.proofs.iter.runs.Made.{chains}
+use Rattle.laws.specs.RunLaws.{run_fold}
 use Rattle.format.specs.Measured.{kept_digit}
-use Rattle.laws.specs.RunLaws.{run_next, run_done}
 use Rattle.format.proofs.value.Goals as goal
 
-pub loop-i-init : goal.loop-i-init
-loop-i-init c = record { same = refl }
-
-pub loop-i-preserved : goal.loop-i-preserved
-loop-i-preserved c = record { same = rw c.with_digit-m.ensures (sym (run_next kept_digit _ _ _ c.loop-i-test.true) ∙ c.loop-i.invariant.same) }
-
 pub returns : goal.returns
-returns c = sym (run_done kept_digit _ _ _ c.loop-i-test.false) ∙ c.loop-i.invariant.same
+returns c =
+    let whole : c.fold.result ≡ fold kept_digit 0 c.args.digits.now = search (rules, chains) in
+    whole ∙ sym (run_fold kept_digit _ _)

@@ -1,39 +1,55 @@
-use mathlib.Core.Path.{refl, ◌∙◌}
+use mathlib.Core.Path.{refl, ap, ◌∙◌}
+use Rattle.std.proofs.Common.{◌≤◌, length, length-append}
+use Rattle.std.proofs.lemmas.Slice.Zip.{zip_turn, zip_end}
+use Rattle.reader.specs.Reader.{refused_by}
 use Rattle.format_reader.specs.QuestionLaws.{finding_fits, finding_stop, finding_here, finding_on, finding_end}
 use borrow.Author.Rules.{rules}
 use native.Mathlib.Omega.{arith}
 use Rattle.format_reader.proofs.show_field.Goals as goal
 
-pub loop-k-init : goal.loop-k-init
-loop-k-init c = record { within = search rules; fit = search rules; same = refl }
+pub loop-form-init : goal.loop-form-init
+loop-form-init c = record { within = search rules; fit = search rules; same = refl }
 
 pub returns-then-width-eq0 : goal.returns-then-width-eq0
 returns-then-width-eq0 c =
-    let more = c.loop-k-test.true in
-    c.no_field.ensures ∙ finding_stop c.loop-k.invariant more c.requires.0 c.index-width.ensures c.if-width-eq0.true
+    let turn = zip_turn c.args.forms.now c.args.widths.now _ _ _ c.next.new.self _ (search rules) (search rules) c.loop-form.yielded_by _ c.in-Some.is c.next.ensures.steps in
+    let width = c.from-width.ensures ∙ turn.3 0 in
+    ap refused_by c.no_field.ensures ∙ finding_stop c.loop-form.invariant turn.1 c.requires.0 width c.if-width-eq0.true
 
 pub overflow_add-at : goal.overflow_add-at
-overflow_add-at c = omega (arith, finding_fits c.loop-k.invariant c.loop-k-test.true c.requires.0 c.index-width.ensures)
+overflow_add-at c =
+    let turn = zip_turn c.args.forms.now c.args.widths.now _ _ _ c.next.new.self _ (search rules) (search rules) c.loop-form.yielded_by _ c.in-Some.is c.next.ensures.steps in
+    let width = c.from-width.ensures ∙ turn.3 0 in
+    omega (arith, finding_fits c.loop-form.invariant turn.1 c.requires.0 width)
 
 pub show-requires : goal.show-requires
-show-requires c = (omega arith, finding_fits c.loop-k.invariant c.loop-k-test.true c.requires.0 c.index-width.ensures)
+show-requires c =
+    let turn = zip_turn c.args.forms.now c.args.widths.now _ _ _ c.next.new.self _ (search rules) (search rules) c.loop-form.yielded_by _ c.in-Some.is c.next.ensures.steps in
+    let width = c.from-width.ensures ∙ turn.3 0 in
+    (omega arith, finding_fits c.loop-form.invariant turn.1 c.requires.0 width)
 
 pub returns-then-left-own : goal.returns-then-left-own
 returns-then-left-own c =
-    let more = c.loop-k-test.true in
-    let width = c.index-width.ensures in
-    let own = c.count_of-own.ensures in
-    c.show.ensures ∙ finding_here c.loop-k.invariant more c.requires.0 width c.if-width-eq0.false _ own c.if-left-own.true
+    let turn = zip_turn c.args.forms.now c.args.widths.now _ _ _ c.next.new.self _ (search rules) (search rules) c.loop-form.yielded_by _ c.in-Some.is c.next.ensures.steps in
+    let width = c.from-width.ensures ∙ turn.3 0 in
+    let own = rw (turn.2 0) at c.count_of-own.ensures in
+    c.show.ensures ∙ rw (turn.2 0) (finding_here c.loop-form.invariant turn.1 c.requires.0 width c.if-width-eq0.false _ own c.if-left-own.true)
 
-pub overflow_add-at-in-loop-k : goal.overflow_add-at-in-loop-k
-overflow_add-at-in-loop-k c = omega (arith, finding_fits c.loop-k.invariant c.loop-k-test.true c.requires.0 c.index-width.ensures)
+pub overflow_add-at-in-loop-form : goal.overflow_add-at-in-loop-form
+overflow_add-at-in-loop-form c =
+    let turn = zip_turn c.args.forms.now c.args.widths.now _ _ _ c.next.new.self _ (search rules) (search rules) c.loop-form.yielded_by _ c.in-Some.is c.next.ensures.steps in
+    let width = c.from-width.ensures ∙ turn.3 0 in
+    omega (arith, finding_fits c.loop-form.invariant turn.1 c.requires.0 width)
 
-pub loop-k-preserved : goal.loop-k-preserved
-loop-k-preserved c =
-    let more = c.loop-k-test.true in
-    let width = c.index-width.ensures in
-    let own = c.count_of-own.ensures in
-    finding_on c.loop-k.invariant more c.requires.0 width c.if-width-eq0.false _ own c.if-left-own.false
+pub loop-form-preserved : goal.loop-form-preserved
+loop-form-preserved c =
+    let turn = zip_turn c.args.forms.now c.args.widths.now _ _ _ c.next.new.self _ (search rules) (search rules) c.loop-form.yielded_by _ c.in-Some.is c.next.ensures.steps in
+    let width = c.from-width.ensures ∙ turn.3 0 in
+    let own = rw (turn.2 0) at c.count_of-own.ensures in
+    rw (length-append c.loop-form.yielded _) (finding_on c.loop-form.invariant turn.1 c.requires.0 width c.if-width-eq0.false _ own c.if-left-own.false)
 
 pub returns : goal.returns
-returns c = c.no_field-2.ensures ∙ finding_end c.loop-k.invariant c.loop-k-test.false
+returns c =
+    let end = zip_end c.args.forms.now c.args.widths.now _ _ _ c.next.new.self _ (search rules) (search rules) c.loop-form.yielded_by c.in-None.is c.next.ensures.steps in
+    let past : length c.args.widths.now ≤ length c.loop-form.yielded = omega (arith, end, c.requires.0) in
+    ap refused_by c.no_field-2.ensures ∙ finding_end c.loop-form.invariant past

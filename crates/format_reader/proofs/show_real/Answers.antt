@@ -1,16 +1,13 @@
 -- `format_reader::show_real` meets its contract.
 use mathlib.Core.Path.{sym, ap, ◌∙◌}
+use Rattle.reader.specs.Reader.{refused_by}
 use Rattle.format_reader.specs.Question.{real_shown, field_shown}
 use Rattle.format_reader.proofs.show_real.Goals as goal
 
-pub returns-in-Value : goal.returns-in-Value
+pub returns-in-Ok : goal.returns-in-Ok
 unfolding field_shown
-returns-in-Value c = ap (real_shown _ _) (sym c.in-Value.is ∙ c.real_field.ensures)
+returns-in-Ok c = ap (real_shown _ _) (sym c.in-Ok.is ∙ c.real_field.ensures)
 
-pub returns-in-Blank : goal.returns-in-Blank
+pub returns-in-Err : goal.returns-in-Err
 unfolding field_shown
-returns-in-Blank c = c.no_field.ensures ∙ ap (real_shown _ _) (sym c.in-Blank.is ∙ c.real_field.ensures)
-
-pub returns-in-Malformed : goal.returns-in-Malformed
-unfolding field_shown
-returns-in-Malformed c = c.no_field-in-Malformed.ensures ∙ ap (real_shown _ _) (sym c.in-Malformed.is ∙ c.real_field.ensures)
+returns-in-Err c = ap refused_by c.no_field.ensures ∙ ap (real_shown _ _) (sym c.in-Err.is ∙ c.real_field.ensures)

@@ -1,28 +1,14 @@
 -- `header::finish` meets its contract.
-use mathlib.Core.Path.{◌∙◌}
-use Rattle.header.specs.HeaderLaws.{end_rest, end_few, end_place}
+use mathlib.Core.Path.{sym, ◌∙◌}
+use Rattle.line.specs.LineLaws.{verdict_err, unended_err}
+use Rattle.header.specs.HeaderLaws.{refused_is, end_rest}
 use Rattle.header.proofs.finish.Goals as goal
 
+pub unreachable-requires : goal.unreachable-requires
+unreachable-requires c = unended_err _ (sym c.in_default.is ∙ c.line_fault.ensures)
+
 pub returns-then-rest-gt0 : goal.returns-then-rest-gt0
-returns-then-rest-gt0 c = c.refuse.ensures ∙ rw c.line_fault-fault.ensures (end_rest c.args.s c.args.lines c.args.rest.now c.if-rest-gt0.true)
-
-pub returns-then-lines-lt-HEADER_LINES : goal.returns-then-lines-lt-HEADER_LINES
-returns-then-lines-lt-HEADER_LINES c = c.refuse-then-lines-lt-HEADER_LINES.ensures ∙ end_few c.args.s c.args.lines c.args.rest.now c.if-rest-gt0.false c.if-lines-lt-HEADER_LINES.true
-
-pub returns-in-Outside : goal.returns-in-Outside
-returns-in-Outside c =
-    let args = c.args in
-    c.refuse-in-Outside.ensures ∙ end_place args.s args.lines args.rest.now _ c.if-rest-gt0.false c.if-lines-lt-HEADER_LINES.false c.in-Outside.is
-
-pub returns-in-Number : goal.returns-in-Number
-returns-in-Number c =
-    let args = c.args in
-    c.refuse-in-Number.ensures ∙ end_place args.s args.lines args.rest.now _ c.if-rest-gt0.false c.if-lines-lt-HEADER_LINES.false c.in-Number.is
-
-pub returns-in-Plain : goal.returns-in-Plain
-returns-in-Plain c =
-    let args = c.args in
-    c.refuse-in-Plain.ensures ∙ end_place args.s args.lines args.rest.now _ c.if-rest-gt0.false c.if-lines-lt-HEADER_LINES.false c.in-Plain.is
-
-pub returns-in-Typed : goal.returns-in-Typed
-returns-in-Typed c = rw c.bare_reply.ensures (end_place c.args.s c.args.lines c.args.rest.now _ c.if-rest-gt0.false c.if-lines-lt-HEADER_LINES.false c.in-Typed.is)
+returns-then-rest-gt0 c =
+    let told = verdict_err _ _ (sym c.in-Err.is ∙ c.line_fault.ensures) in
+    rw (c.reply_at.ensures, told.0)
+    (refused_is _ _ told.1 (end_rest c.args.s c.args.lines c.args.rest.now c.if-rest-gt0.true))

@@ -5,19 +5,19 @@ use native.Mathlib.Omega.{arith}
 use borrow.Author.Rules.{rules}
 use Rattle.header.proofs.past_eleven.Goals as goal
 
-pub loop-lines-init : goal.loop-lines-init
+pub loop-init : goal.loop-init
 unfolding cut
-loop-lines-init c = record { within = search rules; few = search rules; lines_are = refl; whole = refl }
+loop-init c = record { within = search rules; few = search rules; lines_are = refl; whole = refl }
 
 pub returns-then-header-end : goal.returns-then-header-end
 returns-then-header-end c =
-    let inv = c.loop-lines.invariant in
-    let below = c.loop-lines-test.true in
+    let inv = c.loop.invariant in
+    let below = c.loop-test.true in
     all_few c.args.header.now _ _ inv.within c.find_end-end.ensures inv.whole c.if-header-end.true (omega (arith, inv.lines_are, below))
 
-pub loop-lines-preserved : goal.loop-lines-preserved
-loop-lines-preserved c =
-    let inv = c.loop-lines.invariant in
+pub loop-preserved : goal.loop-preserved
+loop-preserved c =
+    let inv = c.loop.invariant in
     let one_more = lines_to_lem c.args.header.now _ _ inv.within c.find_end-end.ensures inv.whole c.if-header-end.false in
     record {
       within = search rules;
@@ -28,5 +28,5 @@ loop-lines-preserved c =
 
 pub returns : goal.returns
 returns c =
-    let inv = c.loop-lines.invariant in
-    record { within = inv.within; few = omega (arith, inv.few, inv.lines_are); full = λ l. omega (arith, inv.lines_are, c.loop-lines-test.false) }
+    let inv = c.loop.invariant in
+    record { within = inv.within; few = omega (arith, inv.few, inv.lines_are); full = λ l. omega (arith, inv.lines_are, c.loop-test.false) }

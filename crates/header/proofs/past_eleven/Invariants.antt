@@ -1,7 +1,7 @@
 -- `header::past_eleven` meets its contract.
 use mathlib.Core.Path.{◌≡◌}
 use mathlib.Core.List.{[], List}
-use Prim.Native.Nat.{ℕ, ◌≤◌, ◌-◌}
+use Prim.Native.Nat.{ℕ, ◌≤◌}
 use lib.ListN.{length, take}
 use Rattle.laws.specs.Cut.{cut}
 use Rattle.record_table.specs.TypedSets.{header_lines}
@@ -14,8 +14,5 @@ pub record Going (header : List ℕ) (lines at : ℕ) : Type 0 where
   pub lines_are : length (cut (take at header)).lines ≡ lines
   pub whole : (cut (take at header)).rest ≡ []
 
-abbrev pub invariant-loop-lines : goal.invariant-loop-lines
-invariant-loop-lines l = Going l.header l.lines l.at
-
-abbrev pub decreases-loop-lines : goal.decreases-loop-lines
-decreases-loop-lines l = length l.header - l.at
+abbrev pub invariant-loop : goal.invariant-loop
+invariant-loop l = Going l.header l.counter l.at

@@ -8,12 +8,12 @@ use Rattle.host.proofs.answer_number.Goals as goal
 
 pub returns-then-out-lt20 : goal.returns-then-out-lt20
 unfolding number_shown number_bytes bytes_of
-returns-then-out-lt20 c = rw c.in-Number.is (answered_short _ _ _ (omega arith) c.bare.ensures)
+returns-then-out-lt20 c = rw c.in-Ok.is (answered_short _ _ _ (omega arith) c.bare.ensures)
 
 pub returns-else-out-lt20 : goal.returns-else-out-lt20
 unfolding number_shown number_bytes bytes_of
-returns-else-out-lt20 c = rw c.in-Number.is (answered _ _ _ _ (omega arith) c.bare-in-Number.ensures c.put_number.ensures)
+returns-else-out-lt20 c = rw c.in-Ok.is (answered _ _ _ _ (omega arith) c.bare-in-Ok.ensures c.put_number.ensures)
 
-pub returns-in-Refused : goal.returns-in-Refused
+pub returns-in-Err : goal.returns-in-Err
 unfolding number_shown
-returns-in-Refused c = rw c.in-Refused.is (answered _ _ _ _ (omega arith) c.pack.ensures refl)
+returns-in-Err c = rw c.in-Err.is (answered _ _ _ _ (omega arith) c.pack.ensures refl)

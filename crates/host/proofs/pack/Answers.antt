@@ -12,8 +12,8 @@ pub overflow_add-result : goal.overflow_add-result
 overflow_add-result c = omega (arith, c.column_bits-column.ensures, column_bits_most c.args.r.column)
 
 pub overflow_add-result-2 : goal.overflow_add-result-2
-overflow_add-result-2 c = omega (arith, c.wide.ensures, c.column_bits-column.ensures, column_bits_most c.args.r.column)
+overflow_add-result-2 c = omega (arith, c.from.ensures, c.column_bits-column.ensures, column_bits_most c.args.r.column)
 
 pub returns : goal.returns
 unfolding word
-returns c = rw (c.wide.ensures, c.column_bits-column.ensures) refl
+returns c = rw (c.from.ensures, c.column_bits-column.ensures) refl

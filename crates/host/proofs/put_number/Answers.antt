@@ -10,4 +10,4 @@ returns c =
     let third = c.put_bytes-3.ensures in
     laid_number _ _ _ _ _ _ _ _ _ _ _ _ first second third
     (c.put_bytes-4.ensures ∙ rw c.scale_bits.ensures refl)
-    (c.put_bytes-5.ensures ∙ rw c.sign_byte.ensures refl)
+    (c.put_bytes-5.ensures ∙ rw c.from.ensures refl)

@@ -1,7 +1,7 @@
 -- `finish`: the size is cast only where it is in range.
-use mathlib.Core.Bool.{true, false}
-use mathlib.Core.Path.{sym}
+use Rattle.std.proofs.Common.{◌≡◌, true, false, refl, sym, ap, ◌∙◌}
 use borrow.Author.Tests.{le-leb, lt-leb, eq-eqb, ne_eqb}
+use Rattle.integer.specs.Spelling.{limit}
 use Rattle.integer.specs.Integer.{end_integer}
 use Rattle.integer.proofs.IntegerLaws.{end_integer_number}
 use Rattle.integer.proofs.finish.Goals as goal
@@ -10,30 +10,16 @@ pub returns-then-s-eq0 : goal.returns-then-s-eq0
 unfolding end_integer
 returns-then-s-eq0 c = simp (eq-eqb _ _ c.if-s-eq0.true)
 
-pub returns-then-s-le2147483648 : goal.returns-then-s-le2147483648
-returns-then-s-le2147483648 c =
-    sym
-    (end_integer_number _ true true c.if-s-eq2.true c.if-s.true
-    (le-leb _ _ c.if-s-le2147483648.true))
+pub returns-then-s-ne2 : goal.returns-then-s-ne2
+unfolding end_integer
+returns-then-s-ne2 c = simp (ne_eqb _ _ c.if-s-ne2.true, ne_eqb _ _ c.if-s-eq0.false)
 
-pub returns-then-s : goal.returns-then-s
-returns-then-s c =
-    sym
-    (end_integer_number _ true false c.if-s-eq2.true c.if-s.true
-    (lt-leb _ _ c.if-s-le2147483648.false))
-
-pub returns-then-s-le2147483647 : goal.returns-then-s-le2147483647
-returns-then-s-le2147483647 c =
-    sym
-    (end_integer_number _ false true c.if-s-eq2.true c.if-s.false
-    (le-leb _ _ c.if-s-le2147483647.true))
-
-pub returns-then-s-eq2 : goal.returns-then-s-eq2
-returns-then-s-eq2 c =
-    sym
-    (end_integer_number _ false false c.if-s-eq2.true c.if-s.false
-    (lt-leb _ _ c.if-s-le2147483647.false))
+pub returns-then-limit-s : goal.returns-then-limit-s
+returns-then-limit-s c =
+    let top : c.if-s.limit ≡ limit c.args.s.minus = elim c.if-s.branch [ goal.then-s w ↦ w.limit-is ∙ ap limit (sym w.if-s.true) | goal.else-s w ↦ w.limit-is ∙ ap limit (sym w.if-s.false) ] in
+    sym (end_integer_number c.args.s c.args.s.minus false c.if-s-ne2.false refl (lt-leb _ _ (rw top at c.if-limit-s.true)))
 
 pub returns : goal.returns
-unfolding end_integer
-returns c = simp (ne_eqb _ _ c.if-s-eq2.false, ne_eqb _ _ c.if-s-eq0.false)
+returns c =
+    let top : c.if-s.limit ≡ limit c.args.s.minus = elim c.if-s.branch [ goal.then-s w ↦ w.limit-is ∙ ap limit (sym w.if-s.true) | goal.else-s w ↦ w.limit-is ∙ ap limit (sym w.if-s.false) ] in
+    sym (end_integer_number c.args.s c.args.s.minus true c.if-s-ne2.false refl (le-leb _ _ (rw top at c.if-limit-s.false)))

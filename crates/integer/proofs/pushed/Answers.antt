@@ -1,16 +1,8 @@
--- `pushed`: a size below 2^32 leaves room for one digit more.
+-- `pushed`: a size of at most 2^32 leaves room for one digit more.
 use native.Mathlib.Omega.{arith}
 use Rattle.integer.specs.Integer.{push}
 use Rattle.integer.proofs.pushed.Goals as goal
 
-pub returns-then-m-ge4294967296 : goal.returns-then-m-ge4294967296
-unfolding push
-returns-then-m-ge4294967296 c = omega arith
-
-pub returns-then-size-lt4294967296 : goal.returns-then-size-lt4294967296
-unfolding push
-returns-then-size-lt4294967296 c = omega arith
-
 pub returns : goal.returns
 unfolding push
-returns c = omega arith
+returns c = omega (arith, c.min.ensures, c.min-2.ensures)

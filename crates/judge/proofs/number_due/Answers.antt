@@ -1,15 +1,11 @@
 -- `judge::number_due` meets its contract.
-use native.Mathlib.Omega.{arith}
+use Rattle.std.specs.Prelude.{◌≡◌}
+use Rattle.std.proofs.Common.{rules}
+use Rattle.walk.specs.declared.Place.TheVariants.{Number}
+use Rattle.judge.specs.PlainLaws.{plain_number_due}
 use Rattle.judge.proofs.number_due.Goals as goal
 
-pub returns-in-Number : goal.returns-in-Number
-returns-in-Number c h = (c.in-Number.is, c.plain_number.ensures h)
-
-pub returns-in-Outside : goal.returns-in-Outside
-returns-in-Outside c h = absurd (omega arith)
-
-pub returns-in-Plain : goal.returns-in-Plain
-returns-in-Plain c h = absurd (omega arith)
-
-pub returns-in-Typed : goal.returns-in-Typed
-returns-in-Typed c h = absurd (omega arith)
+pub returns : goal.returns
+returns c =
+    let due : c.args.s.place ≡ Number = search rules in
+    rw (c.positive.ensures, c.integer_field.ensures) (plain_number_due c.args.s _ due c.if-columns-ne6.false)

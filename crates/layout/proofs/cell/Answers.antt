@@ -1,15 +1,13 @@
 -- `layout::cell` meets its contract.
-use mathlib.Core.Path.{refl, sym, ◌∙◌}
+use Rattle.std.proofs.Common.{◌≡◌, [], get_or, refl, ◌∙◌, rules}
+use Rattle.std.proofs.lemmas.Option.{gets}
+use Rattle.layout.specs.declared.TheConstants.{LAYOUTS}
 use Rattle.layout.specs.Layout.{cell_of, layout_of, layouts, fields_of, values_of}
-use Rattle.layout.specs.LayoutLaws.{cell_of_case_past, cell_of_place_past, table_cell}
+use Rattle.layout.specs.LayoutLaws.{table_number}
 use Rattle.layout.proofs.cell.Goals as goal
-
-pub returns-then-case-ge8 : goal.returns-then-case-ge8
-returns-then-case-ge8 c = sym (cell_of_case_past _ _ c.if-case-ge8.true)
-
-pub returns-then-place-ge8 : goal.returns-then-place-ge8
-returns-then-place-ge8 c = sym (cell_of_place_past _ _ c.if-place-ge8.true)
 
 pub returns : goal.returns
 unfolding cell_of layout_of layouts fields_of values_of
-returns c = c.index.ensures ∙ table_cell _ _ _ _ refl c.if-case-ge8.false c.if-place-ge8.false
+returns c =
+    let found : c.map_or.result ≡ get_or (get_or LAYOUTS c.args.case []) c.args.place 0 = search (rules, gets) in
+    found ∙ table_number LAYOUTS _ _ refl

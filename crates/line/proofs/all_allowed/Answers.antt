@@ -1,17 +1,13 @@
-use mathlib.Core.Path.{refl, sym, ◌∙◌}
+-- `line::all_allowed` meets its contract.
+use Rattle.std.specs.Prelude.{Bool, true, ◌&&◌, ℕ}
+use Rattle.std.proofs.Common.{rules, ◌∙◌}
+use Rattle.std.proofs.lemmas.Iterator.{YieldsList-from_slice}
+use Rattle.std.proofs.lemmas.Iterator.Consumers.{fold_from_yields_List}
 use Rattle.line.specs.Line.{is_allowed}
-use Rattle.line.specs.LineLaws.{all_allowed_next, all_allowed_end}
-use borrow.Author.Rules.{rules}
+use Rattle.line.specs.LineLaws.{all_allowed_fold}
 use Rattle.line.proofs.all_allowed.Goals as goal
 
-pub loop-i-init : goal.loop-i-init
-loop-i-init c = record { within = search rules; same = refl }
-
-pub loop-i-preserved : goal.loop-i-preserved
-unfolding is_allowed
-loop-i-preserved c =
-    let next = all_allowed_next c.loop-i.fine c.args.s.now c.loop-i.i c.loop-i-test.true in
-    record { within = search rules; same = next ∙ c.loop-i.invariant.same }
-
 pub returns : goal.returns
-returns c = sym (all_allowed_end c.loop-i.fine c.args.s.now c.loop-i.i c.loop-i-test.false) ∙ c.loop-i.invariant.same
+returns c =
+    fold_from_yields_List _ (λ (fine : Bool) (b : ℕ). fine && is_allowed b) true c.fold.result c.fold.ensures.ran (YieldsList-from_slice c.args.s.now cc) (λ a x b q k. search rules)
+    ∙ all_allowed_fold c.args.s.now

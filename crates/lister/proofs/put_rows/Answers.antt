@@ -18,8 +18,8 @@ laid_next : {file rows₀ rows : List ℕ} {i lines at : ℕ} (l : Listed) → L
     → l ≡ listed_first (remaining file lines at) → Next file lines at l
 laid_next l inv h e = next_set _ _ _ l inv.within inv.few inv.complete (omega (arith, inv.left)) e
 
-pub loop-i-init : goal.loop-i-init
-loop-i-init c =
+pub loop-k-init : goal.loop-k-init
+loop-k-init c =
     let file = c.args.file.now in
     record {
       within = omega arith;
@@ -33,41 +33,36 @@ loop-i-init c =
 
 pub next_listed-l-requires : goal.next_listed-l-requires
 next_listed-l-requires c =
-    let inv = c.loop-i.invariant in
-    (inv.within, (inv.few, (inv.complete, omega (arith, c.loop-i-test.true, c.requires.1.0, inv.left))))
+    let inv = c.loop-k.invariant in
+    (inv.within, (inv.few, (inv.complete, omega (arith, c.loop-k-test.true, c.requires.1.0, inv.left))))
 
 pub overflow_add-past : goal.overflow_add-past
-overflow_add-past c = omega (arith, c.loop-i-test.true, c.requires.1.1.1)
+overflow_add-past c = omega (arith, c.loop-k-test.true, c.requires.1.1.1)
 
 pub slice_bounds-put_row-end : goal.slice_bounds-put_row-end
 slice_bounds-put_row-end c =
-    let inv = c.loop-i.invariant in
-    omega (arith, c.loop-i-test.true, c.requires.1.1.1, c.requires.1.0, inv.left, inv.same)
+    let inv = c.loop-k.invariant in
+    omega (arith, c.loop-k-test.true, c.requires.1.1.1, c.requires.1.0, inv.left, inv.same)
 
 pub put_row-requires : goal.put_row-requires
 put_row-requires c =
-    let inv = c.loop-i.invariant in
-    let more : c.loop-i.i < row_numbers * length (parts_of c.args.file.now) = omega (arith, c.loop-i-test.true, c.requires.1.0) in
+    let inv = c.loop-k.invariant in
+    let more : row_numbers * c.loop-k.k < row_numbers * length (parts_of c.args.file.now) = omega (arith, c.loop-k-test.true, c.requires.1.0) in
     let next = laid_next _ inv more c.next_listed-l.ensures in
-    let room : c.loop-i.i + row_numbers ≤ length c.loop-i.rows = omega (arith, c.loop-i-test.true, c.requires.1.1.1, c.requires.1.0, inv.left, inv.same) in
-    (row_length c.loop-i.rows c.loop-i.i room, next_small 16777216 c.requires.0 inv.few next)
+    let room : row_numbers * c.loop-k.k + row_numbers ≤ length c.loop-k.rows = omega (arith, c.loop-k-test.true, c.requires.1.1.1, c.requires.1.0, inv.left, inv.same) in
+    (row_length c.loop-k.rows (row_numbers * c.loop-k.k) room, next_small 16777216 c.requires.0 inv.few next)
 
-pub loop-i-smaller : goal.loop-i-smaller
-loop-i-smaller c =
-    let more : c.loop-i.i < row_numbers * length (parts_of c.args.file.now) = omega (arith, c.loop-i-test.true, c.requires.1.0) in
-    let next = laid_next _ c.loop-i.invariant more c.next_listed-l.ensures in
-    omega (arith, next.onward, next.within)
-
-pub loop-i-preserved : goal.loop-i-preserved
-loop-i-preserved c =
-    let inv = c.loop-i.invariant in
-    let more : c.loop-i.i < row_numbers * length (parts_of c.args.file.now) = omega (arith, c.loop-i-test.true, c.requires.1.0) in
+pub loop-k-preserved : goal.loop-k-preserved
+loop-k-preserved c =
+    let inv = c.loop-k.invariant in
+    let more : row_numbers * c.loop-k.k < row_numbers * length (parts_of c.args.file.now) = omega (arith, c.loop-k-test.true, c.requires.1.0) in
     let next = laid_next _ inv more c.next_listed-l.ensures in
     let row = c.put_row.ensures in
-    let i : ℕ = c.loop-i.i in
-    let rows : List ℕ = c.loop-i.rows in
-    let room : c.loop-i.i + row_numbers ≤ length c.loop-i.rows = omega (arith, c.loop-i-test.true, c.requires.1.1.1, c.requires.1.0, inv.left, inv.same) in
-    record {
+    let i : ℕ = row_numbers * c.loop-k.k in
+    let z : row_numbers * (c.loop-k.k + 1) ≡ i + row_numbers = omega arith in
+    let rows : List ℕ = c.loop-k.rows in
+    let room : row_numbers * c.loop-k.k + row_numbers ≤ length c.loop-k.rows = omega (arith, c.loop-k-test.true, c.requires.1.1.1, c.requires.1.0, inv.left, inv.same) in
+    rw z (record {
       within = next.within;
       few = next.lines;
       complete = rw next.rest at next.complete;
@@ -75,12 +70,12 @@ loop-i-preserved c =
       left = rows_left_lem i next ∙ inv.left;
       laid = rows_turn _ _ _ _ _ _ _ next room row ∙ inv.laid;
       kept = rows_kept _ _ _ _ _ _ _ next room row _ inv.kept;
-    }
+    })
 
 pub shape_of-rows : goal.shape_of-rows
-shape_of-rows c = c.loop-i.invariant.same
+shape_of-rows c = c.loop-k.invariant.same
 
 pub returns : goal.returns
 returns c =
-    let inv = c.loop-i.invariant in
-    rows_done _ _ _ _ _ _ (omega (arith, c.loop-i-test.false, c.requires.1.0)) inv.left inv.laid inv.kept
+    let inv = c.loop-k.invariant in
+    rows_done _ _ _ _ _ _ (omega (arith, c.loop-k-test.false, c.requires.1.0)) inv.left inv.laid inv.kept

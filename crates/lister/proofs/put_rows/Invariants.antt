@@ -1,7 +1,7 @@
 -- `lister::put_rows` meets its contract.
 use mathlib.Core.Path.{◌≡◌}
 use mathlib.Core.List.{List, ◌++◌}
-use Prim.Native.Nat.{ℕ, ◌≤◌, ◌-◌, ◌+◌, ◌*◌}
+use Prim.Native.Nat.{ℕ, ◌≤◌, ◌+◌, ◌*◌}
 use lib.ListN.{length, take, drop}
 use Rattle.parts.specs.Parts.{parts_of}
 use Rattle.parts.specs.Set.{remaining}
@@ -19,8 +19,5 @@ pub record Laid (file rows₀ rows : List ℕ) (i lines at : ℕ) : Type 0 where
   pub laid : take i rows ++ rows_of (remaining file lines at) ≡ rows_of (parts_of file)
   pub kept : drop i rows ≡ drop i rows₀
 
-abbrev pub invariant-loop-i : goal.invariant-loop-i
-invariant-loop-i l = Laid l.file l.initial.rows l.rows l.i l.lines l.at
-
-abbrev pub decreases-loop-i : goal.decreases-loop-i
-decreases-loop-i l = length l.file - l.at
+abbrev pub invariant-loop-k : goal.invariant-loop-k
+invariant-loop-k l = Laid l.file l.initial.rows l.rows (row_numbers * l.k) l.lines l.at

@@ -1,26 +1,18 @@
 use native.Mathlib.Omega.{arith}
-use Rattle.parts.specs.MarkLaws.{ends_here, ends_not, ends_none}
-use borrow.Author.Rules.{rules}
+use Rattle.parts.specs.MarkLaws.{ends_byte, byte_most, ends_none}
 use Rattle.parts.proofs.ends_in.Goals as goal
-use Rattle.parts.proofs.ends_in.Goals.{then-bytes-i-eq10, else-bytes-i-eq10}
 
-pub loop-i-init : goal.loop-i-init
-loop-i-init c = record { within = search rules; most = search rules; same = omega arith }
+pub overflow_add-ends : goal.overflow_add-ends
+overflow_add-ends c = omega (arith, c.loop-b.invariant.most, c.loop-b-test.true, c.requires, byte_most _ _ c.from-ends.ensures)
 
-pub loop-i-preserved : goal.loop-i-preserved
-loop-i-preserved c =
-    let a = c.args.bytes.now in
-    let i = c.loop-i.i in
-    let inv = c.loop-i.invariant in
-    let more = c.loop-i-test.true in
-    elim c.if-bytes-i-eq10.branch [
-      | then-bytes-i-eq10 w ↦
-          record { within = omega arith; most = omega arith; same = omega (arith, ends_here a i more w.if-bytes-i-eq10.true, inv.same) }
-      | else-bytes-i-eq10 w ↦
-          record { within = omega arith; most = omega arith; same = omega (arith, ends_not a i more w.if-bytes-i-eq10.false, inv.same) }
-    ]
+pub loop-b-preserved : goal.loop-b-preserved
+loop-b-preserved c =
+    let inv = c.loop-b.invariant in
+    let is = c.from-ends.ensures in
+    record {
+      most = omega (arith, inv.most, byte_most _ _ is);
+      same = omega (arith, inv.same, is, ends_byte c.args.bytes.now c.loop-b.b-index c.loop-b-test.true);
+    }
 
 pub returns : goal.returns
-returns c =
-    let a = c.args.bytes.now in
-    omega (arith, ends_none a c.loop-i.i c.loop-i-test.false, c.loop-i.invariant.same)
+returns c = omega (arith, ends_none c.args.bytes.now c.loop-b.b-index c.loop-b-test.false, c.loop-b.invariant.same)

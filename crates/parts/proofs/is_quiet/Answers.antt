@@ -1,18 +1,16 @@
-use mathlib.Core.Path.{refl, sym, ◌∙◌}
+use mathlib.Core.Path.{◌∙◌}
+use mathlib.Core.Logic.{inl, inr}
 use Rattle.parts.specs.MarkLaws.{quiet_next, quiet_end}
-use borrow.Author.Rules.{rules}
 use Rattle.parts.proofs.is_quiet.Goals as goal
 
-pub loop-i-init : goal.loop-i-init
-loop-i-init c = record { within = search rules; same = refl }
-
-pub loop-i-preserved : goal.loop-i-preserved
-loop-i-preserved c =
-    let a = c.args.bytes.now in
-    let next = quiet_next c.loop-i.none a c.args.later.now c.loop-i.i c.loop-i-test.true c.requires in
-    record { within = search rules; same = next ∙ c.loop-i.invariant.same }
+pub loop-b-preserved : goal.loop-b-preserved
+loop-b-preserved c =
+    let steps = c.in-Some.ensures.steps in
+    quiet_next c.loop-b.none _ _ _ _ _ _ steps.0 steps.1 ∙ c.loop-b.invariant
 
 pub returns : goal.returns
 returns c =
-    sym (quiet_end c.loop-i.none c.args.bytes.now c.args.later.now c.loop-i.i c.loop-i-test.false)
-    ∙ c.loop-i.invariant.same
+    elim c.in-None.ensures.steps [
+      | inl s ↦ quiet_end c.loop-b.none _ _ (inl s.1.0) ∙ c.loop-b.invariant
+      | inr s ↦ quiet_end c.loop-b.none _ _ (inr s.1.0) ∙ c.loop-b.invariant
+    ]

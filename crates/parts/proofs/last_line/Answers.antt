@@ -1,9 +1,11 @@
 use mathlib.Core.Path.{◌≡◌, refl}
-use mathlib.Core.Logic.{⊎_elim}
-use Prim.Native.Nat.{◌≤◌, ◌<◌, ◌-◌}
+use mathlib.Core.List.{List}
+use Prim.Native.Nat.{ℕ, ◌<◌, ◌-◌}
+use lib.ListN.{length, get_or, take, drop}
 use native.Mathlib.Omega.{arith}
-use Rattle.laws.specs.ChoiceLaws.{below_or_not}
-use borrow.Author.Rules.{rules}
+use Rattle.std.proofs.Common.{rules}
+use Rattle.std.proofs.iter.runs.Made.{chains}
+use Rattle.parts.specs.MarkLaws.{last_found, last_none}
 use Rattle.parts.proofs.last_line.Goals as goal
 
 pub returns-then-closing-from : goal.returns-then-closing-from
@@ -16,38 +18,17 @@ returns-then-closing-from c =
       whole = λ k a b e. omega arith;
     }
 
-pub loop-at-init : goal.loop-at-init
-loop-at-init c = record { onward = search rules; before = search rules; whole = λ k a b e. omega arith }
+pub returns-in-Some : goal.returns-in-Some
+returns-in-Some c =
+    let k : ℕ = c.in-Some.k in
+    let s : List ℕ = take (c.args.closing - 1 - c.args.from) (drop c.args.from c.args.file.now) in
+    let inside : k < length s = search (rules, chains) in
+    let here : get_or s k 0 ≡ 10 = search (rules, chains) in
+    let after : (j : ℕ) → k < j → j < length s → get_or s j 0 ≡ 10 → ⊥ = λ j a b. search (rules, chains) in
+    last_found c.args.file.now c.args.from c.args.closing c.if-closing-from.false c.requires.1 k inside here after
 
-pub returns-then-file-before-eq10 : goal.returns-then-file-before-eq10
-returns-then-file-before-eq10 c =
-    let inv = c.loop-at.invariant in
-    record {
-      onward = inv.onward;
-      before = λ h. inv.before;
-      none = λ h. omega arith;
-      starts = λ h. c.if-file-before-eq10.true;
-      whole = inv.whole;
-    }
-
-pub loop-at-preserved : goal.loop-at-preserved
-loop-at-preserved c =
-    let inv = c.loop-at.invariant in
-    let at = c.loop-at.at in
-    let file = c.args.file.now in
-    record {
-      onward = search rules;
-      before = search rules;
-      whole = λ k a b e. ⊎_elim (λ (h : k < at). let z : k ≡ at - 1 = omega arith in c.if-file-before-eq10.false (rw z at e)) (λ (h : at ≤ k). inv.whole k h b e) (below_or_not k at);
-    }
-
-pub returns : goal.returns
-returns c =
-    let inv = c.loop-at.invariant in
-    record {
-      onward = inv.onward;
-      before = λ h. inv.before;
-      none = λ h. omega arith;
-      starts = λ h. omega arith;
-      whole = inv.whole;
-    }
+pub returns-in-None : goal.returns-in-None
+returns-in-None c =
+    let s : List ℕ = take (c.args.closing - 1 - c.args.from) (drop c.args.from c.args.file.now) in
+    let none : (j : ℕ) → j < length s → get_or s j 0 ≡ 10 → ⊥ = λ j a. search (rules, chains) in
+    last_none c.args.file.now c.args.from c.args.closing c.if-closing-from.false c.requires.1 none

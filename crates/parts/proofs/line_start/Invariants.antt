@@ -10,11 +10,7 @@ use Rattle.parts.proofs.line_start.Given as goal
 -- i lines are skipped, the next begins at the byte at
 pub record Skipped (file : List ℕ) (from closing k at i : ℕ) : Type 0 where
   pub within : at ≤ length file
-  pub few : i ≤ k
   pub same : skip_to (k - i) closing at (cut (drop at file)).lines ≡ skip_to k closing from (cut (drop from file)).lines
 
-abbrev pub invariant-loop-i : goal.invariant-loop-i
-invariant-loop-i l = Skipped l.file l.from l.closing l.k l.at l.i
-
-abbrev pub decreases-loop-i : goal.decreases-loop-i
-decreases-loop-i l = l.k - l.i
+abbrev pub invariant-loop : goal.invariant-loop
+invariant-loop l = Skipped l.file l.from l.closing l.k l.at l.counter

@@ -1,7 +1,6 @@
 -- `parts::put_line` meets its contract.
 use native.Mathlib.Omega.{arith}
 use mathlib.Core.Path.{◌∙◌}
-use native.Mathlib.Omega.{arith}
 use Rattle.line.specs.LineLaws.{line_len_within}
 use Rattle.parts.specs.SetLaws.{columns_at_none, columns_at_line}
 use borrow.Author.Rules.{rules}

@@ -1,31 +1,18 @@
-use mathlib.Core.Path.{◌∙◌}
-use Prim.Native.Nat.{◌+◌, ◌≤◌}
+use mathlib.Core.Path.{ap, ◌∙◌}
 use native.Mathlib.Omega.{arith}
-use lib.ListN.{length}
-use Rattle.parts.specs.SkipLaws.{skipped_start, skipped_block}
-use Rattle.parts.specs.MarkLaws.{part_length}
+use Rattle.parts.specs.Mark.{ends_in}
+use Rattle.parts.specs.SkipLaws.{skipped_block}
+use Rattle.parts.specs.MarkLaws.{block_next}
 use Rattle.parts.proofs.skip_blocks.Goals as goal
 
-pub returns-then-file-lt64 : goal.returns-then-file-lt64
-returns-then-file-lt64 c = skipped_start _ _ _ c.requires
-
-pub loop-at-init : goal.loop-at-init
-loop-at-init c = skipped_start _ _ _ c.requires
-
-pub ends_in-requires : goal.ends_in-requires
-ends_in-requires c =
-    let file = c.args.file.now in
-    let room : c.loop-at.at + 64 ≤ length file = omega (arith, c.loop-at-test.true, c.if-file-lt64.false) in
-    omega (arith, part_length file c.loop-at.at 64 room)
-
-pub returns-then-left-ends : goal.returns-then-left-ends
-returns-then-left-ends c = c.loop-at.invariant
-
-pub loop-at-preserved : goal.loop-at-preserved
-loop-at-preserved c =
-    let file = c.args.file.now in
-    let room : c.loop-at.at + 64 ≤ length file = omega (arith, c.loop-at-test.true, c.if-file-lt64.false) in
-    skipped_block file _ _ _ _ c.loop-at.invariant 64 _ room (c.index-ends.ensures ∙ c.ends_in.ensures) c.if-left-ends.false
-
-pub returns : goal.returns
-returns c = c.loop-at.invariant
+pub loop-block-preserved : goal.loop-block-preserved
+loop-block-preserved c =
+    let inv = c.loop-block.invariant in
+    let steps = c.in-Some.ensures.steps in
+    let block = block_next c.args.file.now c.loop-block.at _ _ (inv.rest ∙ steps.1.0) (steps.1.1 ∙ inv.size) in
+    let ends = c.from-ends.ensures ∙ c.ends_in.ensures ∙ ap ends_in block.0 in
+    record {
+      skipped = skipped_block _ _ _ _ _ inv.skipped 64 _ block.1.1 ends c.if-left-ends.false;
+      size = steps.0 ∙ inv.size;
+      rest = block.1.0;
+    }

@@ -1,12 +1,12 @@
 -- `reader::one` meets its contract.
-use mathlib.Core.Path.{◌∙◌, refl}
+use Rattle.std.proofs.Common.{sym, refl, ◌∙◌}
 use Rattle.reader.specs.Reader.{whole}
+use Rattle.reader.specs.RepliedLaws.{replied_value, replied_refusal, returned}
 use Rattle.reader.proofs.one.Goals as goal
 
-pub returns-in-Value : goal.returns-in-Value
-unfolding whole
-returns-in-Value c = rw c.in-Value.is refl
+pub returns-in_err-x : goal.returns-in_err-x
+returns-in_err-x c = returned _ c.from_residual.ensures.1 ∙ replied_refusal c.args.a _ _ _ (sym c.replied.ensures ∙ c.in_err-x.was)
 
-pub returns-in-Refused : goal.returns-in-Refused
+pub returns : goal.returns
 unfolding whole
-returns-in-Refused c = c.refuse.ensures ∙ rw c.in-Refused.is refl
+returns c = rw (replied_value c.args.a (sym c.replied.ensures ∙ c.in_ok-x.was)) refl

@@ -1,20 +1,17 @@
 -- `reader::read_of` meets its contract.
-use mathlib.Core.Path.{refl, sym}
-use Rattle.reader.specs.Reader.{read_of}
+use Rattle.std.specs.Prelude.{◌≡◌, refl, Option, Some, None, Float, ok_or}
+use Rattle.std.proofs.Common.{◌∙◌}
+use Rattle.reader.specs.Reader.{on_exact, read_of}
 use Rattle.reader.proofs.read_of.Goals as goal
 
-pub returns-in-Value-exact_f64 : goal.returns-in-Value-exact_f64
+pub returns-in_default : goal.returns-in_default
 unfolding read_of
-returns-in-Value-exact_f64 c = rw (c.in-Value.is, sym c.exact_f64.ensures, c.in-Value-exact_f64.is) refl
+returns-in_default c = rw c.in_default.is refl
 
-pub returns-in-Outside : goal.returns-in-Outside
-unfolding read_of
-returns-in-Outside c = rw (c.in-Value.is, sym c.exact_f64.ensures, c.in-Outside.is) refl
+outside : (y : Option Float) → ok_or y 21 ≡ on_exact y
+outside (Some x) = refl
+outside None = refl
 
-pub returns-in-Blank : goal.returns-in-Blank
+pub returns : goal.returns
 unfolding read_of
-returns-in-Blank c = rw c.in-Blank.is refl
-
-pub returns-in-Malformed : goal.returns-in-Malformed
-unfolding read_of
-returns-in-Malformed c = rw c.in-Malformed.is refl
+returns c = c.ok_or.ensures.value ∙ rw (c.exact_f64.ensures, c.in-Ok.is) (outside _)

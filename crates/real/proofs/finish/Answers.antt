@@ -22,10 +22,10 @@ unfolding real_end
 returns-then-s-gt999 c = simp (lt-ltb _ _ c.if-s-gt999.true, le-ltb _ _ c.if-s-gt8.false, le-ltb _ _ c.if-s-lt7.false, ne_eqb _ _ c.if-s-eq0.false)
 
 pub returns-then-s : goal.returns-then-s
-returns-then-s c = c.scaled.ensures ∙ sym (real_end_minus _ c.if-s-lt7.false c.if-s-gt8.false c.if-s-gt999.false c.if-s.true)
+returns-then-s c = rw c.from-f.ensures at c.scaled.ensures ∙ sym (real_end_minus _ c.if-s-lt7.false c.if-s-gt8.false c.if-s-gt999.false c.if-s.true)
 
 pub returns-then-x-f : goal.returns-then-x-f
-returns-then-x-f c = c.scaled-then-x-f.ensures ∙ sym (real_end_less _ c.if-s-lt7.false c.if-s-gt8.false c.if-s-gt999.false c.if-s.false c.if-x-f.true)
+returns-then-x-f c = rw c.from-f.ensures at c.scaled-then-x-f.ensures ∙ sym (real_end_less _ c.if-s-lt7.false c.if-s-gt8.false c.if-s-gt999.false c.if-s.false (rw c.from-f.ensures at c.if-x-f.true))
 
 pub returns : goal.returns
-returns c = c.scaled-2.ensures ∙ sym (real_end_rest _ c.if-s-lt7.false c.if-s-gt8.false c.if-s-gt999.false c.if-s.false c.if-x-f.false)
+returns c = rw c.from-f.ensures at c.scaled-2.ensures ∙ sym (real_end_rest _ c.if-s-lt7.false c.if-s-gt8.false c.if-s-gt999.false c.if-s.false (rw c.from-f.ensures at c.if-x-f.false))

@@ -5,7 +5,7 @@ use Rattle.real.proofs.push_coefficient.Goals as goal
 
 pub returns-then-m-lt-NO_COEFFICIENT : goal.returns-then-m-lt-NO_COEFFICIENT
 unfolding push
-returns-then-m-lt-NO_COEFFICIENT c = simp (c.wide.ensures, lt-ltb _ _ c.if-m-lt-NO_COEFFICIENT.true)
+returns-then-m-lt-NO_COEFFICIENT c = simp (c.from.ensures, lt-ltb _ _ c.if-m-lt-NO_COEFFICIENT.true)
 
 pub returns : goal.returns
 unfolding push

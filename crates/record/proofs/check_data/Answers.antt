@@ -6,6 +6,7 @@ use native.Mathlib.Omega.{arith}
 use lib.ListN.{take, length-take}
 use lib.Seq.{length-take-le}
 use Rattle.record_table.specs.Row.{Field}
+use Rattle.line.specs.Line.{verdict}
 use Rattle.record.specs.Check.{fields_refusal}
 use Rattle.record.specs.CheckLaws.{field_list_take, total_take}
 use Rattle.record.specs.ConditionLaws.{data_six, data_fields, data_fits}
@@ -20,7 +21,7 @@ returns-then-fields-ge6 c =
     let args = c.args in
     let full = data_fields _ _ c.line_widths-widths.ensures in
     c.check_columns.ensures
-    ∙ ap (λ (fs : List Field). fields_refusal fs args.line.now) (full ∙ sym (data_due_all args.case args.fields args.line.now c.if-fields-ge6.true))
+    ∙ ap (λ (fs : List Field). verdict (fields_refusal fs args.line.now)) (full ∙ sym (data_due_all args.case args.fields args.line.now c.if-fields-ge6.true))
 
 pub slice_bounds-check_columns-end-then-is_unpadded-2 : goal.slice_bounds-check_columns-end-then-is_unpadded-2
 slice_bounds-check_columns-end-then-is_unpadded-2 c = sym (length-take-le _ _ (omega (arith, data_six _ _ c.line_widths-widths.ensures)))
@@ -37,7 +38,7 @@ returns-then-is_unpadded c =
     let full = data_fields _ _ c.line_widths-widths.ensures in
     let blank = sym c.is_unpadded.ensures ∙ c.if-is_unpadded.true in
     c.check_columns-then-is_unpadded.ensures
-    ∙ ap (λ (fs : List Field). fields_refusal fs args.line.now)
+    ∙ ap (λ (fs : List Field). verdict (fields_refusal fs args.line.now))
     (field_list_take _ _ args.fields ∙ ap (take args.fields) full ∙ sym (data_blank args.case args.fields args.line.now blank))
 
 pub check_columns-requires-2 : goal.check_columns-requires-2
@@ -49,4 +50,4 @@ returns c =
     let full = data_fields _ _ c.line_widths-widths.ensures in
     let filled = sym c.is_unpadded.ensures ∙ c.if-is_unpadded.false in
     c.check_columns-2.ensures
-    ∙ ap (λ (fs : List Field). fields_refusal fs args.line.now) (full ∙ sym (data_filled args.case args.fields args.line.now filled))
+    ∙ ap (λ (fs : List Field). verdict (fields_refusal fs args.line.now)) (full ∙ sym (data_filled args.case args.fields args.line.now filled))

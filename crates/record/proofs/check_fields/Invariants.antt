@@ -1,12 +1,8 @@
 -- `record::check_fields` meets its contract.
+use Rattle.std.specs.Prelude.{length}
 use Rattle.record.specs.Going.{Going}
-use Prim.Native.Nat.{◌-◌}
-use lib.ListN.{length}
-use Rattle.record.specs.Check.{fields_fault}
+use Rattle.record.specs.Overlooked.{fault_but}
 use Rattle.record.proofs.check_fields.Given as goal
 
-abbrev pub invariant-loop-k : goal.invariant-loop-k
-invariant-loop-k l = Going fields_fault l.line l.forms l.widths l.at l.k
-
-abbrev pub decreases-loop-k : goal.decreases-loop-k
-decreases-loop-k l = length l.widths - l.k
+abbrev pub invariant-loop-form : goal.invariant-loop-form
+invariant-loop-form l = Going (fault_but l.overlooked) l.line l.forms l.widths l.at (length l.yielded)

@@ -11,9 +11,6 @@ use Rattle.record.proofs.check_list.Goals as goal
 pub returns-then-fields-ge12 : goal.returns-then-fields-ge12
 returns-then-fields-ge12 c = c.check_whole.ensures ∙ rw (fields_all _ _ c.if-fields-ge12.true) refl
 
-pub slice_bounds-widths-end : goal.slice_bounds-widths-end
-slice_bounds-widths-end c = omega (arith, c.row_numbers-numbers.ensures.widths_all)
-
 pub slice_bounds-check_columns-end-2 : goal.slice_bounds-check_columns-end-2
 slice_bounds-check_columns-end-2 c = sym (length-take-le _ _ (omega (arith, c.row_numbers-numbers.ensures.widths_all)))
 

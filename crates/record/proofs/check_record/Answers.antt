@@ -1,11 +1,15 @@
 -- `record::check_record` meets its contract.
-use mathlib.Core.Path.{sym, ◌∙◌}
-use Rattle.record.specs.CheckLaws.{row_refusal_fields, row_refusal_condition}
+use Rattle.std.proofs.Common.{sym, ◌∙◌, ap}
+use Rattle.std.proofs.lemmas.Result.{err_from_is_err_and}
+use Rattle.line.specs.Line.{verdict}
+use Rattle.record.specs.CheckLaws.{refused_whole, passed_whole}
 use Rattle.record.specs.TakenLaws.{taken_record}
 use Rattle.record.proofs.check_record.Goals as goal
 
-pub returns-then-found-gt0 : goal.returns-then-found-gt0
-returns-then-found-gt0 c = sym (row_refusal_fields _ _ (taken_record _ _) _ c.check_whole-found.ensures c.if-found-gt0.true)
+pub returns-in_err-check_whole : goal.returns-in_err-check_whole
+returns-in_err-check_whole c =
+    let p = err_from_is_err_and c.from_residual.result c.from_residual.ensures.1 in
+    rw (p.1, p.2) (refused_whole _ _ (taken_record _ _) (sym c.in_err-check_whole.was ∙ c.check_whole.ensures))
 
 pub returns : goal.returns
-returns c = c.check_condition.ensures ∙ sym (row_refusal_condition _ _ (taken_record _ _) _ c.check_whole-found.ensures c.if-found-gt0.false)
+returns c = c.check_condition.ensures ∙ ap verdict (sym (passed_whole _ _ (taken_record _ _) (sym c.in_ok-check_whole.was ∙ c.check_whole.ensures)))

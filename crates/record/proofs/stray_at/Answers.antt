@@ -1,15 +1,11 @@
 -- `record::stray_at` meets its contract.
-use mathlib.Core.Path.{sym, ◌∙◌}
-use Rattle.codes.specs.Form.{forms, form_of}
-use Rattle.record.specs.CheckLaws.{past_width, stray_in_past, stray_in_field}
+use Rattle.std.proofs.Common.{refl, sym, ◌∙◌, ap}
+use Rattle.laws.specs.Choice.{above_zero}
+use Rattle.record.specs.CheckLaws.{past_width, stray_in_skipped, stray_in_owned}
 use Rattle.record.proofs.stray_at.Goals as goal
 
-pub returns-then-form-eq-SKIP : goal.returns-then-form-eq-SKIP
-unfolding form_of forms
-returns-then-form-eq-SKIP c = c.first_byte.ensures ∙ simp (past_width, c.if-form-eq-SKIP.true)
-
-pub returns-then-form-gt-LAST_FORM : goal.returns-then-form-gt-LAST_FORM
-returns-then-form-gt-LAST_FORM c = c.first_byte-then-form-gt-LAST_FORM.ensures ∙ rw past_width (sym (stray_in_past _ _ _ c.if-form-gt-LAST_FORM.true))
+pub returns-then-form : goal.returns-then-form
+returns-then-form c = c.first_byte.ensures ∙ rw past_width (ap above_zero (sym (stray_in_skipped _ _ _ c.if-form.true)))
 
 pub returns : goal.returns
-returns c = sym (stray_in_field _ _ _ c.if-form-eq-SKIP.false c.if-form-gt-LAST_FORM.false)
+returns c = rw (stray_in_owned _ _ _ c.if-form.false) refl

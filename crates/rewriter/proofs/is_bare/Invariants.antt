@@ -1,19 +1,11 @@
 -- `rewriter::is_bare` meets its contract.
 use mathlib.Core.Path.{◌≡◌}
-use mathlib.Core.Bool.{Bool, ◌&&◌}
-use mathlib.Core.List.{List}
-use Prim.Native.Nat.{ℕ, ◌≤◌, ◌-◌}
-use lib.ListN.{length, drop}
+use mathlib.Core.Bool.{◌&&◌}
+use Rattle.std.specs.Iterator.Adapters.{zip_first, zip_second}
+use Rattle.std.specs.Slice.Iter.{iter_rest}
 use Rattle.rewriter.specs.Run.{bare_in}
 use Rattle.rewriter.proofs.is_bare.Given as goal
 
--- what is found in the first i bytes and the bytes left say together whether all are bare
-pub record Going (bytes next : List ℕ) (none : Bool) (i : ℕ) : Type 0 where
-  pub within : i ≤ length bytes
-  pub same : none && bare_in (drop i bytes) (drop i next) ≡ bare_in bytes next
-
-abbrev pub invariant-loop-i : goal.invariant-loop-i
-invariant-loop-i l = Going l.bytes l.next l.none l.i
-
-abbrev pub decreases-loop-i : goal.decreases-loop-i
-decreases-loop-i l = length l.bytes - l.i
+-- what is found in the bytes passed and the bytes left say together whether all are bare
+abbrev pub invariant-loop-b : goal.invariant-loop-b
+invariant-loop-b l = l.none && bare_in (iter_rest (zip_first l.b-iterator)) (iter_rest (zip_second l.b-iterator)) ≡ bare_in l.bytes l.next

@@ -1,32 +1,28 @@
-use mathlib.Core.Path.{sym, ◌∙◌}
-use Prim.Native.Nat.{◌+◌, ◌≤◌}
+use mathlib.Core.Path.{◌≡◌, sym, ◌∙◌}
+use mathlib.Core.List.{List}
+use Prim.Native.Nat.{ℕ, ◌+◌}
 use native.Mathlib.Omega.{arith}
-use lib.ListN.{length}
-use Rattle.parts.specs.MarkLaws.{part_length}
+use lib.ListN.{length, take}
+use lib.Seq.{length-take-le}
+use Rattle.parts.specs.MarkLaws.{block_next}
 use Rattle.rewriter.proofs.RunLaws.{bared_block}
-use borrow.Author.Rules.{rules}
 use Rattle.rewriter.proofs.past_bare.Goals as goal
 
-pub returns-then-closing-lt65 : goal.returns-then-closing-lt65
-returns-then-closing-lt65 c = record { onward = search rules; inside = λ g. absurd (omega arith); bare = λ k a b. absurd (omega arith) }
-
-pub loop-at-init : goal.loop-at-init
-loop-at-init c = record { onward = search rules; inside = λ g. absurd (omega arith); bare = λ k a b. absurd (omega arith) }
-
-pub is_bare-requires : goal.is_bare-requires
-is_bare-requires c =
-    let file = c.args.file.now in
-    let at = c.loop-at.at in
-    let room : at + 65 ≤ length file = omega (arith, c.loop-at-test.true, c.requires) in
-    part_length file (at + 1) 64 (omega arith) ∙ sym (part_length file at 64 (omega arith))
-
-pub returns-then-not-is_bare : goal.returns-then-not-is_bare
-returns-then-not-is_bare c = c.loop-at.invariant
-
-pub loop-at-preserved : goal.loop-at-preserved
-loop-at-preserved c =
+pub loop-block-preserved : goal.loop-block-preserved
+loop-block-preserved c =
+    let at : ℕ = c.loop-block.at in
+    let text : List ℕ = take c.args.closing c.args.file.now in
+    let long : length text ≡ c.args.closing = length-take-le c.args.closing c.args.file.now c.requires in
+    let inv = c.loop-block.invariant in
+    let first = c.in-Some.ensures.steps.0 in
+    let second = c.in-Some.ensures.steps.1 in
+    let block = block_next text at _ _ (inv.rest ∙ first.1.0) (first.1.1 ∙ inv.size) in
+    let later = block_next text (at + 1) _ _ (inv.ahead ∙ second.1.0) (second.1.1 ∙ inv.same) in
     let none = sym c.is_bare.ensures ∙ c.if-not-is_bare.false in
-    bared_block c.args.file.now _ _ _ c.loop-at.invariant (omega (arith, c.loop-at-test.true)) c.requires none
-
-pub returns : goal.returns
-returns c = c.loop-at.invariant
+    record {
+      bared = bared_block c.args.file.now _ _ at inv.bared (omega (arith, later.1.1, long)) c.requires _ _ block.0 later.0 none;
+      size = first.0 ∙ inv.size;
+      same = second.0 ∙ inv.same;
+      rest = block.1.0;
+      ahead = let z : at + 64 + 1 ≡ at + 1 + 64 = omega arith in rw z later.1.0;
+    }

@@ -1,5 +1,7 @@
 -- `stream::ended_outcome` meets its contract.
-use mathlib.Core.Path.{sym}
+use mathlib.Core.Path.{refl, sym, ◌∙◌}
+use Rattle.std.proofs.lemmas.Result.{err_from_is_err_and}
+use Rattle.line.specs.LineLaws.{verdict_ok, verdict_err}
 use lib.ListN.{length-set, length-take}
 use lib.Seq.{length-take-le}
 use native.Mathlib.Omega.{arith}
@@ -15,10 +17,12 @@ slice_bounds-line_fault-end c =
     let most = ended_most c.args.line.now c.args.n _ c.columns_len-m.ensures in
     sym (length-take-le _ _ (omega (arith, most, c.requires)))
 
-pub returns-then-fault-gt0 : goal.returns-then-fault-gt0
-returns-then-fault-gt0 c =
+pub returns-in_err-line_fault : goal.returns-in_err-line_fault
+returns-in_err-line_fault c =
+    let p = err_from_is_err_and c.from_residual.result c.from_residual.ensures.1 in
+    let told = verdict_err _ _ (sym c.in_err-line_fault.was ∙ c.line_fault.ensures) in
     let own = ended_own c.args.state c.args.line.now c.args.n _ c.columns_len-m.ensures in
-    own _ c.line_fault-fault.ensures c.if-fault-gt0.true
+    rw (p.1, p.2, told.0) (own _ refl told.1)
 
 pub bounds-ended-m : goal.bounds-ended-m
 bounds-ended-m c = omega (arith, ended_most c.args.line.now c.args.n _ c.columns_len-m.ensures, c.requires)
@@ -34,23 +38,23 @@ slice_bounds-judge_lines-end c =
     let most = ended_most c.args.line.now c.args.n _ c.columns_len-m.ensures in
     sym (length-take-le _ _ (simp length-set (omega (arith, most, c.requires))))
 
-pub judge_lines-judged-requires : goal.judge_lines-judged-requires
-judge_lines-judged-requires c =
+pub judge_lines-requires : goal.judge_lines-requires
+judge_lines-requires c =
     let most = ended_most c.args.line.now c.args.n _ c.columns_len-m.ensures in
     (search rules, simp length-take (omega (arith, most, c.requires)))
 
-pub returns-then-judged-gt0 : goal.returns-then-judged-gt0
-returns-then-judged-gt0 c =
+pub returns-in-Err : goal.returns-in-Err
+returns-in-Err c =
     let most = ended_most c.args.line.now c.args.n _ c.columns_len-m.ensures in
     let columns = c.columns_len-m.ensures in
-    let fault = c.line_fault-fault.ensures in
-    let judged = ended_refused c.args.state c.args.line.now c.args.n _ columns _ fault c.if-fault-gt0.false in
-    judged (omega (arith, most, c.requires)) _ c.judge_lines-judged.ensures c.if-judged-gt0.true
+    let fine = verdict_ok _ (sym c.in_ok-line_fault.was ∙ c.line_fault.ensures) in
+    let judged = ended_refused c.args.state c.args.line.now c.args.n _ columns _ refl (omega (arith, fine)) in
+    judged (omega (arith, most, c.requires)) _ c.in-Err.ensures.1 c.in-Err.ensures.0
 
-pub returns : goal.returns
-returns c =
+pub returns-in-Ok : goal.returns-in-Ok
+returns-in-Ok c =
     let most = ended_most c.args.line.now c.args.n _ c.columns_len-m.ensures in
     let columns = c.columns_len-m.ensures in
-    let fault = c.line_fault-fault.ensures in
-    let judged = ended_next c.args.state c.args.line.now c.args.n _ columns _ fault c.if-fault-gt0.false in
-    judged (omega (arith, most, c.requires)) _ c.judge_lines-judged.ensures c.if-judged-gt0.false
+    let fine = verdict_ok _ (sym c.in_ok-line_fault.was ∙ c.line_fault.ensures) in
+    let judged = ended_next c.args.state c.args.line.now c.args.n _ columns _ refl (omega (arith, fine)) in
+    judged (omega (arith, most, c.requires)) _ c.in-Ok.ensures (omega arith)

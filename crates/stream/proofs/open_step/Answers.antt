@@ -24,29 +24,30 @@ returns-then-burst-end c =
     let burst : List ℕ = c.args.burst.now in
     let pre = c.requires in
     let ends : c.find_end-end.result ≡ line_len burst = omega (arith, c.find_end-end.ensures) in
-    let found = c.bad_column-column.ensures in (
+    let found = c.bad_column-column.ensures in
+    rw (pre.3, pre.4) (
       burst_still c.args.c burst c.args.total pre.0 pre.1 pre.2 _ ends _ _ c.push.ensures found c.if-burst-end.true,
       burst_still_whole c.args.c burst c.args.total pre.0 pre.1 pre.2 _ ends _ _ c.push.ensures found c.if-burst-end.true,
     )
 
-pub returns-in-Next : goal.returns-in-Next
-returns-in-Next c =
+pub returns-in-Ok : goal.returns-in-Ok
+returns-in-Ok c =
     let burst : List ℕ = c.args.burst.now in
     let pre = c.requires in
     let ends : c.find_end-end.result ≡ line_len burst = omega (arith, c.find_end-end.ensures) in
     let found = c.bad_column-column.ensures in
-    let outcome = sym c.open_outcome.ensures ∙ c.in-Next.is in
+    let outcome = sym c.open_outcome.ensures ∙ c.in-Ok.is in
     let next = burst_next c.args.c burst c.args.total pre.0 pre.1 pre.2 _ ends _ _ c.push.ensures found c.if-burst-end.false _ outcome in
     let whole = burst_next_whole c.args.c burst c.args.total pre.0 pre.1 pre.2 _ ends _ _ c.push.ensures found c.if-burst-end.false _ outcome in
     (c.lines_step.ensures.0 ∙ next, c.lines_step.ensures.1 ∙ whole)
 
-pub returns-in-Refused : goal.returns-in-Refused
-returns-in-Refused c =
+pub returns-in-Err : goal.returns-in-Err
+returns-in-Err c =
     let burst : List ℕ = c.args.burst.now in
     let pre = c.requires in
     let ends : c.find_end-end.result ≡ line_len burst = omega (arith, c.find_end-end.ensures) in
     let found = c.bad_column-column.ensures in
-    let outcome = sym c.open_outcome.ensures ∙ c.in-Refused.is in (
+    let outcome = sym c.open_outcome.ensures ∙ c.in-Err.is in (
       burst_stops c.args.c burst c.args.total pre.0 pre.1 pre.2 _ ends _ _ c.push.ensures found c.if-burst-end.false _ outcome,
       burst_stops_whole c.args.c burst c.args.total pre.0 pre.1 pre.2 _ ends _ _ c.push.ensures found c.if-burst-end.false _ outcome,
     )

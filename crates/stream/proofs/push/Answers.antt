@@ -1,37 +1,24 @@
-use mathlib.Core.Path.{◌≡◌, ◌∙◌}
-use lib.ListN.{length-set}
-use lib.Seq.{paste-zero}
+-- `stream::push` meets its contract.
+use Rattle.std.proofs.Common.{◌≤◌, ◌+◌, ◌-◌, ◌≡◌, ◌++◌, length, take, drop, sym, ap, ◌∙◌, le_refl, take-take, length-take-le}
+use Rattle.std.proofs.lemmas.Slice.{put_mid-paste}
 use native.Mathlib.Omega.{arith}
-use borrow.Author.Rules.{rules}
-use Rattle.stream.specs.StreamLaws.{lay_next, laid_pushed, none_pushed}
+use Rattle.stream.specs.StreamLaws.{laid_pushed, none_pushed}
 use Rattle.stream.proofs.push.Goals as goal
 
 pub returns-then-n-eq0 : goal.returns-then-n-eq0
 returns-then-n-eq0 c = none_pushed _ _ _ c.requires c.if-n-eq0.true
 
-pub loop-i-init : goal.loop-i-init
-loop-i-init c = record { within = search rules; wide = c.requires; pasted = paste-zero c.args.line.now c.least-from.result c.args.bytes.now }
-
-pub loop-i-preserved : goal.loop-i-preserved
-loop-i-preserved c =
-    let inv = c.loop-i.invariant in
-    let more = c.loop-i-test.true in
-    let from = c.least-from.ensures in
-    let count = c.least-count.ensures in
-    let next = lay_next c.args.line.now c.args.held c.args.bytes.now _ from c.requires in
-    let laid = next c.loop-i.line c.loop-i.i inv.pasted in
-    record {
-      within = search rules;
-      wide = simp length-set inv.wide;
-      pasted = laid (omega (arith, more, count)) (omega (arith, more, from, count)) (omega (arith, more, from, count)) (omega (arith, more, count));
-    }
-
 pub returns : goal.returns
 returns c =
-    let inv = c.loop-i.invariant in
-    let from = c.least-from.ensures in
-    let count = c.least-count.ensures in
-    let done : c.loop-i.i ≡ c.least-count.result = omega (arith, inv.within, c.loop-i-test.false) in
-    let pushed = laid_pushed c.args.line.now c.args.held c.args.bytes.now _ from c.requires in
-    let pasted = pushed c.loop-i.line c.loop-i.i inv.pasted (omega (arith, done, count)) (omega (arith, done, from, count)) in
-    pasted (done ∙ count) (omega (arith, c.if-n-eq0.false))
+    let line = c.args.line.now in
+    let bytes = c.args.bytes.now in
+    let f = c.min-from.result in
+    let i = c.min-count.result in
+    let from = c.min-from.ensures in
+    let count = c.min-count.ensures in
+    let within : i ≤ length bytes = omega (arith, count) in
+    let room : f + i ≤ 80 = omega (arith, from, count) in
+    let same : i ≡ f + i - f = omega arith in
+    let put = put_mid-paste f (f + i - f) line c.copy_from_slice.new.self (take i bytes) i c.copy_from_slice.ensures.after same (sym (length-take-le i bytes within)) in
+    let once = ap (λ l. take f line ++ l ++ drop (f + i) line) (take-take i i bytes (le_refl i)) in
+    laid_pushed line c.args.held bytes f from c.requires _ i (put ∙ once) within room count (omega (arith, c.if-n-eq0.false))

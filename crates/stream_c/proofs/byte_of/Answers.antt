@@ -1,13 +1,7 @@
 -- `stream_c::byte_of` meets its contract.
-use mathlib.Core.Path.{refl}
-use borrow.Author.Tests.{lt-ltb, le-ltb}
-use Rattle.stream_c.specs.Lent.{byte_of}
+use mathlib.Core.Path.{◌∙◌}
+use Rattle.stream_c.specs.LentLaws.{byte_least}
 use Rattle.stream_c.proofs.byte_of.Goals as goal
 
-pub returns-then-n-gt255 : goal.returns-then-n-gt255
-unfolding byte_of
-returns-then-n-gt255 c = rw (lt-ltb _ _ c.if-n-gt255.true) refl
-
 pub returns : goal.returns
-unfolding byte_of
-returns c = rw (le-ltb _ _ c.if-n-gt255.false) refl
+returns c = c.min.ensures ∙ byte_least c.args.n

@@ -1,21 +1,23 @@
 -- `stream_c::place_in` meets its contract.
-use mathlib.Core.Path.{refl}
-use borrow.Author.Tests.{eq-eqb, ne_eqb}
+use Rattle.std.proofs.Common.{refl, get_or, ne_eqb}
+use native.Mathlib.Omega.{arith}
 use Rattle.stream_c.specs.Lent.{place_of}
 use Rattle.stream_c.proofs.place_in.Goals as goal
 
-pub returns-then-place-eq0 : goal.returns-then-place-eq0
+pub returns-in-0 : goal.returns-in-0
 unfolding place_of
-returns-then-place-eq0 c = simp (eq-eqb _ _ c.if-place-eq0.true)
+returns-in-0 c = rw c.in-0.is refl
 
-pub returns-then-place-eq1 : goal.returns-then-place-eq1
+pub returns-in-1 : goal.returns-in-1
 unfolding place_of
-returns-then-place-eq1 c = simp (ne_eqb _ _ c.if-place-eq0.false, eq-eqb _ _ c.if-place-eq1.true)
+returns-in-1 c = rw c.in-1.is refl
 
-pub returns-then-place-eq2 : goal.returns-then-place-eq2
+pub returns-in-2 : goal.returns-in-2
 unfolding place_of
-returns-then-place-eq2 c = simp (ne_eqb _ _ c.if-place-eq0.false, ne_eqb _ _ c.if-place-eq1.false, eq-eqb _ _ c.if-place-eq2.true)
+returns-in-2 c = rw c.in-2.is refl
 
-pub returns : goal.returns
+pub returns-in_default : goal.returns-in_default
 unfolding place_of
-returns c = rw (ne_eqb _ _ c.if-place-eq0.false, ne_eqb _ _ c.if-place-eq1.false, ne_eqb _ _ c.if-place-eq2.false, c.due_in.ensures) refl
+returns-in_default c =
+    let place = get_or c.args.numbers.now 0 0 in
+    rw (ne_eqb place 0 (λ e. omega arith), ne_eqb place 1 (λ e. omega arith), ne_eqb place 2 (λ e. omega arith), c.due_in.ensures) refl

@@ -1,14 +1,14 @@
 -- `stream_c::put_record` meets its contract.
-use mathlib.Core.Path.{refl}
+use borrow.Author.Rules.{rules}
+use Rattle.stream_c.specs.Lent.{Fits}
 use Rattle.stream_c.specs.LentLaws.{laid_record}
-use native.Mathlib.Omega.{arith}
 use Rattle.stream_c.proofs.put_record.Goals as goal
 
 pub returns : goal.returns
 returns c =
-    let fits = c.struct_known-2-1.given in
-    let place = c.put_place.ensures in
-    let six = c.put_six.ensures in
-    let column = c.put_column.ensures in
-    let numbers = laid_record c.args.c c.args.numbers.now _ _ _ place six c.flag-ended.ensures _ _ refl column in
-    (numbers, c.put_line.ensures.0, record { sets = omega (arith, fits); number = omega (arith, fits); pending = c.put_line.ensures.1 })
+    let place = c.copy_from_slice.ensures.after in
+    let counts = c.copy_from_slice-2.ensures.after in
+    let column = c.copy_from_slice-3.ensures.after in
+    let laid = laid_record c.args.c c.args.numbers.now _ c.from-3.ensures in
+    let fits : Fits c.args.c = record { sets = search rules; number = search rules; pending = c.put_line.ensures.1 } in
+    (rw (place, c.place_numbers.ensures, counts, column, c.from.ensures, c.from-2.ensures) laid, c.put_line.ensures.0, fits)

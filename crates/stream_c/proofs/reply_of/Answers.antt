@@ -2,8 +2,8 @@
 use mathlib.Core.Path.{refl}
 use Rattle.stream_c.proofs.reply_of.Goals as goal
 
-pub returns-in-SoFar : goal.returns-in-SoFar
-returns-in-SoFar c = rw c.bare_reply.ensures (rw c.in-SoFar.is refl)
+pub returns-in-Ok : goal.returns-in-Ok
+returns-in-Ok c = rw c.bare_reply.ensures (rw c.in-Ok.is refl)
 
-pub returns-in-Refused : goal.returns-in-Refused
-returns-in-Refused c = rw c.in-Refused.is refl
+pub returns-in-Err : goal.returns-in-Err
+returns-in-Err c = rw c.in-Err.is refl

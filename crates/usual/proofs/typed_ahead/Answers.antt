@@ -6,9 +6,6 @@ use Rattle.usual.proofs.typed_ahead.Goals as goal
 pub returns-then-d-ne-KIND_58 : goal.returns-then-d-ne-KIND_58
 returns-then-d-ne-KIND_58 c = ahead_none _ _ _ _ c.not_ahead.ensures (search rules)
 
-pub returns-then-d-ne-HEADER_LINES : goal.returns-then-d-ne-HEADER_LINES
-returns-then-d-ne-HEADER_LINES c = ahead_none _ _ _ _ c.not_ahead-then-d-ne-HEADER_LINES.ensures (search rules)
-
 pub returns-then-run-at : goal.returns-then-run-at
 returns-then-run-at c = ahead_none _ _ _ _ c.not_ahead-then-run-at.ensures (search rules)
 

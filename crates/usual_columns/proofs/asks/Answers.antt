@@ -1,6 +1,9 @@
 -- `usual_columns::asks` meets its contract.
-use Rattle.std.proofs.Common.{sym, ◌∙◌, eqb-true}
+use Rattle.std.proofs.Common.{◌≡◌, Ok, sym, ◌∙◌, rules}
+use Rattle.field.specs.FieldLaws.{answered_ok}
 use Rattle.usual_columns.proofs.asks.Goals as goal
 
 pub returns : goal.returns
-returns c h = sym c.number_at.ensures ∙ eqb-true c.number_at.result 0 h
+returns c h =
+    let passed : c.number_at.result ≡ Ok tt = search rules in
+    answered_ok _ (sym passed ∙ c.number_at.ensures)

@@ -6,7 +6,7 @@ use Rattle.usual_columns.proofs.put_tables.Goals as goal
 pub returns : goal.returns
 returns c =
     let row = c.put_row-past.ensures in
-    let end = c.greater-end.ensures in
+    let end = c.max-end.ensures in
     let blanks = c.put_columns.ensures in
     let rest = c.put_columns-2.ensures in
     let pre = c.requires in

@@ -23,15 +23,14 @@ entry_next t k v n l e f i x h =
 
 pub loop-k-init : goal.loop-k-init
 unfolding ten_of of_bits of_int
-loop-k-init c = record { within = search rules; long = refl; exact = refl; entry = λ i x h. let e : i ≡ 0 = omega arith in rw e refl }
+loop-k-init c = record { long = refl; exact = refl; entry = λ i x h. let e : i ≡ 0 = omega arith in rw e refl }
 
 pub loop-k-preserved : goal.loop-k-preserved
 loop-k-preserved c =
     let inv = c.loop-k.invariant in
-    let few = c.lesser-last.ensures in
+    let few = c.min-last.ensures in
     let power = ten_of_next _ (search rules) inv.exact in
     record {
-      within = search rules;
       long = simp length-set inv.long;
       exact = power;
       entry = entry_next c.loop-k.tens c.loop-k.k _ inv.long (search rules) power inv.entry;
@@ -39,5 +38,5 @@ loop-k-preserved c =
 
 pub returns : goal.returns
 returns c =
-    let few = c.lesser-last.ensures in
+    let few = c.min-last.ensures in
     record { power = λ k x h. c.loop-k.invariant.entry k x (omega arith) }

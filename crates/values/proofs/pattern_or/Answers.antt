@@ -2,5 +2,5 @@
 use mathlib.Core.Path.{refl, ◌∙◌}
 use Rattle.values.proofs.pattern_or.Goals as goal
 
-pub returns-in-Value : goal.returns-in-Value
-returns-in-Value c = c.bits.ensures ∙ rw c.in-Value.is refl
+pub returns-in-Ok : goal.returns-in-Ok
+returns-in-Ok c = c.bits.ensures ∙ rw c.in-Ok.is refl

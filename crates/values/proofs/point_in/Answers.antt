@@ -1,14 +1,16 @@
-use native.Mathlib.Omega.{arith}
-use Rattle.values.specs.ScaleLaws.{point_next, point_here}
+-- `values::point_in` meets its contract.
+use Rattle.std.proofs.Common.{ℕ, not, eqb, ◌∙◌, rules, tests}
+use Rattle.std.proofs.lemmas.Iterator.{YieldsList-from_slice}
+use Rattle.std.proofs.lemmas.Iterator.Search.{YieldsList-from_take_while}
+use Rattle.std.proofs.lemmas.Iterator.Consumers.{count_from_yields_List}
+use Rattle.std.proofs.lemmas.List.Folds.{length-prefix_len}
+use Rattle.values.specs.ScaleLaws.{point_prefix}
 use Rattle.values.proofs.point_in.Goals as goal
 
-pub loop-i-init : goal.loop-i-init
-loop-i-init c = (omega arith, omega arith)
-
-pub loop-i-preserved : goal.loop-i-preserved
-loop-i-preserved c =
-    let next = point_next c.args.s.now c.loop-i.i c.loop-i.invariant.1 c.loop-i-test.true in
-    (omega (arith, c.loop-i.invariant.0, next), omega (arith, c.loop-i.invariant.0, next, c.requires))
-
 pub returns : goal.returns
-returns c = omega (arith, c.loop-i.invariant.0, point_here c.args.s.now c.loop-i.i c.loop-i.invariant.1 c.loop-i-test.false)
+returns c =
+    let l = c.args.s.now in
+    let other = λ (b : ℕ). not (eqb b 46) in
+    count_from_yields_List c.take_while.result _ c.count.ensures.ran
+    (YieldsList-from_take_while _ other (YieldsList-from_slice l (cc)) c.take_while.ensures.closure c.take_while.ensures.done (λ x b q k. search (rules, tests)))
+    ∙ length-prefix_len other l ∙ point_prefix l

@@ -2,12 +2,10 @@
 use mathlib.Core.Bool.{true, false}
 use borrow.Author.Tests.{lt-ltb, le-ltb}
 use Rattle.values.specs.Scale.{is_down}
-use Rattle.values.specs.ScaleLaws.{point_inside, after_some, after_few, refusal_by}
+use Rattle.values.specs.Lines.{Told}
+use Rattle.values.specs.ScaleLaws.{after_some, after_few, refusal_by}
 use native.Mathlib.Omega.{arith}
 use Rattle.values.proofs.refusal_in.Goals as goal
-
-pub point_in-requires : goal.point_in-requires
-point_in-requires c = point_inside c.requires
 
 pub overflow_sub-after : goal.overflow_sub-after
 overflow_sub-after c = omega (arith, after_some c.requires _ _ c.exponent_in.ensures c.point_in.ensures)
@@ -22,10 +20,10 @@ pub returns-then-most-exponent_size : goal.returns-then-most-exponent_size
 unfolding is_down
 returns-then-most-exponent_size c =
     let by = refusal_by c.requires _ _ c.exponent_in.ensures c.point_in.ensures in
-    by _ _ c.most_size-most.ensures c.exponent_size.ensures true (lt-ltb _ _ c.if-most-exponent_size.true)
+    rw (← by _ _ c.most_size-most.ensures c.exponent_size.ensures true (lt-ltb _ _ c.if-most-exponent_size.true)) (Told.some {n = 21} (omega arith))
 
 pub returns : goal.returns
 unfolding is_down
 returns c =
     let by = refusal_by c.requires _ _ c.exponent_in.ensures c.point_in.ensures in
-    by _ _ c.most_size-most.ensures c.exponent_size.ensures false (le-ltb _ _ c.if-most-exponent_size.false)
+    rw (← by _ _ c.most_size-most.ensures c.exponent_size.ensures false (le-ltb _ _ c.if-most-exponent_size.false)) Told.none

@@ -1,28 +1,38 @@
 -- `walk::kind_of` meets its contract.
-use borrow.Author.Tests.{eq-eqb, ne_eqb}
+use mathlib.Core.Path.{refl}
+use native.Mathlib.Omega.{arith}
+use borrow.Author.Tests.{ne_eqb}
 use Rattle.record_table.specs.TypedSets.{typed_sets, kind_of}
 use Rattle.walk.proofs.kind_of.Goals as goal
 
-pub returns-then-number-eq58 : goal.returns-then-number-eq58
+pub returns-in-58 : goal.returns-in-58
 unfolding kind_of typed_sets
-returns-then-number-eq58 c = simp (eq-eqb _ _ c.if-number-eq58.true)
+returns-in-58 c = rw c.in-58.is refl
 
-pub returns-then-number-eq82 : goal.returns-then-number-eq82
+pub returns-in-82 : goal.returns-in-82
 unfolding kind_of typed_sets
-returns-then-number-eq82 c = simp (eq-eqb _ _ c.if-number-eq82.true, ne_eqb _ _ c.if-number-eq58.false)
+returns-in-82 c = rw c.in-82.is refl
 
-pub returns-then-number-eq151 : goal.returns-then-number-eq151
+pub returns-in-151 : goal.returns-in-151
 unfolding kind_of typed_sets
-returns-then-number-eq151 c = simp (eq-eqb _ _ c.if-number-eq151.true, ne_eqb _ _ c.if-number-eq82.false, ne_eqb _ _ c.if-number-eq58.false)
+returns-in-151 c = rw c.in-151.is refl
 
-pub returns-then-number-eq164 : goal.returns-then-number-eq164
+pub returns-in-164 : goal.returns-in-164
 unfolding kind_of typed_sets
-returns-then-number-eq164 c = simp (eq-eqb _ _ c.if-number-eq164.true, ne_eqb _ _ c.if-number-eq151.false, ne_eqb _ _ c.if-number-eq82.false, ne_eqb _ _ c.if-number-eq58.false)
+returns-in-164 c = rw c.in-164.is refl
 
-pub returns-then-number-eq1815 : goal.returns-then-number-eq1815
+pub returns-in-1815 : goal.returns-in-1815
 unfolding kind_of typed_sets
-returns-then-number-eq1815 c = simp (eq-eqb _ _ c.if-number-eq1815.true, ne_eqb _ _ c.if-number-eq164.false, ne_eqb _ _ c.if-number-eq151.false, ne_eqb _ _ c.if-number-eq82.false, ne_eqb _ _ c.if-number-eq58.false)
+returns-in-1815 c = rw c.in-1815.is refl
 
-pub returns : goal.returns
+pub returns-in_default : goal.returns-in_default
 unfolding kind_of typed_sets
-returns c = simp (ne_eqb _ _ c.if-number-eq1815.false, ne_eqb _ _ c.if-number-eq164.false, ne_eqb _ _ c.if-number-eq151.false, ne_eqb _ _ c.if-number-eq82.false, ne_eqb _ _ c.if-number-eq58.false)
+returns-in_default c =
+    let number = c.args.number in
+    simp (
+      ne_eqb number 1815 (λ e. omega arith),
+      ne_eqb number 164 (λ e. omega arith),
+      ne_eqb number 151 (λ e. omega arith),
+      ne_eqb number 82 (λ e. omega arith),
+      ne_eqb number 58 (λ e. omega arith),
+    )

@@ -1,13 +1,16 @@
 -- `walk::number_step` meets its contract.
-use mathlib.Core.Path.{◌∙◌}
-use borrow.Author.Tests.{lt-ltb, le-ltb}
+use mathlib.Core.Path.{refl, sym, ◌∙◌}
+use borrow.Author.Tests.{lt-ltb}
+use Rattle.laws.specs.ChoiceLaws.{above_zero_none, above_zero_some}
 use Rattle.walk.specs.Step.{number_step}
 use Rattle.walk.proofs.number_step.Goals as goal
 
-pub returns-then-number-gt0 : goal.returns-then-number-gt0
+pub returns-in-Some : goal.returns-in-Some
 unfolding number_step
-returns-then-number-gt0 c = c.goes_on.ensures ∙ rw (c.opened.ensures, ← c.dataset_number-number.ensures) (simp (lt-ltb _ _ c.if-number-gt0.true))
+returns-in-Some c =
+    let found = above_zero_some _ _ (sym c.in-Some.is ∙ c.dataset_number.ensures) in
+    c.goes_on.ensures ∙ rw (c.opened.ensures, ← found.0, lt-ltb _ _ found.1) refl
 
-pub returns : goal.returns
+pub returns-in-None : goal.returns-in-None
 unfolding number_step
-returns c = c.refused.ensures ∙ rw (← c.dataset_number-number.ensures) (simp (le-ltb _ _ c.if-number-gt0.false))
+returns-in-None c = c.refused.ensures ∙ rw (above_zero_none _ (sym c.in-None.is ∙ c.dataset_number.ensures)) refl

@@ -1,9 +1,0 @@
--- `format::kept` meets its contract.
-use borrow.Author.Tests.{eq-eqb, ne_eqb}
-use Rattle.format.proofs.kept.Goals as goal
-
-pub returns-then-b-eq32 : goal.returns-then-b-eq32
-returns-then-b-eq32 c = simp (eq-eqb _ _ c.if-b-eq32.true)
-
-pub returns : goal.returns
-returns c = simp (ne_eqb _ _ c.if-b-eq32.false)
