@@ -26,6 +26,12 @@ use Rattle.format.specs.declared.Measure.{Measure}
 abbrev pub written_tally : Figure → Option Tally
 written_tally n = pick (eqb n.value 0) None (Some (a_tally false n.value n.at))
 
+pub product_is : (a b x y : ℕ) → x ≡ a → y ≡ b → capped (x * y) ≡ capped (a * b)
+product_is a b x y p q = rw (p, q) refl
+
+pub sum_is : (a b x y : ℕ) → x ≡ a → y ≡ b → capped (x + y) ≡ capped (a + b)
+sum_is a b x y p q = rw (p, q) refl
+
 -- Numbers.
 
 kept_digit_capped : (m b : ℕ) → kept_digit (capped m) b ≡ capped (with_digit m b)

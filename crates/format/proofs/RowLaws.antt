@@ -27,7 +27,7 @@ again_row_next past j r s h e =
     let few : j < 80 = omega arith in
     rw (one, e, lt-ltb j 80 few) refl
 
-again_row_full : (m j : ℕ) (r : Fields) → 80 ≤ j → again_row m j r ≡ r
+pub again_row_full : (m j : ℕ) (r : Fields) → 80 ≤ j → again_row m j r ≡ r
 unfolding again_row
 again_row_full zero j r h = refl
 again_row_full (suc m) j r h = rw (le-ltb j 80 h) refl
@@ -102,6 +102,10 @@ module _ (l : List ℕ) (i : ℕ) (h : i < length l) where
 
     pub unblanked_byte : (get_or l i 0 ≡ 32 → ⊥) → n < length out → take (n + 1) (set out n (get_or l i 0)) ≡ unblanked (take (i + 1) l)
     unblanked_byte q g = rw (unblanked_next, ne_eqb (get_or l i 0) 32 q, ← e, add-one) (take-suc-set out n (get_or l i 0) g)
+
+pub kept_most : (t : Bool) (n : ℕ) → pick t n (n + 1) ≤ n + 1
+kept_most true n = omega arith
+kept_most false n = omega arith
 
 -- A list filled to 80, and one more.
 module _ {A : Type 0} (x : A) where

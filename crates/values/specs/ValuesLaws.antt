@@ -71,6 +71,10 @@ module _ (file : List ℕ) (set : ℕ) (out : List ℕ) (r : Reply) (f : r ≡ j
     unfolding all_values
     by_data = rw (← f, le-ltb 0 r.number z) (sym (by_sets file set d q))
 
+    pub none_counted : d.count ≡ 0 → (reply 18 0 ≡ all_reply file set (length out)) × (out ≡ all_places file set out)
+    unfolding all_reply all_places all_by
+    none_counted e = refused_reply (all_values file set) (reply 18 0) out (by_data ∙ rw e refl) (omega arith)
+
     module _ (some : 0 < d.count) (count k m : ℕ) (many : count ≡ d.count * k) (numbers : k ≡ numbers_of d.case) (first : m ≡ refusal_in (reads (real_at file d) 0 count)) where
       by_numbers : all_values file set ≡ whole count [] (reads (real_at file d) 0 count)
       unfolding all_by

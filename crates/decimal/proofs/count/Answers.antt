@@ -1,17 +1,21 @@
--- `decimal::count` meets its contract.
-use Rattle.std.proofs.Common.{◌≡◌, ℕ, ◌+◌, ◌*◌, ◌^◌, ◌≤◌, ◌<◌, Option, Some, None, MatchOption, sym, ◌∙◌, arith, rules}
-use Rattle.std.specs.Option.{option_map_or}
-use Rattle.decimal.specs.Decimal.{count}
-use Rattle.decimal.specs.CountLaws.{count_log, count_one}
+use native.Mathlib.Omega.{arith}
+use Rattle.decimal.specs.CountLaws.{count_in_least, count_in_most, count_next, count_one}
 use Rattle.decimal.proofs.count.Goals as goal
 
--- by the power of ten below the number, none below 0
-counted : (n : ℕ) (r : Option ℕ) → MatchOption r (n ≡ 0) (λ k. (k < 20) × (10 ^ k ≤ n) × (n < 10 * 10 ^ k)) → option_map_or (λ d. d + 1) r 1 ≡ count n
-counted n None h = sym (count_one n (omega arith))
-counted n (Some k) (m, l, h) = sym (count_log n k m l h)
+pub loop-rest-init : goal.loop-rest-init
+loop-rest-init c = record { most = omega arith; counted = omega arith }
+
+pub overflow_add-digits : goal.overflow_add-digits
+overflow_add-digits c = omega (arith, c.loop-rest.invariant.counted, count_in_least 19 c.loop-rest.rest, count_in_most 19 c.args.n)
+
+pub loop-rest-smaller : goal.loop-rest-smaller
+loop-rest-smaller c = omega arith
+
+pub loop-rest-preserved : goal.loop-rest-preserved
+loop-rest-preserved c =
+    let inv = c.loop-rest.invariant in
+    let next = count_next c.loop-rest.rest (omega (arith, inv.most)) c.loop-rest-test.true in
+    record { most = omega (arith, inv.most); counted = omega (arith, inv.counted, next) }
 
 pub returns : goal.returns
-returns c =
-    let power : MatchOption c.checked_ilog10.result (c.args.n ≡ 0) (λ k. (k < 20) × (10 ^ k ≤ c.args.n) × (c.args.n < 10 * 10 ^ k)) = search rules in
-    let more : c.map_or.result ≡ option_map_or (λ d. d + 1) c.checked_ilog10.result 1 = search rules in
-    more ∙ counted c.args.n c.checked_ilog10.result power
+returns c = omega (arith, c.loop-rest.invariant.counted, count_one c.loop-rest.rest c.loop-rest-test.false)
