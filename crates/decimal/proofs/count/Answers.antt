@@ -1,21 +1,23 @@
-use native.Mathlib.Omega.{arith}
-use Rattle.decimal.specs.CountLaws.{count_in_least, count_in_most, count_next, count_one}
+-- `decimal::count` meets its contract.
+use Rattle.std.proofs.Common.{◌≡◌, Bool, true, false, ℕ, ◌+◌, ◌*◌, ◌^◌, ◌≤◌, ◌<◌, ◌↔◌, Option, Some, None, IsSome, IfSome, refl, sym, ◌∙◌, true≢false, ltb, arith, ltb-true, ltb-false, rules}
+use Rattle.std.specs.Option.{option_map_or}
+use Rattle.decimal.specs.Decimal.{count}
+use Rattle.decimal.specs.CountLaws.{count_log, count_one, few_digits}
 use Rattle.decimal.proofs.count.Goals as goal
 
-pub loop-rest-init : goal.loop-rest-init
-loop-rest-init c = record { most = omega arith; counted = omega arith }
+-- no power of ten is below 0 alone
+none : (n : ℕ) (b : Bool) → ltb 0 n ≡ b → ((0 < n) × (2 ≤ 10) → ⊥) → 1 ≡ count n
+none n true e z = absurd (z (ltb-true 0 n e, omega arith))
+none n false e z = let least : n ≤ 0 = ltb-false 0 n e in sym (count_one n (omega arith))
 
-pub overflow_add-digits : goal.overflow_add-digits
-overflow_add-digits c = omega (arith, c.loop-rest.invariant.counted, count_in_least 19 c.loop-rest.rest, count_in_most 19 c.args.n)
-
-pub loop-rest-smaller : goal.loop-rest-smaller
-loop-rest-smaller c = omega arith
-
-pub loop-rest-preserved : goal.loop-rest-preserved
-loop-rest-preserved c =
-    let inv = c.loop-rest.invariant in
-    let next = count_next c.loop-rest.rest (omega (arith, inv.most)) c.loop-rest-test.true in
-    record { most = omega (arith, inv.most); counted = omega (arith, inv.counted, next) }
+-- by the power of ten below the number
+counted : (n : ℕ) → n < 2 ^ 64 → (r : Option ℕ) → (IsSome r ↔ ((0 < n) × (2 ≤ 10))) → IfSome r (λ k. 10 ^ k ≤ n) → IfSome r (λ k. n < 10 * 10 ^ k)
+    → option_map_or (λ d. d + 1) r 1 ≡ count n
+counted n f None v l h = none n (ltb 0 n) refl (λ p. absurd (true≢false (sym (v.1 p))))
+counted n f (Some k) v l h = sym (count_log n k (few_digits n k f l) l h)
 
 pub returns : goal.returns
-returns c = omega (arith, c.loop-rest.invariant.counted, count_one c.loop-rest.rest c.loop-rest-test.false)
+returns c =
+    let log = c.checked_ilog.ensures in
+    let more : c.map_or.result ≡ option_map_or (λ d. d + 1) c.checked_ilog.result 1 = search rules in
+    more ∙ counted c.args.n c.ranges.n.fits c.checked_ilog.result log.variant log.power_le log.next_power_gt
