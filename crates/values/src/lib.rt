@@ -190,6 +190,8 @@ fn put_number(file: &[u8], p: &Plan, t: Turn, out: &mut [u64])
 
 // The tables for the lines of a set with fields of these widths: those of the usual spelling with the letter of its first number, an exponent's first digit
 // being 0. There are none where the set has not four full lines or its first number no letter.
+// Not inlined: in one frame with its callers the tables stood there more than once, 256 bytes of stack for `values`.
+#[inline(never)]
 fn line_tables(
     file: &[u8],
     d: Data,
